@@ -1,0 +1,58 @@
+-- Laws of boolean tests and of `cond`, the choice by a test. Assumes nothing.
+use mathlib.Core.Bool.{Bool, true, false, not, cond, _&&_, _||_}
+use mathlib.Core.Path.{_≡_, refl, subst, sym}
+use Prim.Native.Nat.{ℕ}
+use lib.Dec.{T, eqb}
+use borrow.Author.Tests.{eqb-true}
+
+-- a test that holds is true
+pub true-of-T : (b : Bool) → T b → b ≡ true
+true-of-T true h = refl
+true-of-T false h = absurd h
+
+-- a test that is true holds
+pub T-of-true : (b : Bool) → b ≡ true → T b
+T-of-true b e = subst T (sym e) tt
+
+-- ---- conjunction and disjunction
+
+pub T-and-left : (a b : Bool) → T (a && b) → T a
+T-and-left true b h = tt
+T-and-left false b h = h
+
+pub T-and-right : (a b : Bool) → T (a && b) → T b
+T-and-right true b h = h
+T-and-right false b h = absurd h
+
+pub T-and : (a b : Bool) → T a → T b → T (a && b)
+T-and true b h g = g
+T-and false b h g = absurd h
+
+-- what follows from each of two tests follows from either
+pub T-or-elim : {A : Type 0} (a b : Bool) → (T a → A) → (T b → A) → T (a || b) → A
+T-or-elim true b f g h = f tt
+T-or-elim false b f g h = g h
+
+-- ---- choices: a claim about both arms is one about the choice
+
+pub cond-elim : {A : Type 0} (P : A → Type 0) (b : Bool) {x y : A} → (T b → P x) → (T (not b) → P y) → P (cond b x y)
+cond-elim P true p q = p tt
+cond-elim P false p q = q tt
+
+-- the arm of a test that holds
+pub cond-yes : {A : Type 0} (P : A → Type 0) (b : Bool) {x : A} (y : A) → T b → P x → P (cond b x y)
+cond-yes P true y h p = p
+cond-yes P false y h p = absurd h
+
+-- the arm of a test that fails
+pub cond-no : {A : Type 0} (P : A → Type 0) (b : Bool) (x : A) {y : A} → T (not b) → P y → P (cond b x y)
+cond-no P true x h p = absurd h
+cond-no P false x h p = p
+
+-- a choice by the byte k: the first arm need only be claimed at k
+pub cond-byte : {A : Type 0} (P : ℕ → A → Type 0) (c k : ℕ) {x y : A} → P k x → P c y → P c (cond (eqb c k) x y)
+cond-byte {A} P c k {x} {y} p q = go (eqb c k) refl
+  where
+    go : (b : Bool) → eqb c k ≡ b → P c (cond b x y)
+    go true e = subst (λ (m : ℕ). P m x) (sym (eqb-true c k e)) p
+    go false e = q

@@ -1,0 +1,132 @@
+// Value kinds: 01, "Rule books" and "Runs".
+ghost use mathlib.Core.Path.{_≡_};
+ghost use Rattle.table.specs.Kind.{kindOf, scalarFits, ruleFits, fitsKind};
+
+// A plain kind of value. Of a finished number, Int says that it was written without fraction and exponent part.
+pub enum Scalar {
+    Null,
+    True,
+    False,
+    Str,
+    Num,
+    Int,
+}
+
+// The kind of value that an edge asks for: a plain kind, or a reference to a rule.
+pub enum ValueKind {
+    Plain(Scalar),
+    Rule(u8),
+}
+
+// A finished value: a scalar, or an object or array with the rules that have an accepting run over it, rule N at bit N.
+pub enum Finished {
+    Scalar(Scalar),
+    Rules(u32),
+}
+
+// The value kind with the given code: plain kinds are 0 to 5, rule N is 6 + N.
+pub fn kind_of(code: u8) -> ValueKind
+    ensures { λ r. ⌜ r ≡ kindOf code ⌝ }
+{
+    if code == 0 {
+        return ValueKind::Plain(Scalar::Null);
+    }
+    if code == 1 {
+        return ValueKind::Plain(Scalar::True);
+    }
+    if code == 2 {
+        return ValueKind::Plain(Scalar::False);
+    }
+    if code == 3 {
+        return ValueKind::Plain(Scalar::Str);
+    }
+    if code == 4 {
+        return ValueKind::Plain(Scalar::Num);
+    }
+    if code == 5 {
+        return ValueKind::Plain(Scalar::Int);
+    }
+    ValueKind::Rule(code - 6)
+}
+
+// A scalar fits a plain kind.
+pub fn scalar_fits(kind: Scalar, s: Scalar) -> bool
+    ensures { λ r. ⌜ r ≡ scalarFits kind s ⌝ }
+{
+    match kind {
+        Scalar::Null => match s {
+            Scalar::Null => true,
+            Scalar::True => false,
+            Scalar::False => false,
+            Scalar::Str => false,
+            Scalar::Num => false,
+            Scalar::Int => false,
+        },
+        Scalar::True => match s {
+            Scalar::Null => false,
+            Scalar::True => true,
+            Scalar::False => false,
+            Scalar::Str => false,
+            Scalar::Num => false,
+            Scalar::Int => false,
+        },
+        Scalar::False => match s {
+            Scalar::Null => false,
+            Scalar::True => false,
+            Scalar::False => true,
+            Scalar::Str => false,
+            Scalar::Num => false,
+            Scalar::Int => false,
+        },
+        Scalar::Str => match s {
+            Scalar::Null => false,
+            Scalar::True => false,
+            Scalar::False => false,
+            Scalar::Str => true,
+            Scalar::Num => false,
+            Scalar::Int => false,
+        },
+        Scalar::Num => match s {
+            Scalar::Null => false,
+            Scalar::True => false,
+            Scalar::False => false,
+            Scalar::Str => false,
+            Scalar::Num => true,
+            Scalar::Int => true,
+        },
+        Scalar::Int => match s {
+            Scalar::Null => false,
+            Scalar::True => false,
+            Scalar::False => false,
+            Scalar::Str => false,
+            Scalar::Num => false,
+            Scalar::Int => true,
+        },
+    }
+}
+
+// Rule n is among the rules; none above 31 is.
+pub fn rule_fits(rules: u32, n: u8) -> bool
+    ensures { λ r. ⌜ r ≡ ruleFits rules n ⌝ }
+{
+    if n < 32 {
+        return (rules >> n) % 2 == 1;
+    }
+    false
+}
+
+// A finished value fits a kind.
+pub fn fits(kind: ValueKind, v: Finished) -> bool
+    ensures { λ r. ⌜ r ≡ fitsKind kind v ⌝ }
+{
+    match kind {
+        ValueKind::Plain(k) => match v {
+            Finished::Scalar(s) => scalar_fits(k, s),
+            Finished::Rules(_) => false,
+        },
+        ValueKind::Rule(n) => match v {
+            Finished::Scalar(_) => false,
+            Finished::Rules(rules) => rule_fits(rules, n),
+        },
+    }
+}

@@ -1,2 +1,3 @@
 pub mod Tab
 pub mod Bits
+pub mod Lists

@@ -1,0 +1,47 @@
+-- What the lines of a book say: 01, "Rule books". Stated. Assumes nothing.
+use mathlib.Core.Bool.{Bool, true, false, not, cond, _&&_, _||_}
+use mathlib.Core.List.{List, [], _∷_, _++_}
+use Prim.Native.Nat.{ℕ, suc}
+use lib.Dec.{eqb, ltb}
+use Rattle.laws.specs.Lists.{same, any}
+use Rattle.table.specs.declared.kind.ValueKind.{ValueKind}
+
+-- `obj` or `arr`
+pub data Form : Type 0 where
+  obj arr : Form
+
+-- a line: an edge, or an end state. An edge has rule, form, state, key, value and next; in `arr` the key is none, []
+pub data Entry : Type 0 where
+  edge : ℕ → Form → ℕ → List ℕ → ValueKind → ℕ → Entry
+  end-state : ℕ → Form → ℕ → Entry
+
+-- ---- keys are numbered by first appearance
+
+-- a key behind the keys so far, where it is a new one
+unfoldable pub withKey : List (List ℕ) → List ℕ → List (List ℕ)
+withKey ks [] = ks
+withKey ks (b ∷ k) = cond (any (same (b ∷ k)) ks) ks (ks ++ ((b ∷ k) ∷ []))
+
+unfoldable pub keysFrom : List (List ℕ) → List Entry → List (List ℕ)
+keysFrom ks [] = ks
+keysFrom ks (edge r f q k t m ∷ es) = keysFrom (withKey ks k) es
+keysFrom ks (end-state r f q ∷ es) = keysFrom ks es
+
+-- the keys of a book, in the order of their first appearance
+unfoldable pub keysOf : List Entry → List (List ℕ)
+keysOf es = keysFrom [] es
+
+-- the number of a key among the keys; how many keys there are, where it is none of them
+unfoldable pub numberOf : List (List ℕ) → List ℕ → ℕ
+numberOf [] k = 0
+numberOf (x ∷ ks) k = cond (same x k) 0 (suc (numberOf ks k))
+
+-- ---- the order of keys in an `obj` rule
+
+-- the first is an edge of an `obj` rule, the second an edge of the same rule at the first's next state, and its key number is not above the
+-- first's: refusal 9 is for a book with such a pair
+unfoldable pub clash : List (List ℕ) → Entry → Entry → Bool
+clash ks (edge r obj q k t m) (edge r′ f′ q′ k′ t′ m′) = eqb r r′ && (eqb m q′ && not (ltb (numberOf ks k) (numberOf ks k′)))
+clash ks (edge r obj q k t m) (end-state r′ f′ q′) = false
+clash ks (edge r arr q k t m) e = false
+clash ks (end-state r f q) e = false

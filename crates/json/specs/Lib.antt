@@ -1,2 +1,9 @@
 pub mod Tree
 pub mod Meaning
+pub mod Bytes
+pub mod Utf8
+pub mod Strings
+pub mod Numbers
+pub mod Grammar
+pub mod Classes
+pub mod Lexer

@@ -7,3 +7,5 @@ pub mod Numbers
 pub mod Grammar
 pub mod Classes
 pub mod Lexer
+pub mod Machine
+pub mod Levels

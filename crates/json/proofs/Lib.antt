@@ -1,3 +1,5 @@
 pub mod ByteLaws
 pub mod NumberLaws
 pub mod StringLaws
+pub mod CharLaws
+pub mod Accepted

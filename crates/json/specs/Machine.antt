@@ -3,6 +3,7 @@
 use mathlib.Core.Bool.{Bool, true, false, cond}
 use mathlib.Core.List.{List, [], _∷_}
 use mathlib.Core.Option.{Option, none, some}
+use mathlib.Core.Path.{_≡_}
 use Prim.Native.Nat.{ℕ, suc, zero}
 use Rattle.json.specs.Meaning.{Meaning}
 use Rattle.json.specs.Lexer.{stepOf, bitsAfter, highAfter, charOf, mayEnd, wordOf}
@@ -160,6 +161,10 @@ module _ (𝕄 : Meaning) where
   result (at (M.Text s) g k) = none
   result (at (M.Number n) g k) = cond (mayEnd n) (wholeOf (finish (of-number (g .number)) k)) none
   result (at (M.Word w i) g k) = none
+
+  -- from this state on the bytes are a text with this result
+  abbrev pub Accepts : State → List ℕ → Result → Type 0
+  Accepts q s w = result (run q s) ≡ some w
 
   -- the place of the first byte that leads to a fault
   unfoldable pub placeFrom : State → List ℕ → Option ℕ

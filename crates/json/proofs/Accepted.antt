@@ -61,7 +61,7 @@ behaved T.Object b =
     (cond-byte Behaved b 0x7D (separates (record { no-digit = tt; no-dot = tt; no-e = tt })) (is-fault refl)))
 
 -- what stands behind a value ends no number of its own
-ends-none : (top : Top) (b : ℕ) → afterValue top b .ends ≡ false
+pub ends-none : (top : Top) (b : ℕ) → afterValue top b .ends ≡ false
 unfolding afterRoot afterElement afterPair
 ends-none T.Bare b = cond-elim (λ (st : Step). st .ends ≡ false) (isBlank b) (λ _. refl) (λ _. refl)
 ends-none T.Array b =
@@ -91,7 +91,7 @@ number-start-step starts-zero = refl
 number-start-step (starts-int {b} h) = int-start b h
 
 -- a result that a fault has none of
-no-result : {X A : Type 0} {w : A} → none ≡ some w → X
+pub no-result : {X A : Type 0} {w : A} → none ≡ some w → X
 no-result e = let z : _≡_ {A = ℕ} 0 1 = cc in absurd (omega arith)
 
 module _ (𝕄 : Meaning) where
@@ -148,23 +148,24 @@ module _ (𝕄 : Meaning) where
 
   -- ---- numbers
 
+  -- a finished value leaves the kind of the innermost open value
+  pub topOf-finish : (v : Result) (k : Stack 𝕄) → topOf 𝕄 (finish 𝕄 v k) ≡ topOf 𝕄 k
+  topOf-finish v bare = refl
+  topOf-finish v (whole w) = refl
+  topOf-finish v (in-array a k) = refl
+  topOf-finish v (in-object o k) = refl
+
   -- a number that may end is a value behind which the bytes go on
   number-ends : (n : NumberMode) (g : Token 𝕄) (k : Stack 𝕄) (r : List ℕ) {w : Result} → T (mayEnd n)
               → Behind (finish 𝕄 (of-number (g .number)) k) r w → Accepts 𝕄 (at (M.Number n) g k) r w
   number-ends n g k [] h x = rw (true-of-T (mayEnd n) h) (x g)
   number-ends n g k (b ∷ r) {w} h x = go (behaved (topOf 𝕄 k) b) (x g)
     where
-      same-top : (k : Stack 𝕄) → topOf 𝕄 (finish 𝕄 (of-number (g .number)) k) ≡ topOf 𝕄 k
-      same-top bare = refl
-      same-top (whole v) = refl
-      same-top (in-array a j) = refl
-      same-top (in-object o j) = refl
-
       go : Behaved b (afterValue (topOf 𝕄 k) b) → Accepts 𝕄 (at (M.At P.After) g (finish 𝕄 (of-number (g .number)) k)) (b ∷ r) w → Accepts 𝕄 (at (M.Number n) g k) (b ∷ r) w
       go (is-fault e) y =
-          let z : Accepts 𝕄 fault r w = unfold step in rw (same-top k, e) at y in
+          let z : Accepts 𝕄 fault r w = unfold step in rw (topOf-finish (of-number (g .number)) k, e) at y in
           fault-accepts-none r z
-      go (separates e) y = unfold step in rw (end-of-separates n b h e) (rw (same-top k, ends-none (topOf 𝕄 k) b) at y)
+      go (separates e) y = unfold step in rw (end-of-separates n b h e) (rw (topOf-finish (of-number (g .number)) k, ends-none (topOf 𝕄 k) b) at y)
 
   number-run : (k : Stack 𝕄) {n : NumberMode} {ds s r : List ℕ} {w : Result} (g : Token 𝕄) → NumberFrom n ds → Follow ds s r
              → Behind (finish 𝕄 (of-number (fold number-byte (g .number) ds)) k) r w → Accepts 𝕄 (at (M.Number n) g k) s w

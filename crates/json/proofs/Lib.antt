@@ -3,3 +3,6 @@ pub mod NumberLaws
 pub mod StringLaws
 pub mod CharLaws
 pub mod Accepted
+pub mod Phrases
+pub mod Proper
+pub mod Sound

@@ -107,7 +107,7 @@ module _ (𝕄 : Meaning) where
   fault-accepts-none s e = no-result (rw (fault-runs s) at e)
 
   -- behind a value, whatever the token before it left
-  abbrev Behind : Stack 𝕄 → List ℕ → Result → Type 0
+  abbrev pub Behind : Stack 𝕄 → List ℕ → Result → Type 0
   Behind k s w = (g : Token 𝕄) → Accepts 𝕄 (at (M.At P.After) g k) s w
 
   -- ---- blanks
@@ -132,14 +132,14 @@ module _ (𝕄 : Meaning) where
 
   -- ---- strings
 
-  text-run : (k : Stack 𝕄) {m : StringMode} {s cs r : List ℕ} {w : Result} (g : Token 𝕄) → Continues m (g .bits) (g .high) s cs r
+  pub text-run : (k : Stack 𝕄) {m : StringMode} {s cs r : List ℕ} {w : Result} (g : Token 𝕄) → Continues m (g .bits) (g .high) s cs r
            → Behind (finish 𝕄 (of-string (fold string-char (g .string) cs)) k) r w → Accepts 𝕄 (at (M.Text m) g k) s w
   unfolding step classOf isBreak isStructure
   text-run k g closes x = x _
   text-run k g (goes y c) x = rw (string-move-of-goes y) (text-run k _ c x)
   text-run k g (ends y c) x = rw (string-move-of-ends y) (text-run k _ c x)
 
-  key-run : (k : Stack 𝕄) {m : StringMode} {s cs r : List ℕ} {w : Result} (g : Token 𝕄) → Continues m (g .bits) (g .high) s cs r
+  pub key-run : (k : Stack 𝕄) {m : StringMode} {s cs r : List ℕ} {w : Result} (g : Token 𝕄) → Continues m (g .bits) (g .high) s cs r
           → ((e : Token 𝕄) → Accepts 𝕄 (at (M.At P.Colon) e (name 𝕄 (fold string-char (g .string) cs) k)) r w) → Accepts 𝕄 (at (M.Key m) g k) s w
   unfolding step classOf isBreak isStructure
   key-run k g closes x = x _
@@ -167,7 +167,7 @@ module _ (𝕄 : Meaning) where
           fault-accepts-none r z
       go (separates e) y = unfold step in rw (end-of-separates n b h e) (rw (topOf-finish (of-number (g .number)) k, ends-none (topOf 𝕄 k) b) at y)
 
-  number-run : (k : Stack 𝕄) {n : NumberMode} {ds s r : List ℕ} {w : Result} (g : Token 𝕄) → NumberFrom n ds → Follow ds s r
+  pub number-run : (k : Stack 𝕄) {n : NumberMode} {ds s r : List ℕ} {w : Result} (g : Token 𝕄) → NumberFrom n ds → Follow ds s r
              → Behind (finish 𝕄 (of-number (fold number-byte (g .number) ds)) k) r w → Accepts 𝕄 (at (M.Number n) g k) s w
   unfolding step
   number-run k {n} {r} g (ends-here h) follow-none x = number-ends n g k r h x

@@ -6,3 +6,4 @@ pub mod Accepted
 pub mod Phrases
 pub mod Proper
 pub mod Sound
+pub mod Faults

@@ -1,0 +1,70 @@
+-- Laws of tests and of `any`, over the library's membership. Assumes nothing.
+use mathlib.Core.Bool.{Bool, true, false, not, cond, _&&_, _||_}
+use mathlib.Core.List.{List, [], _∷_, List·Memᴰ, List·Memᴰ·head, List·Memᴰ·tail}
+use mathlib.Core.Path.{_≡_, refl, ap, sym, _∙_}
+use Prim.Native.Nat.{ℕ}
+use lib.Dec.{T}
+use Rattle.laws.specs.Lists.{any, all}
+use Rattle.laws.proofs.TestLaws.{T-or-elim}
+use Rattle.json.specs.Meaning.{fold}
+
+-- ---- tests
+
+pub T-or-left : (a b : Bool) → T a → T (a || b)
+T-or-left true b h = tt
+T-or-left false b h = absurd h
+
+pub T-or-right : (a b : Bool) → T b → T (a || b)
+T-or-right true b h = tt
+T-or-right false b h = h
+
+-- neither test holds
+pub T-nor : (a b : Bool) → T (not a) → T (not b) → T (not (a || b))
+T-nor true b h g = h
+T-nor false b h g = g
+
+pub T-nor-left : (a b : Bool) → T (not (a || b)) → T (not a)
+T-nor-left true b h = h
+T-nor-left false b h = tt
+
+pub T-nor-right : (a b : Bool) → T (not (a || b)) → T (not b)
+T-nor-right true b h = absurd h
+T-nor-right false b h = h
+
+pub T-of-not-not : (a : Bool) → T (not (not a)) → T a
+T-of-not-not true h = tt
+T-of-not-not false h = h
+
+pub T-not-not : (a : Bool) → T a → T (not (not a))
+T-not-not true h = tt
+T-not-not false h = h
+
+-- ---- any
+
+pub any-of-member : {A : Type 0} (f : A → Bool) {x : A} {xs : List A} → List·Memᴰ x xs → T (f x) → T (any f xs)
+unfolding any
+any-of-member f (List·Memᴰ·head {x = y} {xs} e) h = T-or-left (f y) (any f xs) (rw e at h)
+any-of-member f (List·Memᴰ·tail {x = y} {xs} i) h = T-or-right (f y) (any f xs) (any-of-member f i h)
+
+pub member-of-any : {A : Type 0} (f : A → Bool) (xs : List A) → T (any f xs) → (x : A) × List·Memᴰ x xs × T (f x)
+unfolding any
+member-of-any f [] h = absurd h
+member-of-any {A} f (y ∷ xs) h = T-or-elim (f y) (any f xs) (λ (g : T (f y)). (y, List·Memᴰ·head refl, g)) (λ (g : T (any f xs)). further (member-of-any f xs g)) h
+  where
+    further : (x : A) × List·Memᴰ x xs × T (f x) → (x : A) × List·Memᴰ x (y ∷ xs) × T (f x)
+    further (x, i, g) = (x, List·Memᴰ·tail i, g)
+
+-- ---- a test of each member, found from left to right
+
+and-true : (a : Bool) → a && true ≡ a
+and-true true = refl
+and-true false = refl
+
+and-assoc : (a b c : Bool) → (a && b) && c ≡ a && (b && c)
+and-assoc true b c = refl
+and-assoc false b c = refl
+
+pub fold-and : (f : ℕ → Bool) (b : Bool) (xs : List ℕ) → fold (λ (a : Bool) (x : ℕ). a && f x) b xs ≡ b && all f xs
+unfolding all
+fold-and f b [] = sym (and-true b)
+fold-and f b (x ∷ xs) = fold-and f (b && f x) xs ∙ and-assoc b (f x) (all f xs)

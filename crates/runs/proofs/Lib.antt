@@ -1,3 +1,5 @@
 pub mod AnyLaws
 pub mod KeyLaws
 pub mod EdgeLaws
+pub mod OrderLaws
+pub mod RunLaws

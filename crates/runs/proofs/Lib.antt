@@ -3,3 +3,5 @@ pub mod KeyLaws
 pub mod EdgeLaws
 pub mod OrderLaws
 pub mod RunLaws
+pub mod StateLaws
+pub mod OpenLaws

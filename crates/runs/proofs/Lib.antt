@@ -5,3 +5,4 @@ pub mod OrderLaws
 pub mod RunLaws
 pub mod StateLaws
 pub mod OpenLaws
+pub mod WalkLaws

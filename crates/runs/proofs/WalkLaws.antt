@@ -206,6 +206,77 @@ judged-of-among : {es : List Entry} {k : List ℕ} {v : Json} {ps : Pairs} → A
 judged-of-among (judged-pair j js) first = j
 judged-of-among (judged-pair j js) (later a) = judged-of-among js a
 
-module _ {es : List Entry} (sound : Sound es) (ps : Pairs) (all-judged : AllJudged es ps) where
-  private-o : OpenObject
-  private-o = members (judging es) ps (atOpening es)
+-- an object's pairs after its last
+abbrev kept : List Entry → Pairs → OpenObject
+kept es ps = members (judging es) ps (atOpening es)
+
+module _ {es : List Entry} (sound : Sound es) (ps : Pairs) (judgements : AllJudged es ps) where
+  -- a fitting edge takes a pair that has its key
+  takes-of-fitting : {e r q m : ℕ} {k : List ℕ} {t : ValueKind} → EdgeFrom 0 es e (edge r obj q k t m) → T ((kept es ps) .fitting e) → Taking es (kept es ps) k t ps
+  unfolding hasKey asks numberIn
+  takes-of-fitting {e} {r} {q} {m} {k} {t} i h = go (among-of-fitting es ps e h)
+    where
+      go : FittingBy es e ps → Taking es (kept es ps) k t ps
+      go (fitting-by {k = l} {v} {x} a j b c) =
+          let p : x ≡ edge r obj q k t m = edge-unique j i in
+          let n : numberIn es k ≡ numberIn es l = eqb→eq (numberIn es k) (numberIn es l) (rw p at b) in
+          let d : k ≡ l = key-eq-of-numberIn-eq es k l (number-lt-of-edge sound (member-of-edge i)) n in
+          taking (rw (← d) at a) (rw p at c)
+
+  -- an accepted object: some order of its pairs has a run
+  pub run-of-afterObject : (r : ℕ) → T (afterObject es (kept es ps) r) → (qs : Pairs) × OrderPairs ps qs × ObjectRun es r 0 qs
+  unfolding afterObject
+  run-of-afterObject r h = from (run-of-walk es (kept es ps) (keyCount es) 0 ps left to-run (startOf es obj) r accepted)
+    where
+      clear : T (not ((kept es ps) .marked))
+      clear = T-and-left (not ((kept es ps) .marked)) (ended es obj (walk es (kept es ps) 0 (keyCount es) (startOf es obj)) r) h
+
+      accepted : T (ended es obj (walk es (kept es ps) 0 (keyCount es) (startOf es obj)) r)
+      accepted = T-and-right (not ((kept es ps) .marked)) (ended es obj (walk es (kept es ps) 0 (keyCount es) (startOf es obj)) r) h
+
+      left : Left es (kept es ps) 0 (keyCount es) ps
+      left = record {
+          above = λ {k} {v} a. omega arith;
+          below = λ {k} {v} a. let g : numberIn es k < keyCount es = known-of-unmarked es ps clear a in omega arith;
+          seen = λ {k} {v} a. seen-of-among es (atOpening es) a (known-of-unmarked es ps clear a);
+          met = λ c g s. among-of-seen es ps c s }
+
+      to-run : LeftToRun es (kept es ps) 0 ps
+      to-run = record {
+          good = λ {k} {v} a. judged-of-among judgements a;
+          known = λ {k} {v} a. known-of-unmarked es ps clear a;
+          once = once-of-unmarked es ps clear;
+          takes = λ {e} {r} {q} {m} {k} {t} i f g. takes-of-fitting i f }
+
+      from : RunFrom es (startOf es obj) r ps → (qs : Pairs) × OrderPairs ps qs × ObjectRun es r 0 qs
+      from (run-from {q} {qs} s os run) = let e : q ≡ 0 = zero-of-start es obj r q s in (qs, os, rw e at run)
+
+  start-of-run : {r q : ℕ} {qs : Pairs} → ObjectRun es r q qs → T (startOf es obj r 0)
+  start-of-run (object-end i) = start-of-end es i
+  start-of-run (object-edge i f run) = start-of-edge es i
+
+  -- where some order of its pairs has a run, an object is accepted
+  pub afterObject-of-run : {r : ℕ} {qs : Pairs} → OrderPairs ps qs → ObjectRun es r 0 qs → T (afterObject es (kept es ps) r)
+  unfolding afterObject hasKey asks numberIn
+  afterObject-of-run {r} {qs} os run =
+      T-and (not ((kept es ps) .marked)) (ended es obj (walk es (kept es ps) 0 (keyCount es) (startOf es obj)) r)
+        (unmarked-of-known-once es ps (λ k v a. known a) (λ d. keys-once-of-run sound run (key-twice-order os d)))
+        (walk-of-run es (kept es ps) sound (keyCount es) 0 qs left fit (startOf es obj) r 0 (start-of-run run) run)
+    where
+      known : {k : List ℕ} {v : Json} → Among k v ps → numberIn es k < keyCount es
+      known a = let (w, b, p) = after-order os a in known-of-run sound run b
+
+      met : (c : ℕ) → SeenBy es c ps → SeenBy es c qs
+      met c (seen-by a e) = let (w, b, p) = after-order os a in seen-by b e
+
+      left : Left es (kept es ps) 0 (keyCount es) qs
+      left = record {
+          above = λ {k} {v} a. omega arith;
+          below = λ {k} {v} a. let g : numberIn es k < keyCount es = known-of-run sound run a in omega arith;
+          seen = λ {k} {v} a. let (u, b, p) = before-of-order os a in seen-of-among es (atOpening es) b (known b);
+          met = λ c g s. met c (among-of-seen es ps c s) }
+
+      fit : (e r q m : ℕ) (k : List ℕ) (t : ValueKind) (w : Json) → EdgeFrom 0 es e (edge r obj q k t m) → Among k w qs → Fits es t w → T ((kept es ps) .fitting e)
+      fit e r q m k t w i a f =
+          let (v, b, p) = before-of-order os a in
+          fitting-of-among es (atOpening es) b (known b) i (eqb-refl (numberOf (keysOf es) k)) ((judged-of-among judgements b) .judged t (in-order p f))

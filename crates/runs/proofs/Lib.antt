@@ -6,3 +6,5 @@ pub mod RunLaws
 pub mod StateLaws
 pub mod OpenLaws
 pub mod WalkLaws
+pub mod ScalarLaws
+pub mod Judging

@@ -5,7 +5,7 @@ use mathlib.Core.Path.{_≡_, refl, ap, sym, _∙_}
 use Prim.Native.Nat.{ℕ}
 use lib.Dec.{T}
 use Rattle.laws.specs.Lists.{any, all}
-use Rattle.laws.proofs.TestLaws.{T-or-elim}
+use Rattle.laws.proofs.TestLaws.{T-and-left, T-and-right, T-or-elim}
 use Rattle.json.specs.Meaning.{fold}
 
 -- ---- tests
@@ -53,6 +53,13 @@ member-of-any {A} f (y ∷ xs) h = T-or-elim (f y) (any f xs) (λ (g : T (f y)).
   where
     further : (x : A) × List·Memᴰ x xs × T (f x) → (x : A) × List·Memᴰ x (y ∷ xs) × T (f x)
     further (x, i, g) = (x, List·Memᴰ·tail i, g)
+
+-- ---- all
+
+pub T-of-all : {A : Type 0} (f : A → Bool) {x : A} (xs : List A) → T (all f xs) → List·Memᴰ x xs → T (f x)
+unfolding all
+T-of-all f (y ∷ xs) h (List·Memᴰ·head e) = rw e (T-and-left (f y) (all f xs) h)
+T-of-all f (y ∷ xs) h (List·Memᴰ·tail i) = T-of-all f xs (T-and-right (f y) (all f xs) h) i
 
 -- ---- a test of each member, found from left to right
 

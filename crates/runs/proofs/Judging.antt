@@ -1,8 +1,8 @@
 -- The evaluation from the leaves up says which kinds a value fits in some order of its pairs, and so which texts are valid. Assumes nothing.
-use mathlib.Core.Bool.{Bool, true}
+use mathlib.Core.Bool.{Bool, true, false, true≢false}
 use mathlib.Core.List.{List}
 use mathlib.Core.Logic.{_↔_}
-use mathlib.Core.Path.{_≡_}
+use mathlib.Core.Path.{_≡_, refl, sym, _∙_}
 use Prim.Native.Nat.{ℕ}
 use lib.Dec.{T}
 use Rattle.laws.proofs.TestLaws.{true-of-T, T-of-true}
@@ -13,10 +13,10 @@ use Rattle.table.specs.declared.kind.ValueKind.the-variants.{Plain, Rule}
 use Rattle.book.specs.Entry.{arr, Entry, edge}
 use Rattle.runs.specs.Runs.{_∈_, Fits, fits-array, fits-object, ArrayRun, array-end, array-edge, ObjectRun, order-array, order-object, OrderValues, order-no-values, order-values, OrderPairs, Compound, compound-array, compound-object, FitsInSomeOrder, in-order, Valid}
 use Rattle.runs.specs.Sound.{Sound}
-use Rattle.runs.specs.Walk.{ofRules, States, startOf, ended, afterElement, atOpening, afterObject, judging}
+use Rattle.runs.specs.Walk.{ofRules, States, startOf, ended, afterElement, atOpening, objectFits, judging}
 use Rattle.runs.proofs.RunLaws.{keys-once-of-fits-in-some-order}
 use Rattle.runs.proofs.StateLaws.{EndIn, end-in, ended-of-end, end-of-ended, start-of-end, start-of-edge, zero-of-start, ElementMove, element-move, afterElement-of-edge, edge-of-afterElement}
-use Rattle.runs.proofs.WalkLaws.{Judged, AllJudged, judged-none, judged-pair, run-of-afterObject, afterObject-of-run}
+use Rattle.runs.proofs.WalkLaws.{Judged, AllJudged, judged-none, judged-pair, run-of-objectFits, objectFits-of-run}
 use Rattle.runs.proofs.ScalarLaws.{judged-word, judged-string, judged-number}
 
 module _ (es : List Entry) where
@@ -82,10 +82,10 @@ module _ {es : List Entry} (sound : Sound es) where
     where
       fits′ : (t : ValueKind) → T (meaning (judging es) (object ps) t) → FitsInSomeOrder es t (object ps)
       fits′ (Plain t) h = absurd h
-      fits′ (Rule r) h = let (qs, os, run) = run-of-afterObject sound ps js r h in in-order (order-object os) (fits-object run)
+      fits′ (Rule r) h = let (qs, os, run) = run-of-objectFits sound ps js r h in in-order (order-object os) (fits-object run)
 
       of-run : {t : ValueKind} {qs : Pairs} → OrderPairs ps qs → Fits es t (object qs) → T (meaning (judging es) (object ps) t)
-      of-run os (fits-object run) = afterObject-of-run sound ps js os run
+      of-run os (fits-object run) = objectFits-of-run sound ps js os run
 
       back : {t : ValueKind} → FitsInSomeOrder es t (object ps) → T (meaning (judging es) (object ps) t)
       back (in-order (order-object os) f) = of-run os f
@@ -113,14 +113,14 @@ module _ {es : List Entry} (sound : Sound es) where
   fits-iff-judged v t = (λ f. true-of-T (meaning (judging es) v t) ((judged-value v) .judged t f), λ e. (judged-value v) .fits t (T-of-true (meaning (judging es) v t) e))
 
   -- some order of an object's pairs has an accepting run of a rule exactly when the ascending walk over the keys seen accepts
-  pub some-order-iff-walk : (ps : Pairs) (r : ℕ) → ((qs : Pairs) × OrderPairs ps qs × ObjectRun es r 0 qs) ↔ (afterObject es (members (judging es) ps (atOpening es)) r ≡ true)
-  some-order-iff-walk ps r = (there, λ e. run-of-afterObject sound ps (judged-pairs ps) r (T-of-true accepted e))
+  pub some-order-iff-walk : (ps : Pairs) (r : ℕ) → ((qs : Pairs) × OrderPairs ps qs × ObjectRun es r 0 qs) ↔ (objectFits es (members (judging es) ps (atOpening es)) r ≡ true)
+  some-order-iff-walk ps r = (there, λ e. run-of-objectFits sound ps (judged-pairs ps) r (T-of-true accepted e))
     where
       accepted : Bool
-      accepted = afterObject es (members (judging es) ps (atOpening es)) r
+      accepted = objectFits es (members (judging es) ps (atOpening es)) r
 
       there : (qs : Pairs) × OrderPairs ps qs × ObjectRun es r 0 qs → accepted ≡ true
-      there (qs, os, run) = true-of-T accepted (afterObject-of-run sound ps (judged-pairs ps) os run)
+      there (qs, os, run) = true-of-T accepted (objectFits-of-run sound ps (judged-pairs ps) os run)
 
   -- only objects and arrays fit a rule
   pub compound-of-fits : {v : Json} {r : ℕ} → FitsInSomeOrder es (Rule r) v → Compound v
@@ -133,3 +133,11 @@ module _ {es : List Entry} (sound : Sound es) where
     where
       valid : FitsInSomeOrder es (Rule 0) v → Valid es v
       valid f = record { root = compound-of-fits f; keys-once = keys-once-of-fits-in-some-order sound f; run = f }
+
+  -- and invalid exactly when it is not
+  pub invalid-iff-judged : (v : Json) → (Valid es v → ⊥) ↔ (meaning (judging es) v (Rule 0) ≡ false)
+  invalid-iff-judged v = (λ n. go (meaning (judging es) v (Rule 0)) (λ e. n (valid-iff-judged v .1 e)), λ e g. true≢false (sym (valid-iff-judged v .0 g) ∙ e))
+    where
+      go : (b : Bool) → (b ≡ true → ⊥) → b ≡ false
+      go true n = absurd (n refl)
+      go false n = refl

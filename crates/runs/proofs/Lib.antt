@@ -8,3 +8,5 @@ pub mod OpenLaws
 pub mod WalkLaws
 pub mod ScalarLaws
 pub mod Judging
+pub mod SoundLaws
+pub mod Examples

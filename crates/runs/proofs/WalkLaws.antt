@@ -15,7 +15,7 @@ use Rattle.table.specs.declared.kind.ValueKind.{ValueKind}
 use Rattle.book.specs.Entry.{Form, obj, arr, Entry, edge, keysOf, numberOf}
 use Rattle.runs.specs.Runs.{_∈_, Fits, ObjectRun, object-end, object-edge, Insert, in-front, Order, OrderPairs, order-no-pairs, Among, first, later, KeyTwice, FitsInSomeOrder, in-order}
 use Rattle.runs.specs.Sound.{Sound}
-use Rattle.runs.specs.Walk.{asks, hasKey, States, OpenObject, startOf, moved, ended, keyCount, numberIn, atOpening, walk, afterObject, judging}
+use Rattle.runs.specs.Walk.{asks, hasKey, States, OpenObject, startOf, moved, ended, keyCount, numberIn, atOpening, walk, objectFits, judging}
 use Rattle.runs.proofs.EdgeLaws.{EdgeFrom, edge-unique, member-of-edge, edge-of-member}
 use Rattle.runs.proofs.OrderLaws.{among-insert, among-cases, insert-of-among, key-twice-of-insert, key-twice-insert, before-of-order, after-order, key-twice-order, order-insert}
 use Rattle.runs.proofs.RunLaws.{number-lt-of-edge, number-lt-of-run, known-of-run, keys-once-of-run}
@@ -224,9 +224,9 @@ module _ {es : List Entry} (sound : Sound es) (ps : Pairs) (judgements : AllJudg
           taking (rw (← d) at a) (rw p at c)
 
   -- an accepted object: some order of its pairs has a run
-  pub run-of-afterObject : (r : ℕ) → T (afterObject es (kept es ps) r) → (qs : Pairs) × OrderPairs ps qs × ObjectRun es r 0 qs
-  unfolding afterObject
-  run-of-afterObject r h = from (run-of-walk es (kept es ps) (keyCount es) 0 ps left to-run (startOf es obj) r accepted)
+  pub run-of-objectFits : (r : ℕ) → T (objectFits es (kept es ps) r) → (qs : Pairs) × OrderPairs ps qs × ObjectRun es r 0 qs
+  unfolding objectFits
+  run-of-objectFits r h = from (run-of-walk es (kept es ps) (keyCount es) 0 ps left to-run (startOf es obj) r accepted)
     where
       clear : T (not ((kept es ps) .marked))
       clear = T-and-left (not ((kept es ps) .marked)) (ended es obj (walk es (kept es ps) 0 (keyCount es) (startOf es obj)) r) h
@@ -256,9 +256,9 @@ module _ {es : List Entry} (sound : Sound es) (ps : Pairs) (judgements : AllJudg
   start-of-run (object-edge i f run) = start-of-edge es i
 
   -- where some order of its pairs has a run, an object is accepted
-  pub afterObject-of-run : {r : ℕ} {qs : Pairs} → OrderPairs ps qs → ObjectRun es r 0 qs → T (afterObject es (kept es ps) r)
-  unfolding afterObject hasKey asks numberIn
-  afterObject-of-run {r} {qs} os run =
+  pub objectFits-of-run : {r : ℕ} {qs : Pairs} → OrderPairs ps qs → ObjectRun es r 0 qs → T (objectFits es (kept es ps) r)
+  unfolding objectFits hasKey asks numberIn
+  objectFits-of-run {r} {qs} os run =
       T-and (not ((kept es ps) .marked)) (ended es obj (walk es (kept es ps) 0 (keyCount es) (startOf es obj)) r)
         (unmarked-of-known-once es ps (λ k v a. known a) (λ d. keys-once-of-run sound run (key-twice-order os d)))
         (walk-of-run es (kept es ps) sound (keyCount es) 0 qs left fit (startOf es obj) r 0 (start-of-run run) run)

@@ -149,8 +149,8 @@ module _ (es : List Entry) where
   walk o i (suc n) S = walk o (suc i) n (cond (o .seen i) (moved (λ (e : ℕ) (x : Entry). o .fitting e && hasKey (keysOf es) i x) S) S)
 
   -- the rules that an object fits: none where the mark is set
-  unfoldable pub afterObject : OpenObject → ℕ → Bool
-  afterObject o n = not (o .marked) && ended obj (walk o 0 keyCount (startOf obj)) n
+  unfoldable pub objectFits : OpenObject → ℕ → Bool
+  objectFits o n = not (o .marked) && ended obj (walk o 0 keyCount (startOf obj)) n
 
   -- ---- the meaning
 
@@ -174,4 +174,4 @@ module _ (es : List Entry) where
       object-start = atOpening;
       object-key = afterKey;
       object-value = afterValue;
-      of-object = λ (o : OpenObject). ofRules (afterObject o) }
+      of-object = λ (o : OpenObject). ofRules (objectFits o) }

@@ -10,3 +10,4 @@ pub mod ScalarLaws
 pub mod Judging
 pub mod SoundLaws
 pub mod Examples
+pub mod LengthLaws

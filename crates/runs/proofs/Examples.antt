@@ -9,7 +9,7 @@ use Rattle.table.specs.declared.kind.ValueKind.the-variants.{Rule}
 use Rattle.book.specs.Entry.{withKey, keysFrom, keysOf, numberOf, clash}
 use Rattle.runs.specs.Runs.{beginsPart, Valid}
 use Rattle.runs.specs.Sound.{Sound, isKeyed, isSound}
-use Rattle.runs.specs.Walk.{ofScalar, ofRules, ofWord, sameForm, isOf, asks, ofArray, hasKey, anyEdge, leads, endsIn, startOf, moved, ended, afterElement, keyCount, numberIn, atOpening, afterKey, fitsEdge, afterValue, walk, objectFits, judging}
+use Rattle.runs.specs.Walk.{ofScalar, ofRules, ofWord, sameForm, isOf, asks, ofArray, hasKey, anyEdge, leads, endsIn, startOf, moved, ended, afterElement, keyCount, numberIn, atOpening, afterKey, fitsEdge, afterValue, useKey, walk, objectFits, judging}
 use Rattle.runs.specs.Examples.{bookB, Row, rows}
 use Rattle.runs.proofs.AnyLaws.{T-of-all}
 use Rattle.runs.proofs.SoundLaws.{sound-of-isSound}
@@ -29,7 +29,7 @@ agrees : Row → Bool
 agrees x = Bool·beq (meaning (judging bookB) (x .value) (Rule 0)) (x .verdict)
 
 rows-agree : T (all agrees rows)
-unfolding agrees all any same withKey keysFrom keysOf numberOf beginsPart ofScalar ofRules ofWord sameForm isOf asks ofArray hasKey anyEdge leads endsIn startOf moved ended afterElement keyCount numberIn atOpening afterKey fitsEdge afterValue walk objectFits
+unfolding agrees all any same withKey keysFrom keysOf numberOf beginsPart ofScalar ofRules ofWord sameForm isOf asks ofArray hasKey anyEdge leads endsIn startOf moved ended afterElement keyCount numberIn atOpening afterKey fitsEdge afterValue useKey walk objectFits
 rows-agree = tt
 
 says-of-agrees : (x : Row) (b : Bool) → x .verdict ≡ b → T (agrees x) → Says b x

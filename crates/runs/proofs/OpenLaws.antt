@@ -31,6 +31,31 @@ module _ (es : List Entry) where
   unfolding numberIn keyCount
   key-eq-of-numberIn-eq k l h e = key-eq-of-number-eq (keysOf es) k l h e
 
+  -- ---- fitsEdge
+
+  -- edge e with the key asks for one of the kinds
+  pub data FitsAt (c : ℕ) (w : ValueKind → Bool) (e : ℕ) : Type 0 where
+    fits-at : {x : Entry} → EdgeFrom 0 es e x → T (hasKey (keysOf es) c x) → T (asks w x) → FitsAt c w e
+
+  pub fitsEdge-of-edge : (c : ℕ) (w : ValueKind → Bool) {e : ℕ} {x : Entry} → EdgeFrom 0 es e x → T (hasKey (keysOf es) c x) → T (asks w x) → T (fitsEdge es c w e)
+  unfolding fitsEdge
+  fitsEdge-of-edge c w {e} {x} i h g =
+      anyEdge-of-edge (λ (i : ℕ) (x : Entry). eqb i e && (hasKey (keysOf es) c x && asks w x)) i
+        (T-and (eqb e e) (hasKey (keysOf es) c x && asks w x) (eqb-refl e) (T-and (hasKey (keysOf es) c x) (asks w x) h g))
+
+  pub edge-of-fitsEdge : (c : ℕ) (w : ValueKind → Bool) (e : ℕ) → T (fitsEdge es c w e) → FitsAt c w e
+  unfolding fitsEdge
+  edge-of-fitsEdge c w e h = go (edge-of-anyEdge test 0 es h)
+    where
+      test : ℕ → Entry → Bool
+      test i x = eqb i e && (hasKey (keysOf es) c x && asks w x)
+
+      go : (d : ℕ) × (x : Entry) × EdgeFrom 0 es d x × T (test d x) → FitsAt c w e
+      go (d, x, i, g) =
+          let g′ = T-and-right (eqb d e) (hasKey (keysOf es) c x && asks w x) g in
+          let p : d ≡ e = eqb→eq d e (T-and-left (eqb d e) (hasKey (keysOf es) c x && asks w x) g) in
+          fits-at (rw p at i) (T-and-left (hasKey (keysOf es) c x) (asks w x) g′) (T-and-right (hasKey (keysOf es) c x) (asks w x) g′)
+
   -- ---- the keys seen
 
   -- the number of some pair's key
@@ -88,12 +113,6 @@ module _ (es : List Entry) where
       rw (members-pairs k v ps o)
         (fitting-stays ps (afterPair o k v) e (T-or-left (o .fitting e) (ltb (numberIn es k) (keyCount es) && fitsEdge es (numberIn es k) (meaning (judging es) v) e) h))
 
-  fitsEdge-of-edge : (c : ℕ) (w : ValueKind → Bool) {e : ℕ} {x : Entry} → EdgeFrom 0 es e x → T (hasKey (keysOf es) c x) → T (asks w x) → T (fitsEdge es c w e)
-  unfolding fitsEdge
-  fitsEdge-of-edge c w {e} {x} i h g =
-      anyEdge-of-edge (λ (i : ℕ) (x : Entry). eqb i e && (hasKey (keysOf es) c x && asks w x)) i
-        (T-and (eqb e e) (hasKey (keysOf es) c x && asks w x) (eqb-refl e) (T-and (hasKey (keysOf es) c x) (asks w x) h g))
-
   -- an edge with a pair's key that asks for its value is a fitting one
   pub fitting-of-among : {k : List ℕ} {v : Json} {ps : Pairs} {e : ℕ} {x : Entry} (o : OpenObject) → Among k v ps → numberIn es k < keyCount es → EdgeFrom 0 es e x
       → T (hasKey (keysOf es) (numberIn es k) x) → T (asks (meaning (judging es) v) x) → T ((members (judging es) ps o) .fitting e)
@@ -107,27 +126,21 @@ module _ (es : List Entry) where
   fitting-of-among o (later {l} {u} {ps} m) h i a b = rw (members-pairs l u ps o) (fitting-of-among (afterPair o l u) m h i a b)
 
   among-of-fitting-from : (ps : Pairs) (o : OpenObject) (e : ℕ) → T ((members (judging es) ps o) .fitting e) → T (o .fitting e) ⊎ FittingBy e ps
-  unfolding afterKey afterValue fitsEdge
+  unfolding afterKey afterValue
   among-of-fitting-from no-pairs o e h = inl h
   among-of-fitting-from (pairs k v ps) o e h = go (among-of-fitting-from ps (afterPair o k v) e (rw (members-pairs k v ps o) at h))
     where
       further : FittingBy e ps → FittingBy e (pairs k v ps)
       further (fitting-by a i b c) = fitting-by (later a) i b c
 
-      test : ℕ → Entry → Bool
-      test i x = eqb i e && (hasKey (keysOf es) (numberIn es k) x && asks (meaning (judging es) v) x)
-
-      here : (d : ℕ) × (x : Entry) × EdgeFrom 0 es d x × T (test d x) → FittingBy e (pairs k v ps)
-      here (d, x, i, g) =
-          let g′ = T-and-right (eqb d e) (hasKey (keysOf es) (numberIn es k) x && asks (meaning (judging es) v) x) g in
-          let p : d ≡ e = eqb→eq d e (T-and-left (eqb d e) (hasKey (keysOf es) (numberIn es k) x && asks (meaning (judging es) v) x) g) in
-          fitting-by first (rw p at i) (T-and-left (hasKey (keysOf es) (numberIn es k) x) (asks (meaning (judging es) v) x) g′)
-            (T-and-right (hasKey (keysOf es) (numberIn es k) x) (asks (meaning (judging es) v) x) g′)
+      here : FitsAt (numberIn es k) (meaning (judging es) v) e → FittingBy e (pairs k v ps)
+      here (fits-at i a b) = fitting-by first i a b
 
       go : T ((afterPair o k v) .fitting e) ⊎ FittingBy e ps → T (o .fitting e) ⊎ FittingBy e (pairs k v ps)
       go (inl g) =
-          T-or-elim (o .fitting e) (ltb (numberIn es k) (keyCount es) && anyEdge test 0 es) (λ (d : T (o .fitting e)). inl d)
-            (λ (d : T (ltb (numberIn es k) (keyCount es) && anyEdge test 0 es)). inr (here (edge-of-anyEdge test 0 es (T-and-right (ltb (numberIn es k) (keyCount es)) (anyEdge test 0 es) d)))) g
+          T-or-elim (o .fitting e) (ltb (numberIn es k) (keyCount es) && fitsEdge es (numberIn es k) (meaning (judging es) v) e) (λ (d : T (o .fitting e)). inl d)
+            (λ (d : T (ltb (numberIn es k) (keyCount es) && fitsEdge es (numberIn es k) (meaning (judging es) v) e)).
+              inr (here (edge-of-fitsEdge (numberIn es k) (meaning (judging es) v) e (T-and-right (ltb (numberIn es k) (keyCount es)) (fitsEdge es (numberIn es k) (meaning (judging es) v) e) d)))) g
       go (inr s) = inr (further s)
 
   -- a fitting edge has the key of a pair whose value it asks for

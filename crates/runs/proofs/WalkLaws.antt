@@ -15,7 +15,7 @@ use Rattle.table.specs.declared.kind.ValueKind.{ValueKind}
 use Rattle.book.specs.Entry.{Form, obj, arr, Entry, edge, keysOf, numberOf}
 use Rattle.runs.specs.Runs.{_∈_, Fits, ObjectRun, object-end, object-edge, Insert, in-front, Order, OrderPairs, order-no-pairs, Among, first, later, KeyTwice, FitsInSomeOrder, in-order}
 use Rattle.runs.specs.Sound.{Sound}
-use Rattle.runs.specs.Walk.{asks, hasKey, States, OpenObject, startOf, moved, ended, keyCount, numberIn, atOpening, walk, objectFits, judging}
+use Rattle.runs.specs.Walk.{asks, hasKey, States, OpenObject, startOf, moved, ended, keyCount, numberIn, atOpening, useKey, walk, objectFits, judging}
 use Rattle.runs.proofs.EdgeLaws.{EdgeFrom, edge-unique, member-of-edge, edge-of-member}
 use Rattle.runs.proofs.OrderLaws.{among-insert, among-cases, insert-of-among, key-twice-of-insert, key-twice-insert, before-of-order, after-order, key-twice-order, order-insert}
 use Rattle.runs.proofs.RunLaws.{number-lt-of-edge, number-lt-of-run, known-of-run, keys-once-of-run}
@@ -116,7 +116,7 @@ module _ (es : List Entry) (o : OpenObject) where
 
   -- the walk accepts only where some order of the pairs has a run
   run-of-walk : (n i : ℕ) (ps : Pairs) → Left i n ps → LeftToRun i ps → (S : States) (r : ℕ) → T (ended es obj (walk es o i n S) r) → RunFrom es S r ps
-  unfolding walk hasKey numberIn
+  unfolding walk useKey hasKey numberIn
   run-of-walk zero i no-pairs l m S r h = go (end-of-ended es obj S r h)
     where
       go : EndIn es obj S r → RunFrom es S r no-pairs
@@ -164,7 +164,7 @@ module _ (es : List Entry) (o : OpenObject) where
     walk-of-run : (n i : ℕ) (qs : Pairs) → Left i n qs
         → ((e r q m : ℕ) (k : List ℕ) (t : ValueKind) (w : Json) → EdgeFrom 0 es e (edge r obj q k t m) → Among k w qs → Fits es t w → T (o .fitting e))
         → (S : States) (r q : ℕ) → T (S r q) → ObjectRun es r q qs → T (ended es obj (walk es o i n S) r)
-    unfolding walk hasKey numberIn
+    unfolding walk useKey hasKey numberIn
     walk-of-run zero i no-pairs l fit S r q s (object-end j) = ended-of-end es S j s
     walk-of-run zero i (pairs k v qs) l fit S r q s run = let a : i ≤ numberIn es k = l .above first in let b : numberIn es k < i + zero = l .below first in absurd (omega arith)
     walk-of-run (suc n) i qs l fit S r q s run = go (o .seen i) refl (λ (xs : Pairs) (a : Left (suc i) n xs). walk-of-run n (suc i) xs a)

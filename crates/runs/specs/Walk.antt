@@ -143,10 +143,14 @@ module _ (es : List Entry) where
       seen = o .seen;
       fitting = λ (e : ℕ). o .fitting e || (ltb (o .current) keyCount && fitsEdge (o .current) w e) }
 
-  -- the states after the keys i, i + 1, .., n of them: each key seen is used once, by fitting edges that have it
+  -- the states after key i: where it was seen, those that fitting edges with this key lead to
+  unfoldable pub useKey : OpenObject → ℕ → States → States
+  useKey o i S = cond (o .seen i) (moved (λ (e : ℕ) (x : Entry). o .fitting e && hasKey (keysOf es) i x) S) S
+
+  -- the states after the keys i, i + 1, .., n of them, ascending
   unfoldable pub walk : OpenObject → ℕ → ℕ → States → States
   walk o i zero S = S
-  walk o i (suc n) S = walk o (suc i) n (cond (o .seen i) (moved (λ (e : ℕ) (x : Entry). o .fitting e && hasKey (keysOf es) i x) S) S)
+  walk o i (suc n) S = walk o (suc i) n (useKey o i S)
 
   -- the rules that an object fits: none where the mark is set
   unfoldable pub objectFits : OpenObject → ℕ → Bool

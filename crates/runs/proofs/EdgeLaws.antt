@@ -56,8 +56,8 @@ unfolding anyEdge
 edge-of-anyEdge p i [] h = absurd h
 edge-of-anyEdge p i (edge r f q k t m ∷ es) h =
     T-or-elim (p i (edge r f q k t m)) (anyEdge p (suc i) es)
-      (λ (g : T (p i (edge r f q k t m))). (i, edge r f q k t m, this-edge refl refl, g))
-      (λ (g : T (anyEdge p (suc i) es)). further (edge-of-anyEdge p (suc i) es g)) h
+    (λ (g : T (p i (edge r f q k t m))). (i, edge r f q k t m, this-edge refl refl, g))
+    (λ (g : T (anyEdge p (suc i) es)). further (edge-of-anyEdge p (suc i) es g)) h
   where
     further : (e : ℕ) × (x : Entry) × EdgeFrom (suc i) es e x × T (p e x) → (e : ℕ) × (x : Entry) × EdgeFrom i (edge r f q k t m ∷ es) e x × T (p e x)
     further (e, x, g, h) = (e, x, past-edge g, h)

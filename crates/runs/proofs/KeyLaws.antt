@@ -52,8 +52,8 @@ new-withKey : (ks : List (List ℕ)) (b : ℕ) (l : List ℕ) → List·Memᴰ (
 unfolding withKey
 new-withKey ks b l =
     cond-elim (λ (xs : List (List ℕ)). List·Memᴰ (b ∷ l) xs) (any (same (b ∷ l)) ks)
-      (λ (h : T (any (same (b ∷ l)) ks)). old (member-of-any (same (b ∷ l)) ks h))
-      (λ (h : T (not (any (same (b ∷ l)) ks))). Memᴰ·append-right ks (List·Memᴰ·head refl))
+    (λ (h : T (any (same (b ∷ l)) ks)). old (member-of-any (same (b ∷ l)) ks h))
+    (λ (h : T (not (any (same (b ∷ l)) ks))). Memᴰ·append-right ks (List·Memᴰ·head refl))
   where
     old : (x : List ℕ) × List·Memᴰ x ks × T (same (b ∷ l) x) → List·Memᴰ (b ∷ l) ks
     old (x, i, h) = Memᴰ·cast (eq-of-same (b ∷ l) x h) i

@@ -82,8 +82,8 @@ module _ {es : List Entry} (sound : Sound es) (below : StatesBelow16 es) where
   pairCount-lt-states r c S next {q} (object-edge {m} {k} {t} {v} {ps} i f run) above s h =
       let e : suc (countBelow (without q S) 16) ≡ countBelow S 16 = countBelow-without q S 16 s h in
       let g : pairCount ps < countBelow (without q S) 16 =
-            pairCount-lt-states r (suc (numberIn es k)) (without q S) next′ run (λ l u a. number-lt-of-run sound i run a)
-              (T-without q S m (next q m k t i (above k v first)) apart) (below .next-below i) in
+      pairCount-lt-states r (suc (numberIn es k)) (without q S) next′ run (λ l u a. number-lt-of-run sound i run a)
+      (T-without q S m (next q m k t i (above k v first)) apart) (below .next-below i) in
       omega arith
     where
       apart : m ≡ q → ⊥

@@ -11,3 +11,4 @@ pub mod Judging
 pub mod SoundLaws
 pub mod Examples
 pub mod LengthLaws
+pub mod StepLaws

@@ -41,7 +41,7 @@ module _ (es : List Entry) where
   unfolding fitsEdge
   fitsEdge-of-edge c w {e} {x} i h g =
       anyEdge-of-edge (λ (i : ℕ) (x : Entry). eqb i e && (hasKey (keysOf es) c x && asks w x)) i
-        (T-and (eqb e e) (hasKey (keysOf es) c x && asks w x) (eqb-refl e) (T-and (hasKey (keysOf es) c x) (asks w x) h g))
+      (T-and (eqb e e) (hasKey (keysOf es) c x && asks w x) (eqb-refl e) (T-and (hasKey (keysOf es) c x) (asks w x) h g))
 
   pub edge-of-fitsEdge : (c : ℕ) (w : ValueKind → Bool) (e : ℕ) → T (fitsEdge es c w e) → FitsAt c w e
   unfolding fitsEdge
@@ -72,9 +72,9 @@ module _ (es : List Entry) where
   unfolding afterKey afterValue
   seen-of-among {k} {v} o (first {ps}) h =
       rw (members-pairs k v ps o)
-        (seen-stays ps (afterPair o k v) (numberIn es k)
-          (T-or-right (o .seen (numberIn es k)) (eqb (numberIn es k) (numberIn es k) && ltb (numberIn es k) (keyCount es))
-            (T-and (eqb (numberIn es k) (numberIn es k)) (ltb (numberIn es k) (keyCount es)) (eqb-refl (numberIn es k)) (lt→ltb (numberIn es k) (keyCount es) h))))
+      (seen-stays ps (afterPair o k v) (numberIn es k)
+      (T-or-right (o .seen (numberIn es k)) (eqb (numberIn es k) (numberIn es k) && ltb (numberIn es k) (keyCount es))
+      (T-and (eqb (numberIn es k) (numberIn es k)) (ltb (numberIn es k) (keyCount es)) (eqb-refl (numberIn es k)) (lt→ltb (numberIn es k) (keyCount es) h))))
   seen-of-among {k} o (later {l} {u} {ps} a) h = rw (members-pairs l u ps o) (seen-of-among (afterPair o l u) a h)
 
   among-of-seen-from : (ps : Pairs) (o : OpenObject) (c : ℕ) → T ((members (judging es) ps o) .seen c) → T (o .seen c) ⊎ SeenBy c ps
@@ -88,7 +88,7 @@ module _ (es : List Entry) where
       go : T ((afterPair o k v) .seen c) ⊎ SeenBy c ps → T (o .seen c) ⊎ SeenBy c (pairs k v ps)
       go (inl g) =
           T-or-elim (o .seen c) (eqb c (numberIn es k) && ltb c (keyCount es)) (λ (d : T (o .seen c)). inl d)
-            (λ (d : T (eqb c (numberIn es k) && ltb c (keyCount es))). inr (seen-by first (sym (eqb→eq c (numberIn es k) (T-and-left (eqb c (numberIn es k)) (ltb c (keyCount es)) d))))) g
+          (λ (d : T (eqb c (numberIn es k) && ltb c (keyCount es))). inr (seen-by first (sym (eqb→eq c (numberIn es k) (T-and-left (eqb c (numberIn es k)) (ltb c (keyCount es)) d))))) g
       go (inr s) = inr (further s)
 
   -- a key seen was met
@@ -111,7 +111,7 @@ module _ (es : List Entry) where
   fitting-stays no-pairs o e h = h
   fitting-stays (pairs k v ps) o e h =
       rw (members-pairs k v ps o)
-        (fitting-stays ps (afterPair o k v) e (T-or-left (o .fitting e) (ltb (numberIn es k) (keyCount es) && fitsEdge es (numberIn es k) (meaning (judging es) v) e) h))
+      (fitting-stays ps (afterPair o k v) e (T-or-left (o .fitting e) (ltb (numberIn es k) (keyCount es) && fitsEdge es (numberIn es k) (meaning (judging es) v) e) h))
 
   -- an edge with a pair's key that asks for its value is a fitting one
   pub fitting-of-among : {k : List ℕ} {v : Json} {ps : Pairs} {e : ℕ} {x : Entry} (o : OpenObject) → Among k v ps → numberIn es k < keyCount es → EdgeFrom 0 es e x
@@ -119,10 +119,10 @@ module _ (es : List Entry) where
   unfolding afterKey afterValue
   fitting-of-among {k} {v} {e} o (first {ps}) h i a b =
       rw (members-pairs k v ps o)
-        (fitting-stays ps (afterPair o k v) e
-          (T-or-right (o .fitting e) (ltb (numberIn es k) (keyCount es) && fitsEdge es (numberIn es k) (meaning (judging es) v) e)
-            (T-and (ltb (numberIn es k) (keyCount es)) (fitsEdge es (numberIn es k) (meaning (judging es) v) e) (lt→ltb (numberIn es k) (keyCount es) h)
-              (fitsEdge-of-edge (numberIn es k) (meaning (judging es) v) i a b))))
+      (fitting-stays ps (afterPair o k v) e
+      (T-or-right (o .fitting e) (ltb (numberIn es k) (keyCount es) && fitsEdge es (numberIn es k) (meaning (judging es) v) e)
+      (T-and (ltb (numberIn es k) (keyCount es)) (fitsEdge es (numberIn es k) (meaning (judging es) v) e) (lt→ltb (numberIn es k) (keyCount es) h)
+      (fitsEdge-of-edge (numberIn es k) (meaning (judging es) v) i a b))))
   fitting-of-among o (later {l} {u} {ps} m) h i a b = rw (members-pairs l u ps o) (fitting-of-among (afterPair o l u) m h i a b)
 
   among-of-fitting-from : (ps : Pairs) (o : OpenObject) (e : ℕ) → T ((members (judging es) ps o) .fitting e) → T (o .fitting e) ⊎ FittingBy e ps
@@ -139,8 +139,8 @@ module _ (es : List Entry) where
       go : T ((afterPair o k v) .fitting e) ⊎ FittingBy e ps → T (o .fitting e) ⊎ FittingBy e (pairs k v ps)
       go (inl g) =
           T-or-elim (o .fitting e) (ltb (numberIn es k) (keyCount es) && fitsEdge es (numberIn es k) (meaning (judging es) v) e) (λ (d : T (o .fitting e)). inl d)
-            (λ (d : T (ltb (numberIn es k) (keyCount es) && fitsEdge es (numberIn es k) (meaning (judging es) v) e)).
-              inr (here (edge-of-fitsEdge (numberIn es k) (meaning (judging es) v) e (T-and-right (ltb (numberIn es k) (keyCount es)) (fitsEdge es (numberIn es k) (meaning (judging es) v) e) d)))) g
+          (λ (d : T (ltb (numberIn es k) (keyCount es) && fitsEdge es (numberIn es k) (meaning (judging es) v) e)).
+          inr (here (edge-of-fitsEdge (numberIn es k) (meaning (judging es) v) e (T-and-right (ltb (numberIn es k) (keyCount es)) (fitsEdge es (numberIn es k) (meaning (judging es) v) e) d)))) g
       go (inr s) = inr (further s)
 
   -- a fitting edge has the key of a pair whose value it asks for
@@ -198,7 +198,7 @@ module _ (es : List Entry) where
           once′ : KeyTwice (pairs k v ps) → ⊥
           once′ (first-again a) =
               T-not (eqb c c && ltb c (keyCount es)) (T-nor-right (o .seen c) (eqb c c && ltb c (keyCount es)) (r .unseen a))
-                (T-and (eqb c c) (ltb c (keyCount es)) (eqb-refl c) (lt→ltb c (keyCount es) below))
+              (T-and (eqb c c) (ltb c (keyCount es)) (eqb-refl c) (lt→ltb c (keyCount es) below))
           once′ (later-twice d) = r .once d
 
   unmarked-of-clean : (ps : Pairs) (o : OpenObject) → Clean o ps → T (not ((members (judging es) ps o) .marked))
@@ -216,12 +216,13 @@ module _ (es : List Entry) where
 
       next : Clean (afterPair o k v) ps
       next = record {
-          unmarked =
+        unmarked =
             T-nor (o .marked) (not (ltb c (keyCount es)) || o .seen c) (r .unmarked)
-              (T-nor (not (ltb c (keyCount es))) (o .seen c) (T-not-not (ltb c (keyCount es)) (lt→ltb c (keyCount es) (r .known first))) (r .unseen first));
-          known = λ {k = l} {v = u} a. r .known (later a);
-          unseen = λ {k = l} {v = u} a. T-nor (o .seen (numberIn es l)) (eqb (numberIn es l) c && ltb (numberIn es l) (keyCount es)) (r .unseen (later a)) (not-T (eqb (numberIn es l) c && ltb (numberIn es l) (keyCount es)) (other a));
-          once = λ d. r .once (later-twice d) }
+            (T-nor (not (ltb c (keyCount es))) (o .seen c) (T-not-not (ltb c (keyCount es)) (lt→ltb c (keyCount es) (r .known first))) (r .unseen first));
+        known = λ {k = l} {v = u} a. r .known (later a);
+        unseen = λ {k = l} {v = u} a. T-nor (o .seen (numberIn es l)) (eqb (numberIn es l) c && ltb (numberIn es l) (keyCount es)) (r .unseen (later a)) (not-T (eqb (numberIn es l) c && ltb (numberIn es l) (keyCount es)) (other a));
+        once = λ d. r .once (later-twice d);
+      }
 
   -- no mark: the keys are keys of the book
   pub known-of-unmarked : {k : List ℕ} {v : Json} (ps : Pairs) → T (not ((members (judging es) ps (atOpening es)) .marked)) → Among k v ps → numberIn es k < keyCount es

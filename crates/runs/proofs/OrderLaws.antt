@@ -3,8 +3,8 @@ use mathlib.Core.List.{List}
 use mathlib.Core.Logic.{_⊎_, inl, inr}
 use mathlib.Core.Path.{_≡_, refl, subst}
 use Prim.Native.Nat.{ℕ}
-use Rattle.json.specs.Tree.{Json, word, string, number, array, object, Values, values, Pairs, no-pairs, pairs}
-use Rattle.runs.specs.Runs.{Insert, in-front, behind, Order, order-array, order-object, OrderValues, order-values, OrderPairs, order-no-pairs, order-pairs, Among, first, later, KeyTwice, first-again, later-twice, Within, itself, in-array, in-object, WithinValues, in-element, in-later-element, WithinPairs, in-pair, in-later-pair, KeysOnce}
+use Rattle.json.specs.Tree.{Json, word, string, number, array, object, Values, no-values, values, Pairs, no-pairs, pairs}
+use Rattle.runs.specs.Runs.{Insert, in-front, behind, Order, order-word, order-string, order-number, order-array, order-object, OrderValues, order-no-values, order-values, OrderPairs, order-no-pairs, order-pairs, Among, first, later, KeyTwice, first-again, later-twice, Within, itself, in-array, in-object, WithinValues, in-element, in-later-element, WithinPairs, in-pair, in-later-pair, KeysOnce}
 
 -- ---- Insert
 
@@ -73,6 +73,25 @@ key-twice-order (order-pairs o os i) (later-twice h) = key-twice-insert i (key-t
 pub order-insert : {k : List ℕ} {v w : Json} {ps rs qs : Pairs} → Insert k v ps rs → Order v w → OrderPairs ps qs → OrderPairs rs (pairs k w qs)
 order-insert in-front p os = order-pairs p os in-front
 order-insert (behind i) p (order-pairs o os j) = order-pairs o (order-insert i p os) (behind j)
+
+-- ---- Order
+
+mutual
+  -- the order that a text has is one
+  pub order-refl : (v : Json) → Order v v
+  order-refl (word x) = order-word
+  order-refl (string cs) = order-string
+  order-refl (number ds) = order-number
+  order-refl (array vs) = order-array (order-refl-values vs)
+  order-refl (object ps) = order-object (order-refl-pairs ps)
+
+  order-refl-values : (vs : Values) → OrderValues vs vs
+  order-refl-values no-values = order-no-values
+  order-refl-values (values v vs) = order-values (order-refl v) (order-refl-values vs)
+
+  order-refl-pairs : (ps : Pairs) → OrderPairs ps ps
+  order-refl-pairs no-pairs = order-no-pairs
+  order-refl-pairs (pairs k v ps) = order-pairs (order-refl v) (order-refl-pairs ps) in-front
 
 -- ---- Within
 

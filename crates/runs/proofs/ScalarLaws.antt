@@ -116,7 +116,8 @@ module _ (es : List Entry) where
   judged-number ds =
       record {
         fits = λ t h. in-order order-number (fits-of-number ds (isInteger ds) refl t (rw (fold-and (λ (c : ℕ). not (beginsPart c)) true ds) at h));
-        judged = λ t f. rw (fold-and (λ (c : ℕ). not (beginsPart c)) true ds) (back f) }
+        judged = λ t f. rw (fold-and (λ (c : ℕ). not (beginsPart c)) true ds) (back f);
+      }
     where
       back : {t : ValueKind} → FitsInSomeOrder es t (number ds) → T (ofScalar (cond (isInteger ds) Int Num) t)
       back (in-order order-number f) = number-of-fits f

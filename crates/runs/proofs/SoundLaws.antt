@@ -18,7 +18,8 @@ unfolding isSound isKeyed
 sound-of-isSound es h =
     record {
       keyed = λ {r} {q} {m} {t} i. T-of-all isKeyed es (T-and-left (all isKeyed es) (all clear es) h) i;
-      ascending = λ {a} {b} i j. false-of-T-not (clash (keysOf es) a b) (T-of-all (λ (b : Entry). not (clash (keysOf es) a b)) es (T-of-all clear es (T-and-right (all isKeyed es) (all clear es) h) i) j) }
+      ascending = λ {a} {b} i j. false-of-T-not (clash (keysOf es) a b) (T-of-all (λ (b : Entry). not (clash (keysOf es) a b)) es (T-of-all clear es (T-and-right (all isKeyed es) (all clear es) h) i) j);
+    }
   where
     clear : Entry → Bool
     clear a = all (λ (b : Entry). not (clash (keysOf es) a b)) es

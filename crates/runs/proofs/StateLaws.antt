@@ -74,7 +74,7 @@ module _ (es : List Entry) where
   unfolding moved leads
   moved-of-edge p S {e} {n} {q} {m} {f} {k} {t} i h g =
       anyEdge-of-edge (λ (e : ℕ) (x : Entry). leads S n m x && p e x) i
-        (T-and (eqb n n && (eqb m m && S n q)) (p e (edge n f q k t m)) (T-and (eqb n n) (eqb m m && S n q) (eqb-refl n) (T-and (eqb m m) (S n q) (eqb-refl m) h)) g)
+      (T-and (eqb n n && (eqb m m && S n q)) (p e (edge n f q k t m)) (T-and (eqb n n) (eqb m m && S n q) (eqb-refl n) (T-and (eqb m m) (S n q) (eqb-refl m) h)) g)
 
   pub edge-of-moved : (p : ℕ → Entry → Bool) (S : States) (n m : ℕ) → T (moved es p S n m) → MoveTo p S n m
   unfolding moved leads

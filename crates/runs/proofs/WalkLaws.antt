@@ -43,10 +43,11 @@ module _ (es : List Entry) (o : OpenObject) where
   -- where key i was not seen, the same pairs are left behind it
   left-unseen : {i n : ℕ} {ps : Pairs} → o .seen i ≡ false → Left i (suc n) ps → Left (suc i) n ps
   left-unseen {i} {n} {ps} e l = record {
-      above = λ {k} {v} a. let h : i ≤ numberIn es k = l .above a in let g = apart a in omega arith;
-      below = λ {k} {v} a. let h : numberIn es k < i + suc n = l .below a in omega arith;
-      seen = λ {k} {v} a. l .seen a;
-      met = λ c h g. l .met c (omega arith) g }
+    above = λ {k} {v} a. let h : i ≤ numberIn es k = l .above a in let g = apart a in omega arith;
+    below = λ {k} {v} a. let h : numberIn es k < i + suc n = l .below a in omega arith;
+    seen = λ {k} {v} a. l .seen a;
+    met = λ c h g. l .met c (omega arith) g;
+  }
     where
       apart : {k : List ℕ} {v : Json} → Among k v ps → numberIn es k ≡ i → ⊥
       apart a p = rw (p, e) at (l .seen a)
@@ -54,10 +55,11 @@ module _ (es : List Entry) (o : OpenObject) where
   -- where the pair with key i is taken out, the others are left behind it
   left-taken : {i n : ℕ} {k : List ℕ} {v : Json} {ps qs : Pairs} → Insert k v ps qs → numberIn es k ≡ i → ((l : List ℕ) (u : Json) → Among l u ps → suc i ≤ numberIn es l) → Left i (suc n) qs → Left (suc i) n ps
   left-taken {i} {n} {k} {v} {ps} {qs} j e up l = record {
-      above = λ {k = x} {v = u} a. up x u a;
-      below = λ {k = x} {v = u} a. let h : numberIn es x < i + suc n = l .below (among-insert j a) in omega arith;
-      seen = λ {k = x} {v = u} a. l .seen (among-insert j a);
-      met = λ c h g. other c h (l .met c (omega arith) g) }
+    above = λ {k = x} {v = u} a. up x u a;
+    below = λ {k = x} {v = u} a. let h : numberIn es x < i + suc n = l .below (among-insert j a) in omega arith;
+    seen = λ {k = x} {v = u} a. l .seen (among-insert j a);
+    met = λ c h g. other c h (l .met c (omega arith) g);
+  }
     where
       other : (c : ℕ) → suc i ≤ c → SeenBy es c qs → SeenBy es c ps
       other c h (seen-by {k = x} {v = u} a p) = go (among-cases j a)
@@ -81,17 +83,19 @@ module _ (es : List Entry) (o : OpenObject) where
 
   toRun-unseen : {i : ℕ} {ps : Pairs} → LeftToRun i ps → LeftToRun (suc i) ps
   toRun-unseen {i} l = record {
-      good = λ {k} {v} a. l .good a;
-      known = λ {k} {v} a. l .known a;
-      once = l .once;
-      takes = λ {e} {r} {q} {m} {k} {t} j f h. l .takes j f (omega arith) }
+    good = λ {k} {v} a. l .good a;
+    known = λ {k} {v} a. l .known a;
+    once = l .once;
+    takes = λ {e} {r} {q} {m} {k} {t} j f h. l .takes j f (omega arith);
+  }
 
   toRun-taken : {i : ℕ} {k : List ℕ} {v : Json} {ps qs : Pairs} → Insert k v ps qs → numberIn es k ≡ i → LeftToRun i qs → LeftToRun (suc i) ps
   toRun-taken {i} {k} {v} {ps} {qs} j e l = record {
-      good = λ {k = x} {v = u} a. l .good (among-insert j a);
-      known = λ {k = x} {v = u} a. l .known (among-insert j a);
-      once = λ d. l .once (key-twice-insert j d);
-      takes = λ {e = d} {r} {q} {m} {k = x} {t} y f h. other x t h (l .takes y f (omega arith)) }
+    good = λ {k = x} {v = u} a. l .good (among-insert j a);
+    known = λ {k = x} {v = u} a. l .known (among-insert j a);
+    once = λ d. l .once (key-twice-insert j d);
+    takes = λ {e = d} {r} {q} {m} {k = x} {t} y f h. other x t h (l .takes y f (omega arith));
+  }
     where
       other : (x : List ℕ) (t : ValueKind) → suc i ≤ numberIn es x → Taking x t qs → Taking x t ps
       other x t h (taking {v = u} a w) = go (among-cases j a)
@@ -182,7 +186,7 @@ module _ (es : List Entry) (o : OpenObject) where
             let (d, y) = edge-of-member 0 j in
             let up : (z : List ℕ) (b : Json) → Among z b xs → suc i ≤ numberIn es z = λ z b c. let h : numberIn es k < numberIn es z = number-lt-of-run sound j run c in let p = num in omega arith in
             f xs (left-taken in-front num up l) (λ e r q m k t w y a g. fit e r q m k t w y (later a) g) (moved es (atKey i) S) r m
-              (moved-of-edge es (atKey i) S y s (T-and (o .fitting d) (eqb (numberOf (keysOf es) k) i) (fit d r q m k t w y first g) (T-of-true (eqb (numberOf (keysOf es) k) i) (eq-eqb (numberIn es k) i num)))) run
+            (moved-of-edge es (atKey i) S y s (T-and (o .fitting d) (eqb (numberOf (keysOf es) k) i) (fit d r q m k t w y first g) (T-of-true (eqb (numberOf (keysOf es) k) i) (eq-eqb (numberIn es k) i num)))) run
           where
             num : numberIn es k ≡ i
             num = which (among-cases in-front a)
@@ -236,17 +240,19 @@ module _ {es : List Entry} (sound : Sound es) (ps : Pairs) (judgements : AllJudg
 
       left : Left es (kept es ps) 0 (keyCount es) ps
       left = record {
-          above = λ {k} {v} a. omega arith;
-          below = λ {k} {v} a. let g : numberIn es k < keyCount es = known-of-unmarked es ps clear a in omega arith;
-          seen = λ {k} {v} a. seen-of-among es (atOpening es) a (known-of-unmarked es ps clear a);
-          met = λ c g s. among-of-seen es ps c s }
+        above = λ {k} {v} a. omega arith;
+        below = λ {k} {v} a. let g : numberIn es k < keyCount es = known-of-unmarked es ps clear a in omega arith;
+        seen = λ {k} {v} a. seen-of-among es (atOpening es) a (known-of-unmarked es ps clear a);
+        met = λ c g s. among-of-seen es ps c s;
+      }
 
       to-run : LeftToRun es (kept es ps) 0 ps
       to-run = record {
-          good = λ {k} {v} a. judged-of-among judgements a;
-          known = λ {k} {v} a. known-of-unmarked es ps clear a;
-          once = once-of-unmarked es ps clear;
-          takes = λ {e} {r} {q} {m} {k} {t} i f g. takes-of-fitting i f }
+        good = λ {k} {v} a. judged-of-among judgements a;
+        known = λ {k} {v} a. known-of-unmarked es ps clear a;
+        once = once-of-unmarked es ps clear;
+        takes = λ {e} {r} {q} {m} {k} {t} i f g. takes-of-fitting i f;
+      }
 
       from : RunFrom es (startOf es obj) r ps → (qs : Pairs) × OrderPairs ps qs × ObjectRun es r 0 qs
       from (run-from {q} {qs} s os run) = let e : q ≡ 0 = zero-of-start es obj r q s in (qs, os, rw e at run)
@@ -260,8 +266,8 @@ module _ {es : List Entry} (sound : Sound es) (ps : Pairs) (judgements : AllJudg
   unfolding objectFits hasKey asks numberIn
   objectFits-of-run {r} {qs} os run =
       T-and (not ((kept es ps) .marked)) (ended es obj (walk es (kept es ps) 0 (keyCount es) (startOf es obj)) r)
-        (unmarked-of-known-once es ps (λ k v a. known a) (λ d. keys-once-of-run sound run (key-twice-order os d)))
-        (walk-of-run es (kept es ps) sound (keyCount es) 0 qs left fit (startOf es obj) r 0 (start-of-run run) run)
+      (unmarked-of-known-once es ps (λ k v a. known a) (λ d. keys-once-of-run sound run (key-twice-order os d)))
+      (walk-of-run es (kept es ps) sound (keyCount es) 0 qs left fit (startOf es obj) r 0 (start-of-run run) run)
     where
       known : {k : List ℕ} {v : Json} → Among k v ps → numberIn es k < keyCount es
       known a = let (w, b, p) = after-order os a in known-of-run sound run b
@@ -271,10 +277,11 @@ module _ {es : List Entry} (sound : Sound es) (ps : Pairs) (judgements : AllJudg
 
       left : Left es (kept es ps) 0 (keyCount es) qs
       left = record {
-          above = λ {k} {v} a. omega arith;
-          below = λ {k} {v} a. let g : numberIn es k < keyCount es = known-of-run sound run a in omega arith;
-          seen = λ {k} {v} a. let (u, b, p) = before-of-order os a in seen-of-among es (atOpening es) b (known b);
-          met = λ c g s. met c (among-of-seen es ps c s) }
+        above = λ {k} {v} a. omega arith;
+        below = λ {k} {v} a. let g : numberIn es k < keyCount es = known-of-run sound run a in omega arith;
+        seen = λ {k} {v} a. let (u, b, p) = before-of-order os a in seen-of-among es (atOpening es) b (known b);
+        met = λ c g s. met c (among-of-seen es ps c s);
+      }
 
       fit : (e r q m : ℕ) (k : List ℕ) (t : ValueKind) (w : Json) → EdgeFrom 0 es e (edge r obj q k t m) → Among k w qs → Fits es t w → T ((kept es ps) .fitting e)
       fit e r q m k t w i a f =

@@ -11,7 +11,6 @@ use Rattle.table.specs.declared.kind.ValueKind.the-variants.{Plain, Rule}
 use Rattle.book.specs.Entry.{Form, obj, arr, Entry, edge, end-state}
 
 infix 40 _∈_
-
 -- a line stands in the book
 abbrev pub _∈_ : Entry → List Entry → Type 0
 x ∈ es = List·Memᴰ x es

@@ -126,10 +126,11 @@ module _ (es : List Entry) where
   -- a key becomes the current one; it is marked as seen, or the mark is set for an unknown or a repeated one
   unfoldable pub afterKey : OpenObject → List ℕ → OpenObject
   afterKey o k = record {
-      current = numberIn k;
-      marked = o .marked || (not (ltb (numberIn k) keyCount) || o .seen (numberIn k));
-      seen = λ (c : ℕ). o .seen c || (eqb c (numberIn k) && ltb c keyCount);
-      fitting = o .fitting }
+    current = numberIn k;
+    marked = o .marked || (not (ltb (numberIn k) keyCount) || o .seen (numberIn k));
+    seen = λ (c : ℕ). o .seen c || (eqb c (numberIn k) && ltb c keyCount);
+    fitting = o .fitting;
+  }
 
   -- edge e has the key with number c, and its kind is among the kinds
   unfoldable pub fitsEdge : ℕ → (ValueKind → Bool) → ℕ → Bool
@@ -138,10 +139,11 @@ module _ (es : List Entry) where
   -- a value adds the fitting edges of the current key, none where that is unknown
   unfoldable pub afterValue : OpenObject → (ValueKind → Bool) → OpenObject
   afterValue o w = record {
-      current = o .current;
-      marked = o .marked;
-      seen = o .seen;
-      fitting = λ (e : ℕ). o .fitting e || (ltb (o .current) keyCount && fitsEdge (o .current) w e) }
+    current = o .current;
+    marked = o .marked;
+    seen = o .seen;
+    fitting = λ (e : ℕ). o .fitting e || (ltb (o .current) keyCount && fitsEdge (o .current) w e);
+  }
 
   -- the states after key i: where it was seen, those that fitting edges with this key lead to
   unfoldable pub useKey : OpenObject → ℕ → States → States
@@ -160,22 +162,23 @@ module _ (es : List Entry) where
 
   abbrev pub judging : Meaning
   judging = record {
-      Result = ValueKind → Bool;
-      InString = List ℕ;
-      InNumber = Bool;
-      InArray = States;
-      InObject = OpenObject;
-      of-word = ofWord;
-      string-start = [];
-      string-char = λ (s : List ℕ) (c : ℕ). s ++ (c ∷ []);
-      of-string = λ (s : List ℕ). ofScalar Str;
-      number-start = true;
-      number-byte = λ (b : Bool) (c : ℕ). b && not (beginsPart c);
-      of-number = λ (b : Bool). ofScalar (cond b Int Num);
-      array-start = startOf arr;
-      array-element = afterElement;
-      of-array = λ (S : States). ofRules (ended arr S);
-      object-start = atOpening;
-      object-key = afterKey;
-      object-value = afterValue;
-      of-object = λ (o : OpenObject). ofRules (objectFits o) }
+    Result = ValueKind → Bool;
+    InString = List ℕ;
+    InNumber = Bool;
+    InArray = States;
+    InObject = OpenObject;
+    of-word = ofWord;
+    string-start = [];
+    string-char = λ (s : List ℕ) (c : ℕ). s ++ (c ∷ []);
+    of-string = λ (s : List ℕ). ofScalar Str;
+    number-start = true;
+    number-byte = λ (b : Bool) (c : ℕ). b && not (beginsPart c);
+    of-number = λ (b : Bool). ofScalar (cond b Int Num);
+    array-start = startOf arr;
+    array-element = afterElement;
+    of-array = λ (S : States). ofRules (ended arr S);
+    object-start = atOpening;
+    object-key = afterKey;
+    object-value = afterValue;
+    of-object = λ (o : OpenObject). ofRules (objectFits o);
+  }

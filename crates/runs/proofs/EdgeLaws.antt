@@ -1,11 +1,11 @@
 -- Laws of the numbers of edges and of the tests over all edges. Assumes nothing.
-use mathlib.Core.Bool.{Bool, true, false, not, cond, _&&_, _||_}
+use mathlib.Core.Bool.{Bool}
 use mathlib.Core.List.{List, [], _∷_, List·Memᴰ·head, List·Memᴰ·tail}
-use mathlib.Core.Path.{_≡_, refl, sym, ap, subst, _∙_}
-use Prim.Native.Nat.{ℕ, suc, _<_, _≤_}
+use mathlib.Core.Path.{_≡_, refl, sym, _∙_}
+use Prim.Native.Nat.{ℕ, suc, _≤_}
 use native.Mathlib.Omega.{arith}
-use lib.Dec.{T, eqb, eqb→eq, eqb-refl}
-use Rattle.laws.proofs.TestLaws.{T-and, T-and-left, T-and-right, T-or-elim}
+use lib.Dec.{T}
+use Rattle.laws.proofs.TestLaws.{T-or-elim}
 use Rattle.table.specs.declared.kind.ValueKind.{ValueKind}
 use Rattle.book.specs.Entry.{Form, Entry, edge, end-state}
 use Rattle.runs.specs.Runs.{_∈_}

@@ -1,6 +1,6 @@
 -- The examples hold, by computation of what is judged. Assumes nothing.
 use mathlib.Core.Bool.{Bool, true, false, _&&_, Bool·beq}
-use mathlib.Core.List.{List, List·Memᴰ}
+use mathlib.Core.List.{List·Memᴰ}
 use mathlib.Core.Path.{_≡_, refl}
 use lib.Dec.{T}
 use Rattle.laws.specs.Lists.{same, all, any}

@@ -1,8 +1,8 @@
 -- An accepted object has at most 15 pairs: no state stands twice on a run over an object, and there are 16 states. Assumes nothing.
 use mathlib.Core.Bool.{Bool, true, false, not, cond, _&&_}
 use mathlib.Core.List.{List}
-use mathlib.Core.Path.{_≡_, refl, sym, ap, _∙_}
-use Prim.Native.Nat.{ℕ, zero, suc, _+_, _<_, _≤_}
+use mathlib.Core.Path.{_≡_, refl, ap, _∙_}
+use Prim.Native.Nat.{ℕ, zero, suc, _<_, _≤_}
 use native.Mathlib.Omega.{arith}
 use lib.Dec.{T, not-T, eqb, eqb→eq, ltb, lt→ltb}
 use borrow.Author.Tests.{ne-eqb, eqb-true, eqb-false}
@@ -10,7 +10,7 @@ use Rattle.laws.proofs.TestLaws.{T-and, true-of-T}
 use Rattle.json.specs.Tree.{Json, object, Pairs, no-pairs, pairs}
 use Rattle.table.specs.declared.kind.ValueKind.{ValueKind}
 use Rattle.book.specs.Entry.{obj, Entry, edge}
-use Rattle.runs.specs.Runs.{_∈_, Fits, fits-object, ObjectRun, object-end, object-edge, Insert, in-front, behind, Order, order-object, OrderPairs, order-no-pairs, order-pairs, Among, first, later, Within, FitsInSomeOrder, in-order, Valid}
+use Rattle.runs.specs.Runs.{_∈_, Fits, fits-object, ObjectRun, object-end, object-edge, Insert, in-front, behind, Order, order-object, OrderPairs, order-no-pairs, order-pairs, Among, first, Within, FitsInSomeOrder, in-order, Valid}
 use Rattle.runs.specs.Sound.{Sound, StatesBelow16}
 use Rattle.runs.specs.Walk.{numberIn}
 use Rattle.runs.proofs.OrderLaws.{within-order}

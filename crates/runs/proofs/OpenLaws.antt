@@ -1,10 +1,9 @@
 -- What is kept of an open object after some pairs: the keys seen, the fitting edges, the mark. Assumes nothing.
-use mathlib.Core.Bool.{Bool, true, false, not, _&&_, _||_}
+use mathlib.Core.Bool.{Bool, not, _&&_, _||_}
 use mathlib.Core.List.{List}
 use mathlib.Core.Logic.{_⊎_, inl, inr}
-use mathlib.Core.Path.{_≡_, refl, sym, ap, subst}
+use mathlib.Core.Path.{_≡_, sym, ap}
 use Prim.Native.Nat.{ℕ, _<_}
-use native.Mathlib.Omega.{arith}
 use lib.Dec.{T, T-not, not-T, eqb, eqb→eq, eqb-refl, ltb, ltb→lt, lt→ltb}
 use Rattle.laws.proofs.TestLaws.{T-and, T-and-left, T-and-right, T-or-elim}
 use Rattle.json.specs.Tree.{Json, Pairs, no-pairs, pairs}
@@ -12,7 +11,7 @@ use Rattle.json.specs.Meaning.{meaning, members}
 use Rattle.table.specs.declared.kind.ValueKind.{ValueKind}
 use Rattle.book.specs.Entry.{Entry, keysOf}
 use Rattle.runs.specs.Runs.{Among, first, later, KeyTwice, first-again, later-twice}
-use Rattle.runs.specs.Walk.{asks, hasKey, anyEdge, OpenObject, keyCount, numberIn, atOpening, afterKey, fitsEdge, afterValue, judging}
+use Rattle.runs.specs.Walk.{asks, hasKey, OpenObject, keyCount, numberIn, atOpening, afterKey, fitsEdge, afterValue, judging}
 use Rattle.runs.proofs.AnyLaws.{T-or-left, T-or-right, T-nor, T-nor-left, T-nor-right, T-of-not-not, T-not-not}
 use Rattle.runs.proofs.KeyLaws.{fold-snoc, key-eq-of-number-eq}
 use Rattle.runs.proofs.EdgeLaws.{EdgeFrom, anyEdge-of-edge, edge-of-anyEdge}

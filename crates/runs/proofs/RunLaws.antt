@@ -1,17 +1,15 @@
 -- Laws of runs: along a run over an object the key numbers rise, so that no key stands twice, and what stands in a fitting value fits too.
 -- Assumes nothing.
-use mathlib.Core.Bool.{Bool, true, false, not, _&&_}
 use mathlib.Core.List.{List, [], _∷_}
-use mathlib.Core.Path.{_≡_, refl}
+use mathlib.Core.Path.{refl}
 use Prim.Native.Nat.{ℕ, _<_}
 use native.Mathlib.Omega.{arith}
-use lib.Dec.{T, eqb, ltb, ltb→lt, eqb-refl}
-use lib.ListN.{length}
+use lib.Dec.{ltb}
 use borrow.Author.Tests.{eq-eqb, not-false, ltb-true}
-use Rattle.json.specs.Tree.{Json, array, object, Values, values, Pairs, pairs}
+use Rattle.json.specs.Tree.{Json, object, Values, Pairs}
 use Rattle.table.specs.declared.kind.ValueKind.{ValueKind}
-use Rattle.book.specs.Entry.{Form, obj, Entry, edge, keysOf, numberOf, clash}
-use Rattle.runs.specs.Runs.{_∈_, Fits, fits-array, fits-object, ArrayRun, array-edge, ObjectRun, object-edge, Order, Among, first, later, KeyTwice, first-again, later-twice, Within, itself, in-array, in-object, WithinValues, in-element, in-later-element, WithinPairs, in-pair, in-later-pair, KeysOnce, FitsInSomeOrder, in-order}
+use Rattle.book.specs.Entry.{obj, Entry, edge, keysOf, numberOf, clash}
+use Rattle.runs.specs.Runs.{_∈_, Fits, fits-array, fits-object, ArrayRun, array-edge, ObjectRun, object-edge, Among, first, later, KeyTwice, first-again, later-twice, Within, itself, in-array, in-object, WithinValues, in-element, in-later-element, WithinPairs, in-pair, in-later-pair, KeysOnce, FitsInSomeOrder, in-order}
 use Rattle.runs.specs.Sound.{Sound}
 use Rattle.runs.specs.Walk.{keyCount, numberIn}
 use Rattle.runs.proofs.KeyLaws.{key-member, number-lt-of-member}

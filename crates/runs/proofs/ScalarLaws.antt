@@ -1,13 +1,11 @@
 -- Scalars are judged as they fit. Assumes nothing.
-use mathlib.Core.Bool.{Bool, true, false, not, cond, _&&_}
+use mathlib.Core.Bool.{Bool, true, false, not, cond}
 use mathlib.Core.List.{List}
 use mathlib.Core.Path.{_≡_, refl}
 use Prim.Native.Nat.{ℕ}
 use lib.Dec.{T}
-use Rattle.laws.specs.Lists.{all}
 use Rattle.laws.proofs.TestLaws.{T-of-true}
-use Rattle.json.specs.Tree.{Word, null-word, true-word, false-word, Json, word, string, number}
-use Rattle.table.specs.Kind.{scalarFits}
+use Rattle.json.specs.Tree.{Word, null-word, true-word, false-word, word, string, number}
 use Rattle.table.specs.declared.kind.Scalar.the-variants.{Null, True, False, Str, Num, Int}
 use Rattle.table.specs.declared.kind.ValueKind.{ValueKind}
 use Rattle.table.specs.declared.kind.ValueKind.the-variants.{Plain, Rule}

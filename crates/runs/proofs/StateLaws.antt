@@ -1,7 +1,7 @@
 -- Laws of the sets of states: where they start, where edges lead, where they end. Assumes nothing.
-use mathlib.Core.Bool.{Bool, true, false, _&&_}
+use mathlib.Core.Bool.{Bool, _&&_}
 use mathlib.Core.List.{List}
-use mathlib.Core.Path.{_≡_, refl, sym, ap, subst}
+use mathlib.Core.Path.{_≡_, refl}
 use Prim.Native.Nat.{ℕ}
 use lib.Dec.{T, eqb, eqb→eq, eqb-refl}
 use Rattle.laws.specs.Lists.{any}
@@ -9,7 +9,7 @@ use Rattle.laws.proofs.TestLaws.{T-and, T-and-left, T-and-right}
 use Rattle.table.specs.declared.kind.ValueKind.{ValueKind}
 use Rattle.book.specs.Entry.{Form, obj, arr, Entry, edge, end-state}
 use Rattle.runs.specs.Runs.{_∈_}
-use Rattle.runs.specs.Walk.{sameForm, isOf, asks, ofArray, hasKey, anyEdge, States, leads, endsIn, startOf, moved, ended, afterElement}
+use Rattle.runs.specs.Walk.{sameForm, isOf, asks, ofArray, States, leads, endsIn, startOf, moved, ended, afterElement}
 use Rattle.runs.proofs.AnyLaws.{any-of-member, member-of-any}
 use Rattle.runs.proofs.EdgeLaws.{EdgeFrom, anyEdge-of-edge, edge-of-anyEdge, member-of-edge, edge-of-member}
 

@@ -3,17 +3,17 @@
 use mathlib.Core.Bool.{Bool, true, false, not, cond, _&&_}
 use mathlib.Core.List.{List}
 use mathlib.Core.Logic.{_⊎_, inl, inr}
-use mathlib.Core.Path.{_≡_, refl, sym, ap, subst, _∙_}
+use mathlib.Core.Path.{_≡_, refl, ap, _∙_}
 use Prim.Native.Nat.{ℕ, zero, suc, _+_, _<_, _≤_}
 use native.Mathlib.Omega.{arith}
-use lib.Dec.{T, T-not, eqb, eqb→eq, eqb-refl}
+use lib.Dec.{T, eqb, eqb→eq, eqb-refl}
 use borrow.Author.Tests.{eq-eqb}
 use Rattle.laws.proofs.TestLaws.{T-and, T-and-left, T-and-right, T-of-true}
-use Rattle.json.specs.Tree.{Json, object, Pairs, no-pairs, pairs}
+use Rattle.json.specs.Tree.{Json, Pairs, no-pairs, pairs}
 use Rattle.json.specs.Meaning.{meaning, members}
 use Rattle.table.specs.declared.kind.ValueKind.{ValueKind}
-use Rattle.book.specs.Entry.{Form, obj, arr, Entry, edge, keysOf, numberOf}
-use Rattle.runs.specs.Runs.{_∈_, Fits, ObjectRun, object-end, object-edge, Insert, in-front, Order, OrderPairs, order-no-pairs, Among, first, later, KeyTwice, FitsInSomeOrder, in-order}
+use Rattle.book.specs.Entry.{obj, arr, Entry, edge, keysOf, numberOf}
+use Rattle.runs.specs.Runs.{_∈_, Fits, ObjectRun, object-end, object-edge, Insert, in-front, OrderPairs, order-no-pairs, Among, first, later, KeyTwice, FitsInSomeOrder, in-order}
 use Rattle.runs.specs.Sound.{Sound}
 use Rattle.runs.specs.Walk.{asks, hasKey, States, OpenObject, startOf, moved, ended, keyCount, numberIn, atOpening, useKey, walk, objectFits, judging}
 use Rattle.runs.proofs.EdgeLaws.{EdgeFrom, edge-unique, member-of-edge, edge-of-member}

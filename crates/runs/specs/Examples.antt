@@ -3,7 +3,7 @@
 use mathlib.Core.Bool.{Bool, true, false}
 use mathlib.Core.List.{List, [], _∷_}
 use Prim.Native.Nat.{ℕ}
-use Rattle.json.specs.Tree.{Json, string, number, array, object, Values, no-values, values, Pairs, no-pairs, pairs}
+use Rattle.json.specs.Tree.{Json, string, number, array, object, no-values, values, no-pairs, pairs}
 use Rattle.table.specs.declared.kind.Scalar.the-variants.{Str, Num, Int}
 use Rattle.table.specs.declared.kind.ValueKind.the-variants.{Plain, Rule}
 use Rattle.book.specs.Entry.{obj, arr, Entry, edge, end-state}

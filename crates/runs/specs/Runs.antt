@@ -1,6 +1,7 @@
--- Which JSON is valid under a book: 01, "Runs", and demand 2. Stated, over the lines of a book and the tree of a text. Assumes nothing.
+-- Which values fit which kinds, and which texts are valid: 01, "Runs", and demand 2, over the entries of a book and the tree of a text.
+-- Stated. Assumes nothing.
 use mathlib.Core.Bool.{Bool, not, _||_}
-use mathlib.Core.List.{List, [], _∷_, List·Memᴰ}
+use mathlib.Core.List.{List, List·Memᴰ}
 use Prim.Native.Nat.{ℕ}
 use lib.Dec.{T, eqb}
 use Rattle.laws.specs.Lists.{all}
@@ -8,10 +9,10 @@ use Rattle.json.specs.Tree.{Word, null-word, true-word, false-word, Json, word,
 use Rattle.table.specs.declared.kind.Scalar.the-variants.{Null, True, False, Str, Num, Int}
 use Rattle.table.specs.declared.kind.ValueKind.{ValueKind}
 use Rattle.table.specs.declared.kind.ValueKind.the-variants.{Plain, Rule}
-use Rattle.book.specs.Entry.{Form, obj, arr, Entry, edge, end-state}
+use Rattle.book.specs.Entry.{obj, arr, Entry, edge, end-state}
 
 infix 40 _∈_
--- a line stands in the book
+-- an entry stands in a book
 abbrev pub _∈_ : Entry → List Entry → Type 0
 x ∈ es = List·Memᴰ x es
 
@@ -27,31 +28,38 @@ isInteger ds = all (λ (c : ℕ). not (beginsPart c)) ds
 
 module _ (es : List Entry) where
   mutual
-    -- a value fits a kind: the words and `str` themselves, `num` any number, `int` a number written without fraction or exponent part, `rN` an
-    -- object or array with an accepting run of rule N. A run begins in state 0
+    -- a value fits a kind
     pub data Fits : ValueKind → Json → Type 0 where
+      -- `null`, `true`, `false` and `str` fit themselves
       fits-null : Fits (Plain Null) (word null-word)
       fits-true : Fits (Plain True) (word true-word)
       fits-false : Fits (Plain False) (word false-word)
       fits-str : {cs : List ℕ} → Fits (Plain Str) (string cs)
+      -- `num` fits any number
       fits-num : {ds : List ℕ} → Fits (Plain Num) (number ds)
+      -- `int` a number written without fraction or exponent part
       fits-int : {ds : List ℕ} → T (isInteger ds) → Fits (Plain Int) (number ds)
-      fits-array : {n : ℕ} {vs : Values} → ArrayRun n 0 vs → Fits (Rule n) (array vs)
-      fits-object : {n : ℕ} {ps : Pairs} → ObjectRun n 0 ps → Fits (Rule n) (object ps)
+      -- `rN` an object or array with an accepting run of rule N, which begins in state 0
+      fits-array : {r : ℕ} {vs : Values} → ArrayRun r 0 vs → Fits (Rule r) (array vs)
+      fits-object : {r : ℕ} {ps : Pairs} → ObjectRun r 0 ps → Fits (Rule r) (object ps)
 
-    -- the run of a rule from a state on, over elements, by lines of form `arr` only: it accepts in an end state, and takes one edge for each element
+    -- an accepting run of an `arr` rule, from a state on, over the elements that are left
     pub data ArrayRun : ℕ → ℕ → Values → Type 0 where
-      array-end : {n q : ℕ} → end-state n arr q ∈ es → ArrayRun n q no-values
-      array-edge : {n q m : ℕ} {k : List ℕ} {t : ValueKind} {v : Json} {vs : Values} → edge n arr q k t m ∈ es → Fits t v → ArrayRun n m vs → ArrayRun n q (values v vs)
+      -- it accepts in an end state
+      array-end : {r q : ℕ} → end-state r arr q ∈ es → ArrayRun r q no-values
+      -- it takes one edge for each element
+      array-edge : {r q m : ℕ} {k : List ℕ} {t : ValueKind} {v : Json} {vs : Values} → edge r arr q k t m ∈ es → Fits t v → ArrayRun r m vs → ArrayRun r q (values v vs)
 
-    -- the run of a rule from a state on, over pairs, by lines of form `obj` only: a pair needs the edge's key too
+    -- an accepting run of an `obj` rule, from a state on, over the pairs that are left
     pub data ObjectRun : ℕ → ℕ → Pairs → Type 0 where
-      object-end : {n q : ℕ} → end-state n obj q ∈ es → ObjectRun n q no-pairs
-      object-edge : {n q m : ℕ} {k : List ℕ} {t : ValueKind} {v : Json} {ps : Pairs} → edge n obj q k t m ∈ es → Fits t v → ObjectRun n m ps → ObjectRun n q (pairs k v ps)
+      -- it accepts in an end state
+      object-end : {r q : ℕ} → end-state r obj q ∈ es → ObjectRun r q no-pairs
+      -- it takes one edge for each pair, and the pair needs the edge's key too
+      object-edge : {r q m : ℕ} {k : List ℕ} {t : ValueKind} {v : Json} {ps : Pairs} → edge r obj q k t m ∈ es → Fits t v → ObjectRun r m ps → ObjectRun r q (pairs k v ps)
 
 -- ---- some order of the pairs
 
--- the second has the pair k, v somewhere among the pairs of the first
+-- the second is the first with the pair k, v put in somewhere
 pub data Insert (k : List ℕ) (v : Json) : Pairs → Pairs → Type 0 where
   in-front : {ps : Pairs} → Insert k v ps (pairs k v ps)
   behind : {l : List ℕ} {u : Json} {ps qs : Pairs} → Insert k v ps qs → Insert k v (pairs l u ps) (pairs l u qs)
@@ -70,7 +78,7 @@ mutual
     order-no-values : OrderValues no-values no-values
     order-values : {v w : Json} {vs ws : Values} → Order v w → OrderValues vs ws → OrderValues (values v vs) (values w ws)
 
-  -- an order of some pairs is one of the pairs behind the first, with the first put in somewhere
+  -- an order of the pairs behind the first, with the first, its value in some order, put in somewhere
   pub data OrderPairs : Pairs → Pairs → Type 0 where
     order-no-pairs : OrderPairs no-pairs no-pairs
     order-pairs : {k : List ℕ} {v w : Json} {ps qs rs : Pairs} → Order v w → OrderPairs ps qs → Insert k w qs rs → OrderPairs (pairs k v ps) rs
@@ -88,7 +96,7 @@ pub data KeyTwice : Pairs → Type 0 where
   later-twice : {k : List ℕ} {v : Json} {ps : Pairs} → KeyTwice ps → KeyTwice (pairs k v ps)
 
 mutual
-  -- x stands in a value: it is that value, or stands in an element, or in the value of a pair
+  -- x stands in a value: it is that value, or stands in an element or in the value of a pair
   pub data Within (x : Json) : Json → Type 0 where
     itself : Within x x
     in-array : {vs : Values} → WithinValues x vs → Within x (array vs)
@@ -102,7 +110,7 @@ mutual
     in-pair : {k : List ℕ} {v : Json} {ps : Pairs} → Within x v → WithinPairs x (pairs k v ps)
     in-later-pair : {k : List ℕ} {v : Json} {ps : Pairs} → WithinPairs x ps → WithinPairs x (pairs k v ps)
 
--- no object of the text has a key twice
+-- no object has a key twice: none that stands in the value
 abbrev pub KeysOnce : Json → Type 0
 KeysOnce v = (ps : Pairs) → Within (object ps) v → KeyTwice ps → ⊥
 

@@ -28,20 +28,22 @@ unfoldable pub ofRules : (ℕ → Bool) → ValueKind → Bool
 ofRules rules (Plain t) = false
 ofRules rules (Rule n) = rules n
 
+-- a word is a scalar
 unfoldable pub ofWord : Word → ValueKind → Bool
 ofWord null-word = ofScalar Null
 ofWord true-word = ofScalar True
 ofWord false-word = ofScalar False
 
--- ---- tests of lines
+-- ---- tests of entries
 
+-- two forms are the same
 unfoldable pub sameForm : Form → Form → Bool
 sameForm obj obj = true
 sameForm obj arr = false
 sameForm arr obj = false
 sameForm arr arr = true
 
--- a line of rule n, which has form f
+-- an entry of rule n, which has form f
 unfoldable pub isOf : Form → ℕ → Entry → Bool
 isOf f n (edge r g q k t m) = sameForm f g && eqb r n
 isOf f n (end-state r g q) = sameForm f g && eqb r n
@@ -79,7 +81,7 @@ unfoldable pub leads : States → ℕ → ℕ → Entry → Bool
 leads S n m (edge r f q k t p) = eqb r n && (eqb p m && S n q)
 leads S n m (end-state r f q) = false
 
--- the line of an end state of rule n, which has form f and is among the states
+-- an end state of rule n, which has form f, and it is among the states
 unfoldable pub endsIn : Form → States → ℕ → Entry → Bool
 endsIn f S n (edge r g q k t m) = false
 endsIn f S n (end-state r g q) = sameForm f g && (eqb r n && S n q)
@@ -117,9 +119,11 @@ module _ (es : List Entry) where
   unfoldable pub keyCount : ℕ
   keyCount = length (keysOf es)
 
+  -- the number of a key; how many keys there are, where it is unknown
   unfoldable pub numberIn : List ℕ → ℕ
   numberIn k = numberOf (keysOf es) k
 
+  -- an object that was just opened: no key is the current one
   unfoldable pub atOpening : OpenObject
   atOpening = record { current = keyCount; marked = false; seen = λ (c : ℕ). false; fitting = λ (e : ℕ). false }
 
@@ -160,6 +164,7 @@ module _ (es : List Entry) where
 
   -- ---- the meaning
 
+  -- which kinds a value fits, found from left to right: of a key its characters are kept, of a number whether only an integer was written
   abbrev pub judging : Meaning
   judging = record {
     Result = ValueKind → Bool;

@@ -14,8 +14,10 @@ use Rattle.runs.proofs.AnyLaws.{T-or-left, T-or-right}
 
 -- edge e of a list is x, where the first edge in the list is edge i
 pub data EdgeFrom : ℕ → List Entry → ℕ → Entry → Type 0 where
-  this-edge : {i e r q m : ℕ} {f : Form} {k : List ℕ} {t : ValueKind} {es : List Entry} {x : Entry} → e ≡ i → x ≡ edge r f q k t m → EdgeFrom i (edge r f q k t m ∷ es) e x
-  past-edge : {i e r q m : ℕ} {f : Form} {k : List ℕ} {t : ValueKind} {es : List Entry} {x : Entry} → EdgeFrom (suc i) es e x → EdgeFrom i (edge r f q k t m ∷ es) e x
+  this-edge : {i e r q m : ℕ} {f : Form} {k : List ℕ} {t : ValueKind} {es : List Entry} {x : Entry} → e ≡ i → x ≡ edge r f q k t m
+      → EdgeFrom i (edge r f q k t m ∷ es) e x
+  past-edge : {i e r q m : ℕ} {f : Form} {k : List ℕ} {t : ValueKind} {es : List Entry} {x : Entry} → EdgeFrom (suc i) es e x
+      → EdgeFrom i (edge r f q k t m ∷ es) e x
   past-end : {i e r q : ℕ} {f : Form} {es : List Entry} {x : Entry} → EdgeFrom i es e x → EdgeFrom i (end-state r f q ∷ es) e x
 
 pub le-of-edge : {i e : ℕ} {es : List Entry} {x : Entry} → EdgeFrom i es e x → i ≤ e
@@ -37,7 +39,8 @@ member-of-edge (past-edge h) = List·Memᴰ·tail (member-of-edge h)
 member-of-edge (past-end h) = List·Memᴰ·tail (member-of-edge h)
 
 -- each edge of a book has a number
-pub edge-of-member : (i : ℕ) {es : List Entry} {r q m : ℕ} {f : Form} {k : List ℕ} {t : ValueKind} → edge r f q k t m ∈ es → (e : ℕ) × EdgeFrom i es e (edge r f q k t m)
+pub edge-of-member : (i : ℕ) {es : List Entry} {r q m : ℕ} {f : Form} {k : List ℕ} {t : ValueKind} → edge r f q k t m ∈ es
+    → (e : ℕ) × EdgeFrom i es e (edge r f q k t m)
 edge-of-member i {es = edge _ _ _ _ _ _ ∷ _} (List·Memᴰ·head e) = (i, this-edge refl e)
 edge-of-member i {es = edge _ _ _ _ _ _ ∷ _} (List·Memᴰ·tail h) = let (e, g) = edge-of-member (suc i) h in (e, past-edge g)
 edge-of-member i {es = end-state _ _ _ ∷ _} (List·Memᴰ·head e) = let z : _≡_ {A = ℕ} 0 1 = cc in absurd (omega arith)

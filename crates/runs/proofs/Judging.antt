@@ -38,7 +38,8 @@ module _ (es : List Entry) where
       go (end-in i s) = elements-run-from s order-no-values (array-end i)
   run-of-elements (judged-values {v} {vs} j js) S r h = go (run-of-elements js (afterElement es S (meaning (judging es) v)) r h)
     where
-      fit : {q m : ℕ} {k : List ℕ} {t : ValueKind} {ws : Values} → T (S r q) → edge r arr q k t m ∈ es → OrderValues vs ws → ArrayRun es r m ws → FitsInSomeOrder es t v → ElementsRunFrom S r (values v vs)
+      fit : {q m : ℕ} {k : List ℕ} {t : ValueKind} {ws : Values} → T (S r q) → edge r arr q k t m ∈ es → OrderValues vs ws → ArrayRun es r m ws
+          → FitsInSomeOrder es t v → ElementsRunFrom S r (values v vs)
       fit s i os run (in-order o f) = elements-run-from s (order-values o os) (array-edge i f run)
 
       move : {m : ℕ} {ws : Values} → OrderValues vs ws → ArrayRun es r m ws → ElementMove es S (meaning (judging es) v) r m → ElementsRunFrom S r (values v vs)
@@ -47,7 +48,8 @@ module _ (es : List Entry) where
       go : ElementsRunFrom (afterElement es S (meaning (judging es) v)) r vs → ElementsRunFrom S r (values v vs)
       go (elements-run-from {q} s os run) = move os run (edge-of-afterElement es S (meaning (judging es) v) r q s)
 
-  elements-of-run : {vs ws : Values} {r q : ℕ} → AllElementsJudged vs → OrderValues vs ws → ArrayRun es r q ws → (S : States) → T (S r q) → T (ended es arr (elements (judging es) vs S) r)
+  elements-of-run : {vs ws : Values} {r q : ℕ} → AllElementsJudged vs → OrderValues vs ws → ArrayRun es r q ws → (S : States) → T (S r q)
+      → T (ended es arr (elements (judging es) vs S) r)
   elements-of-run judged-no-values order-no-values (array-end i) S s = ended-of-end es S i s
   elements-of-run (judged-values {v} j js) (order-values o os) (array-edge {t} i f run) S s =
       elements-of-run js os run (afterElement es S (meaning (judging es) v)) (afterElement-of-edge es S (meaning (judging es) v) i s (j .judged t (in-order o f)))
@@ -113,7 +115,8 @@ module _ {es : List Entry} (sound : Sound es) where
   fits-iff-judged v t = (λ f. true-of-T (meaning (judging es) v t) ((judged-value v) .judged t f), λ e. (judged-value v) .fits t (T-of-true (meaning (judging es) v t) e))
 
   -- some order of an object's pairs has an accepting run of a rule exactly when the ascending walk over the keys seen accepts
-  pub some-order-iff-walk : (ps : Pairs) (r : ℕ) → ((qs : Pairs) × OrderPairs ps qs × ObjectRun es r 0 qs) ↔ (objectFits es (members (judging es) ps (atOpening es)) r ≡ true)
+  pub some-order-iff-walk : (ps : Pairs) (r : ℕ)
+      → ((qs : Pairs) × OrderPairs ps qs × ObjectRun es r 0 qs) ↔ (objectFits es (members (judging es) ps (atOpening es)) r ≡ true)
   some-order-iff-walk ps r = (there, λ e. run-of-objectFits sound ps (judged-pairs ps) r (T-of-true accepted e))
     where
       accepted : Bool

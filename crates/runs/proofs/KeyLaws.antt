@@ -34,7 +34,8 @@ key-eq-of-number-eq (x ∷ ks) k l h e = go (same x k) refl (same x l) refl h e 
     holds : (b : Bool) → b ≡ true → T b
     holds b e = rw e tt
 
-    go : (a : Bool) → same x k ≡ a → (b : Bool) → same x l ≡ b → cond a 0 (suc (numberOf ks k)) < suc (length ks) → cond a 0 (suc (numberOf ks k)) ≡ cond b 0 (suc (numberOf ks l))
+    go : (a : Bool) → same x k ≡ a → (b : Bool) → same x l ≡ b → cond a 0 (suc (numberOf ks k)) < suc (length ks)
+        → cond a 0 (suc (numberOf ks k)) ≡ cond b 0 (suc (numberOf ks l))
         → (numberOf ks k < length ks → numberOf ks k ≡ numberOf ks l → k ≡ l) → k ≡ l
     go true p true q h e r = sym (eq-of-same x k (holds (same x k) p)) ∙ eq-of-same x l (holds (same x l) q)
     go true p false q h e r = absurd (omega arith)
@@ -64,7 +65,8 @@ member-keysFrom ks [] i = i
 member-keysFrom ks (edge r f q l t m ∷ es) i = member-keysFrom (withKey ks l) es (member-withKey ks l i)
 member-keysFrom ks (end-state r f q ∷ es) i = member-keysFrom ks es i
 
-key-member-from : (ks : List (List ℕ)) (es : List Entry) {r q m b : ℕ} {f : Form} {l : List ℕ} {t : ValueKind} → edge r f q (b ∷ l) t m ∈ es → List·Memᴰ (b ∷ l) (keysFrom ks es)
+key-member-from : (ks : List (List ℕ)) (es : List Entry) {r q m b : ℕ} {f : Form} {l : List ℕ} {t : ValueKind} → edge r f q (b ∷ l) t m ∈ es
+    → List·Memᴰ (b ∷ l) (keysFrom ks es)
 unfolding keysFrom
 key-member-from ks (edge r f q k t m ∷ es) {b} {l} (List·Memᴰ·head e) =
     let d : b ∷ l ≡ k = cc in member-keysFrom (withKey ks k) es (rw (← d) (new-withKey ks b l))

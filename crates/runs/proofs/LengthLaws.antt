@@ -76,7 +76,8 @@ pairCount-order (order-pairs o os i) = pairCount-insert i ∙ ap suc (pairCount-
 
 module _ {es : List Entry} (sound : Sound es) (below : StatesBelow16 es) where
   -- S has the state of the run, and what edges with key numbers from c on lead to: the run meets a new state of S with each pair
-  pairCount-lt-states : (r c : ℕ) (S : ℕ → Bool) → ((q m : ℕ) (k : List ℕ) (t : ValueKind) → edge r obj q k t m ∈ es → c ≤ numberIn es k → T (S m)) → {q : ℕ} {ps : Pairs} → ObjectRun es r q ps
+  pairCount-lt-states : (r c : ℕ) (S : ℕ → Bool) → ((q m : ℕ) (k : List ℕ) (t : ValueKind) → edge r obj q k t m ∈ es → c ≤ numberIn es k → T (S m))
+      → {q : ℕ} {ps : Pairs} → ObjectRun es r q ps
       → ((k : List ℕ) (v : Json) → Among k v ps → c ≤ numberIn es k) → T (S q) → q < 16 → pairCount ps < countBelow S 16
   pairCount-lt-states r c S next {q} (object-end i) above s h = let e : suc (countBelow (without q S) 16) ≡ countBelow S 16 = countBelow-without q S 16 s h in omega arith
   pairCount-lt-states r c S next {q} (object-edge {m} {k} {t} {v} {ps} i f run) above s h =

@@ -36,7 +36,8 @@ module _ (es : List Entry) where
   pub data FitsAt (c : ℕ) (w : ValueKind → Bool) (e : ℕ) : Type 0 where
     fits-at : {x : Entry} → EdgeFrom 0 es e x → T (hasKey (keysOf es) c x) → T (asks w x) → FitsAt c w e
 
-  pub fitsEdge-of-edge : (c : ℕ) (w : ValueKind → Bool) {e : ℕ} {x : Entry} → EdgeFrom 0 es e x → T (hasKey (keysOf es) c x) → T (asks w x) → T (fitsEdge es c w e)
+  pub fitsEdge-of-edge : (c : ℕ) (w : ValueKind → Bool) {e : ℕ} {x : Entry} → EdgeFrom 0 es e x → T (hasKey (keysOf es) c x) → T (asks w x)
+      → T (fitsEdge es c w e)
   unfolding fitsEdge
   fitsEdge-of-edge c w {e} {x} i h g =
       anyEdge-of-edge (λ (i : ℕ) (x : Entry). eqb i e && (hasKey (keysOf es) c x && asks w x)) i
@@ -67,7 +68,8 @@ module _ (es : List Entry) where
   seen-stays (pairs k v ps) o c h = rw (members-pairs k v ps o) (seen-stays ps (afterPair o k v) c (T-or-left (o .seen c) (eqb c (numberIn es k) && ltb c (keyCount es)) h))
 
   -- a key of the book that was met is seen
-  pub seen-of-among : {k : List ℕ} {v : Json} {ps : Pairs} (o : OpenObject) → Among k v ps → numberIn es k < keyCount es → T ((members (judging es) ps o) .seen (numberIn es k))
+  pub seen-of-among : {k : List ℕ} {v : Json} {ps : Pairs} (o : OpenObject) → Among k v ps → numberIn es k < keyCount es
+      → T ((members (judging es) ps o) .seen (numberIn es k))
   unfolding afterKey afterValue
   seen-of-among {k} {v} o (first {ps}) h =
       rw (members-pairs k v ps o)
@@ -103,7 +105,8 @@ module _ (es : List Entry) where
 
   -- edge e has the key of some pair whose value it asks for
   pub data FittingBy (e : ℕ) (ps : Pairs) : Type 0 where
-    fitting-by : {k : List ℕ} {v : Json} {x : Entry} → Among k v ps → EdgeFrom 0 es e x → T (hasKey (keysOf es) (numberIn es k) x) → T (asks (meaning (judging es) v) x) → FittingBy e ps
+    fitting-by : {k : List ℕ} {v : Json} {x : Entry} → Among k v ps → EdgeFrom 0 es e x → T (hasKey (keysOf es) (numberIn es k) x)
+        → T (asks (meaning (judging es) v) x) → FittingBy e ps
 
   fitting-stays : (ps : Pairs) (o : OpenObject) (e : ℕ) → T (o .fitting e) → T ((members (judging es) ps o) .fitting e)
   unfolding afterKey afterValue
@@ -113,7 +116,8 @@ module _ (es : List Entry) where
       (fitting-stays ps (afterPair o k v) e (T-or-left (o .fitting e) (ltb (numberIn es k) (keyCount es) && fitsEdge es (numberIn es k) (meaning (judging es) v) e) h))
 
   -- an edge with a pair's key that asks for its value is a fitting one
-  pub fitting-of-among : {k : List ℕ} {v : Json} {ps : Pairs} {e : ℕ} {x : Entry} (o : OpenObject) → Among k v ps → numberIn es k < keyCount es → EdgeFrom 0 es e x
+  pub fitting-of-among : {k : List ℕ} {v : Json} {ps : Pairs} {e : ℕ} {x : Entry} (o : OpenObject) → Among k v ps → numberIn es k < keyCount es
+      → EdgeFrom 0 es e x
       → T (hasKey (keysOf es) (numberIn es k) x) → T (asks (meaning (judging es) v) x) → T ((members (judging es) ps o) .fitting e)
   unfolding afterKey afterValue
   fitting-of-among {k} {v} {e} o (first {ps}) h i a b =
@@ -224,7 +228,8 @@ module _ (es : List Entry) where
       }
 
   -- no mark: the keys are keys of the book
-  pub known-of-unmarked : {k : List ℕ} {v : Json} (ps : Pairs) → T (not ((members (judging es) ps (atOpening es)) .marked)) → Among k v ps → numberIn es k < keyCount es
+  pub known-of-unmarked : {k : List ℕ} {v : Json} (ps : Pairs) → T (not ((members (judging es) ps (atOpening es)) .marked)) → Among k v ps
+      → numberIn es k < keyCount es
   known-of-unmarked ps h a = (clean-of-unmarked ps (atOpening es) h) .known a
 
   -- no mark: no key stands twice
@@ -232,6 +237,7 @@ module _ (es : List Entry) where
   once-of-unmarked ps h d = (clean-of-unmarked ps (atOpening es) h) .once d
 
   -- where the keys are keys of the book and none stands twice, there is no mark
-  pub unmarked-of-known-once : (ps : Pairs) → ((k : List ℕ) (v : Json) → Among k v ps → numberIn es k < keyCount es) → (KeyTwice ps → ⊥) → T (not ((members (judging es) ps (atOpening es)) .marked))
+  pub unmarked-of-known-once : (ps : Pairs) → ((k : List ℕ) (v : Json) → Among k v ps → numberIn es k < keyCount es) → (KeyTwice ps → ⊥)
+      → T (not ((members (judging es) ps (atOpening es)) .marked))
   unfolding atOpening
   unmarked-of-known-once ps known once = unmarked-of-clean ps (atOpening es) (record { unmarked = tt; known = λ {k} {v} a. known k v a; unseen = λ {k} {v} a. tt; once = once })

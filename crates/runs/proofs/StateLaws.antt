@@ -70,7 +70,8 @@ module _ (es : List Entry) where
   pub data MoveTo (p : ℕ → Entry → Bool) (S : States) (n m : ℕ) : Type 0 where
     move-to : {e q : ℕ} {f : Form} {k : List ℕ} {t : ValueKind} → EdgeFrom 0 es e (edge n f q k t m) → T (S n q) → T (p e (edge n f q k t m)) → MoveTo p S n m
 
-  pub moved-of-edge : (p : ℕ → Entry → Bool) (S : States) {e n q m : ℕ} {f : Form} {k : List ℕ} {t : ValueKind} → EdgeFrom 0 es e (edge n f q k t m) → T (S n q) → T (p e (edge n f q k t m)) → T (moved es p S n m)
+  pub moved-of-edge : (p : ℕ → Entry → Bool) (S : States) {e n q m : ℕ} {f : Form} {k : List ℕ} {t : ValueKind} → EdgeFrom 0 es e (edge n f q k t m)
+      → T (S n q) → T (p e (edge n f q k t m)) → T (moved es p S n m)
   unfolding moved leads
   moved-of-edge p S {e} {n} {q} {m} {f} {k} {t} i h g =
       anyEdge-of-edge (λ (e : ℕ) (x : Entry). leads S n m x && p e x) i
@@ -86,8 +87,8 @@ module _ (es : List Entry) where
           let g = T-and-right (leads S n m (edge r f q k t s)) (p e (edge r f q k t s)) d in
           let l′ = T-and-right (eqb r n) (eqb s m && S n q) l in
           let er : r ≡ n = eqb→eq r n (T-and-left (eqb r n) (eqb s m && S n q) l) in
-          let es : s ≡ m = eqb→eq s m (T-and-left (eqb s m) (S n q) l′) in
-          move-to (rw (er, es) at i) (T-and-right (eqb s m) (S n q) l′) (rw (er, es) at g)
+          let em : s ≡ m = eqb→eq s m (T-and-left (eqb s m) (S n q) l′) in
+          move-to (rw (er, em) at i) (T-and-right (eqb s m) (S n q) l′) (rw (er, em) at g)
       go e (end-state r f q) i d = absurd d
 
   -- ---- afterElement
@@ -96,7 +97,8 @@ module _ (es : List Entry) where
   pub data ElementMove (S : States) (w : ValueKind → Bool) (n m : ℕ) : Type 0 where
     element-move : {q : ℕ} {k : List ℕ} {t : ValueKind} → edge n arr q k t m ∈ es → T (S n q) → T (w t) → ElementMove S w n m
 
-  pub afterElement-of-edge : (S : States) (w : ValueKind → Bool) {n q m : ℕ} {k : List ℕ} {t : ValueKind} → edge n arr q k t m ∈ es → T (S n q) → T (w t) → T (afterElement es S w n m)
+  pub afterElement-of-edge : (S : States) (w : ValueKind → Bool) {n q m : ℕ} {k : List ℕ} {t : ValueKind} → edge n arr q k t m ∈ es → T (S n q)
+      → T (w t) → T (afterElement es S w n m)
   unfolding afterElement ofArray asks
   afterElement-of-edge S w i h g = let (e, j) = edge-of-member 0 i in moved-of-edge (λ (e : ℕ) (x : Entry). ofArray x && asks w x) S j h g
 

@@ -32,8 +32,9 @@ pub data RunFrom (es : List Entry) (S : States) (r : ℕ) (ps : Pairs) : Type 0 
   run-from : {q : ℕ} {qs : Pairs} → T (S r q) → OrderPairs ps qs → ObjectRun es r q qs → RunFrom es S r ps
 
 module _ (es : List Entry) (o : OpenObject) where
-  -- ---- the pairs that are left when the keys from number i on, n of them, are still to be used
+  -- ---- the pairs that are left
 
+  -- the keys from number i on, n of them, are still to be used: the pairs that are left have these, and each that was seen is among them
   record Left (i n : ℕ) (ps : Pairs) : Type 0 where
     above : {k : List ℕ} {v : Json} → Among k v ps → i ≤ numberIn es k
     below : {k : List ℕ} {v : Json} → Among k v ps → numberIn es k < i + n
@@ -53,7 +54,8 @@ module _ (es : List Entry) (o : OpenObject) where
       apart a p = rw (p, e) at (l .seen a)
 
   -- where the pair with key i is taken out, the others are left behind it
-  left-taken : {i n : ℕ} {k : List ℕ} {v : Json} {ps qs : Pairs} → Insert k v ps qs → numberIn es k ≡ i → ((l : List ℕ) (u : Json) → Among l u ps → suc i ≤ numberIn es l) → Left i (suc n) qs → Left (suc i) n ps
+  left-taken : {i n : ℕ} {k : List ℕ} {v : Json} {ps qs : Pairs} → Insert k v ps qs → numberIn es k ≡ i
+      → ((l : List ℕ) (u : Json) → Among l u ps → suc i ≤ numberIn es l) → Left i (suc n) qs → Left (suc i) n ps
   left-taken {i} {n} {k} {v} {ps} {qs} j e up l = record {
     above = λ {k = x} {v = u} a. up x u a;
     below = λ {k = x} {v = u} a. let h : numberIn es x < i + suc n = l .below (among-insert j a) in omega arith;
@@ -81,6 +83,7 @@ module _ (es : List Entry) (o : OpenObject) where
     once : KeyTwice ps → ⊥
     takes : {e r q m : ℕ} {k : List ℕ} {t : ValueKind} → EdgeFrom 0 es e (edge r obj q k t m) → T (o .fitting e) → i ≤ numberIn es k → Taking k t ps
 
+  -- the same behind a key that was not seen
   toRun-unseen : {i : ℕ} {ps : Pairs} → LeftToRun i ps → LeftToRun (suc i) ps
   toRun-unseen {i} l = record {
     good = λ {k} {v} a. l .good a;
@@ -89,6 +92,7 @@ module _ (es : List Entry) (o : OpenObject) where
     takes = λ {e} {r} {q} {m} {k} {t} j f h. l .takes j f (omega arith);
   }
 
+  -- the same where the pair with key i is taken out
   toRun-taken : {i : ℕ} {k : List ℕ} {v : Json} {ps qs : Pairs} → Insert k v ps qs → numberIn es k ≡ i → LeftToRun i qs → LeftToRun (suc i) ps
   toRun-taken {i} {k} {v} {ps} {qs} j e l = record {
     good = λ {k = x} {v = u} a. l .good (among-insert j a);
@@ -105,7 +109,8 @@ module _ (es : List Entry) (o : OpenObject) where
           go (inr b) = taking b w
 
   -- behind a pair that is taken out the key numbers are above its own
-  above-taken : {i n : ℕ} {k : List ℕ} {v : Json} {ps qs : Pairs} → Insert k v ps qs → numberIn es k ≡ i → Left i (suc n) qs → LeftToRun i qs → (x : List ℕ) (u : Json) → Among x u ps → suc i ≤ numberIn es x
+  above-taken : {i n : ℕ} {k : List ℕ} {v : Json} {ps qs : Pairs} → Insert k v ps qs → numberIn es k ≡ i → Left i (suc n) qs → LeftToRun i qs
+      → (x : List ℕ) (u : Json) → Among x u ps → suc i ≤ numberIn es x
   above-taken {i} {k} {ps} j e l m x u a = let h : i ≤ numberIn es x = l .above (among-insert j a) in let g = apart in omega arith
     where
       apart : numberIn es x ≡ i → ⊥
@@ -132,7 +137,8 @@ module _ (es : List Entry) (o : OpenObject) where
       Further = (qs : Pairs) → Left (suc i) n qs → LeftToRun (suc i) qs → (S′ : States) → T (ended es obj (walk es o (suc i) n S′) r) → RunFrom es S′ r qs
 
       -- the run from one state on, with the pair in front that leads there
-      taken : {k : List ℕ} {v : Json} {qs : Pairs} → Insert k v qs ps → numberIn es k ≡ i → Left (suc i) n qs → RunFrom es (moved es (atKey i) S) r qs → RunFrom es S r ps
+      taken : {k : List ℕ} {v : Json} {qs : Pairs} → Insert k v qs ps → numberIn es k ≡ i → Left (suc i) n qs → RunFrom es (moved es (atKey i) S) r qs
+          → RunFrom es S r ps
       taken {k} {v} {qs} j e l′ (run-from {q = p} {qs = rs} s os run) = by (edge-of-moved es (atKey i) S r p s)
         where
           fit : {q : ℕ} {x : List ℕ} {t : ValueKind} → T (S r q) → edge r obj q x t p ∈ es → k ≡ x → FitsInSomeOrder es t v → RunFrom es S r ps
@@ -180,7 +186,8 @@ module _ (es : List Entry) (o : OpenObject) where
         Further = (xs : Pairs) → Left (suc i) n xs → Fitting xs → (S′ : States) (r q : ℕ) → T (S′ r q) → ObjectRun es r q xs → T (ended es obj (walk es o (suc i) n S′) r)
 
         -- the pair with key i is the first, since the numbers rise
-        step : {xs : Pairs} → Left i (suc n) xs → Fitting xs → ObjectRun es r q xs → SeenBy es i xs → Further → T (ended es obj (walk es o (suc i) n (moved es (atKey i) S)) r)
+        step : {xs : Pairs} → Left i (suc n) xs → Fitting xs → ObjectRun es r q xs → SeenBy es i xs → Further
+            → T (ended es obj (walk es o (suc i) n (moved es (atKey i) S)) r)
         step l fit (object-end j) (seen-by a e) f = elim a [ ]
         step l fit (object-edge {m} {k} {t} {v = w} {ps = xs} j g run) (seen-by {k = x} {v = u} a e) f =
             let (d, y) = edge-of-member 0 j in
@@ -206,17 +213,19 @@ pub data AllJudged (es : List Entry) : Pairs → Type 0 where
   judged-none : AllJudged es no-pairs
   judged-pair : {k : List ℕ} {v : Json} {ps : Pairs} → Judged es v → AllJudged es ps → AllJudged es (pairs k v ps)
 
+-- each of them by itself
 judged-of-among : {es : List Entry} {k : List ℕ} {v : Json} {ps : Pairs} → AllJudged es ps → Among k v ps → Judged es v
 judged-of-among (judged-pair j js) first = j
 judged-of-among (judged-pair j js) (later a) = judged-of-among js a
 
--- an object's pairs after its last
+-- what is kept of an object behind its last pair
 abbrev kept : List Entry → Pairs → OpenObject
 kept es ps = members (judging es) ps (atOpening es)
 
 module _ {es : List Entry} (sound : Sound es) (ps : Pairs) (judgements : AllJudged es ps) where
   -- a fitting edge takes a pair that has its key
-  takes-of-fitting : {e r q m : ℕ} {k : List ℕ} {t : ValueKind} → EdgeFrom 0 es e (edge r obj q k t m) → T ((kept es ps) .fitting e) → Taking es (kept es ps) k t ps
+  takes-of-fitting : {e r q m : ℕ} {k : List ℕ} {t : ValueKind} → EdgeFrom 0 es e (edge r obj q k t m) → T ((kept es ps) .fitting e)
+      → Taking es (kept es ps) k t ps
   unfolding hasKey asks numberIn
   takes-of-fitting {e} {r} {q} {m} {k} {t} i h = go (among-of-fitting es ps e h)
     where
@@ -257,6 +266,7 @@ module _ {es : List Entry} (sound : Sound es) (ps : Pairs) (judgements : AllJudg
       from : RunFrom es (startOf es obj) r ps → (qs : Pairs) × OrderPairs ps qs × ObjectRun es r 0 qs
       from (run-from {q} {qs} s os run) = let e : q ≡ 0 = zero-of-start es obj r q s in (qs, os, rw e at run)
 
+  -- a rule that has a run has a state to start in
   start-of-run : {r q : ℕ} {qs : Pairs} → ObjectRun es r q qs → T (startOf es obj r 0)
   start-of-run (object-end i) = start-of-end es i
   start-of-run (object-edge i f run) = start-of-edge es i
@@ -283,7 +293,8 @@ module _ {es : List Entry} (sound : Sound es) (ps : Pairs) (judgements : AllJudg
         met = λ c g s. met c (among-of-seen es ps c s);
       }
 
-      fit : (e r q m : ℕ) (k : List ℕ) (t : ValueKind) (w : Json) → EdgeFrom 0 es e (edge r obj q k t m) → Among k w qs → Fits es t w → T ((kept es ps) .fitting e)
+      fit : (e r q m : ℕ) (k : List ℕ) (t : ValueKind) (w : Json) → EdgeFrom 0 es e (edge r obj q k t m) → Among k w qs → Fits es t w
+          → T ((kept es ps) .fitting e)
       fit e r q m k t w i a f =
           let (v, b, p) = before-of-order os a in
           fitting-of-among es (atOpening es) b (known b) i (eqb-refl (numberOf (keysOf es) k)) ((judged-of-among judgements b) .judged t (in-order p f))

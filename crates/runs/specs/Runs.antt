@@ -48,14 +48,16 @@ module _ (es : List Entry) where
       -- it accepts in an end state
       array-end : {r q : ℕ} → end-state r arr q ∈ es → ArrayRun r q no-values
       -- it takes one edge for each element
-      array-edge : {r q m : ℕ} {k : List ℕ} {t : ValueKind} {v : Json} {vs : Values} → edge r arr q k t m ∈ es → Fits t v → ArrayRun r m vs → ArrayRun r q (values v vs)
+      array-edge : {r q m : ℕ} {k : List ℕ} {t : ValueKind} {v : Json} {vs : Values} → edge r arr q k t m ∈ es → Fits t v → ArrayRun r m vs
+          → ArrayRun r q (values v vs)
 
     -- an accepting run of an `obj` rule, from a state on, over the pairs that are left
     pub data ObjectRun : ℕ → ℕ → Pairs → Type 0 where
       -- it accepts in an end state
       object-end : {r q : ℕ} → end-state r obj q ∈ es → ObjectRun r q no-pairs
       -- it takes one edge for each pair, and the pair needs the edge's key too
-      object-edge : {r q m : ℕ} {k : List ℕ} {t : ValueKind} {v : Json} {ps : Pairs} → edge r obj q k t m ∈ es → Fits t v → ObjectRun r m ps → ObjectRun r q (pairs k v ps)
+      object-edge : {r q m : ℕ} {k : List ℕ} {t : ValueKind} {v : Json} {ps : Pairs} → edge r obj q k t m ∈ es → Fits t v → ObjectRun r m ps
+          → ObjectRun r q (pairs k v ps)
 
 -- ---- some order of the pairs
 

@@ -93,6 +93,54 @@ mutual
   order-refl-pairs no-pairs = order-no-pairs
   order-refl-pairs (pairs k v ps) = order-pairs (order-refl v) (order-refl-pairs ps) in-front
 
+mutual
+  -- an order of a text has the text as an order
+  pub order-sym : {v w : Json} → Order v w → Order w v
+  order-sym order-word = order-word
+  order-sym order-string = order-string
+  order-sym order-number = order-number
+  order-sym (order-array os) = order-array (order-sym-values os)
+  order-sym (order-object os) = order-object (order-sym-pairs os)
+
+  order-sym-values : {vs ws : Values} → OrderValues vs ws → OrderValues ws vs
+  order-sym-values order-no-values = order-no-values
+  order-sym-values (order-values o os) = order-values (order-sym o) (order-sym-values os)
+
+  order-sym-pairs : {ps qs : Pairs} → OrderPairs ps qs → OrderPairs qs ps
+  order-sym-pairs order-no-pairs = order-no-pairs
+  order-sym-pairs (order-pairs o os i) = order-insert i (order-sym o) (order-sym-pairs os)
+
+-- two pairs can be put in one after the other or the other way round
+insert-insert : {k l : List ℕ} {v u : Json} {ps qs rs : Pairs} → Insert k v ps qs → Insert l u qs rs → (ts : Pairs) × Insert l u ps ts × Insert k v ts rs
+insert-insert {l} {u} {ps} i in-front = (pairs l u ps, in-front, behind i)
+insert-insert in-front (behind {ps = qs} {qs = rs} j) = (rs, j, in-front)
+insert-insert (behind {l = n} {u = x} i) (behind j) = let (ts, a, b) = insert-insert i j in (pairs n x ts, behind a, behind b)
+
+-- out of an order of pairs any of them can be taken, in the order that its value has there
+order-take : {k : List ℕ} {v : Json} {ps qs rs : Pairs} → Insert k v ps qs → OrderPairs qs rs → (w : Json) × (ts : Pairs) × Order v w × OrderPairs ps ts × Insert k w ts rs
+order-take in-front (order-pairs {w} {qs} o os i) = (w, qs, o, os, i)
+order-take (behind j) (order-pairs o os i) =
+    let (w, ts, p, os′, a) = order-take j os in
+    let (xs, b, c) = insert-insert a i in
+    (w, xs, p, order-pairs o os′ b, c)
+
+mutual
+  -- an order of an order is one
+  pub order-trans : {u v w : Json} → Order u v → Order v w → Order u w
+  order-trans order-word o = o
+  order-trans order-string o = o
+  order-trans order-number o = o
+  order-trans (order-array os) (order-array os′) = order-array (order-trans-values os os′)
+  order-trans (order-object os) (order-object os′) = order-object (order-trans-pairs os os′)
+
+  order-trans-values : {us vs ws : Values} → OrderValues us vs → OrderValues vs ws → OrderValues us ws
+  order-trans-values order-no-values os = os
+  order-trans-values (order-values o os) (order-values o′ os′) = order-values (order-trans o o′) (order-trans-values os os′)
+
+  order-trans-pairs : {ps qs rs : Pairs} → OrderPairs ps qs → OrderPairs qs rs → OrderPairs ps rs
+  order-trans-pairs order-no-pairs os = os
+  order-trans-pairs (order-pairs o os i) os′ = let (w, ts, p, q, j) = order-take i os′ in order-pairs (order-trans o p) (order-trans-pairs os q) j
+
 -- ---- Within
 
 pub within-of-among : {x : Json} {k : List ℕ} {v : Json} {ps : Pairs} → Among k v ps → Within x v → WithinPairs x ps

@@ -9,11 +9,11 @@ use borrow.Author.Tests.{eq-eqb, not-false, ltb-true}
 use Rattle.json.specs.Tree.{Json, object, Values, Pairs}
 use Rattle.table.specs.declared.kind.ValueKind.{ValueKind}
 use Rattle.book.specs.Entry.{obj, Entry, edge, keysOf, numberOf, clash}
-use Rattle.runs.specs.Runs.{_∈_, Fits, fits-array, fits-object, ArrayRun, array-edge, ObjectRun, object-edge, Among, first, later, KeyTwice, first-again, later-twice, Within, itself, in-array, in-object, WithinValues, in-element, in-later-element, WithinPairs, in-pair, in-later-pair, KeysOnce, FitsInSomeOrder, in-order}
+use Rattle.runs.specs.Runs.{_∈_, Fits, fits-array, fits-object, ArrayRun, array-edge, ObjectRun, object-edge, Order, order-array, order-object, Among, first, later, KeyTwice, first-again, later-twice, Within, itself, in-array, in-object, WithinValues, in-element, in-later-element, WithinPairs, in-pair, in-later-pair, KeysOnce, Compound, compound-array, compound-object, FitsInSomeOrder, in-order, Valid}
 use Rattle.runs.specs.Sound.{Sound}
 use Rattle.runs.specs.Walk.{keyCount, numberIn}
 use Rattle.runs.proofs.KeyLaws.{key-member, number-lt-of-member}
-use Rattle.runs.proofs.OrderLaws.{keys-once-of-order}
+use Rattle.runs.proofs.OrderLaws.{order-sym, order-trans, keys-once-of-order}
 
 module _ {es : List Entry} (sound : Sound es) where
   -- the key of an edge of an `obj` rule has a number among the keys
@@ -77,3 +77,17 @@ module _ {es : List Entry} (sound : Sound es) where
   -- nor in a value that fits in some order of its pairs
   pub keys-once-of-fits-in-some-order : {v : Json} {t : ValueKind} → FitsInSomeOrder es t v → KeysOnce v
   keys-once-of-fits-in-some-order (in-order o f) = keys-once-of-order o (keys-once-of-fits f)
+
+-- ---- the order of the pairs in a text does not matter
+
+compound-of-order : {v w : Json} → Order v w → Compound v → Compound w
+compound-of-order (order-array os) compound-array = compound-array
+compound-of-order (order-object os) compound-object = compound-object
+
+fits-of-order : {es : List Entry} {t : ValueKind} {v w : Json} → Order v w → FitsInSomeOrder es t v → FitsInSomeOrder es t w
+fits-of-order o (in-order p f) = in-order (order-trans (order-sym o) p) f
+
+-- where a text is valid, so is each order of it
+pub valid-of-order : {es : List Entry} {v w : Json} → Order v w → Valid es v → Valid es w
+valid-of-order o h =
+    record { root = compound-of-order o (h .root); keys-once = keys-once-of-order (order-sym o) (h .keys-once); run = fits-of-order o (h .run) }

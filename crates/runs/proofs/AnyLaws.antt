@@ -1,14 +1,12 @@
--- Laws of tests and of `any`, over the library's membership. Assumes nothing.
-use mathlib.Core.Bool.{Bool, true, false, not, _&&_, _||_}
+-- Laws of boolean tests, and of tests of a list over its members. Assumes nothing.
+use mathlib.Core.Bool.{Bool, true, false, not, _||_}
 use mathlib.Core.List.{List, [], _∷_, List·Memᴰ, List·Memᴰ·head, List·Memᴰ·tail}
-use mathlib.Core.Path.{_≡_, refl, sym, _∙_}
-use Prim.Native.Nat.{ℕ}
+use mathlib.Core.Path.{refl}
 use lib.Dec.{T}
 use Rattle.laws.specs.Lists.{any, all}
 use Rattle.laws.proofs.TestLaws.{T-and-left, T-and-right, T-or-elim}
-use Rattle.json.specs.Meaning.{fold}
 
--- ---- tests
+-- ---- disjunction and negation
 
 pub T-or-left : (a b : Bool) → T a → T (a || b)
 T-or-left true b h = tt
@@ -18,7 +16,7 @@ pub T-or-right : (a b : Bool) → T b → T (a || b)
 T-or-right true b h = tt
 T-or-right false b h = h
 
--- neither test holds
+-- where neither of two tests holds, their disjunction fails, and the other way round
 pub T-nor : (a b : Bool) → T (not a) → T (not b) → T (not (a || b))
 T-nor true b h g = h
 T-nor false b h g = g
@@ -31,6 +29,7 @@ pub T-nor-right : (a b : Bool) → T (not (a || b)) → T (not b)
 T-nor-right true b h = absurd h
 T-nor-right false b h = h
 
+-- a test that fails to fail holds, and the other way round
 pub T-of-not-not : (a : Bool) → T (not (not a)) → T a
 T-of-not-not true h = tt
 T-of-not-not false h = h
@@ -41,11 +40,13 @@ T-not-not false h = h
 
 -- ---- any
 
+-- where a test holds of a member, it holds of some member
 pub any-of-member : {A : Type 0} (f : A → Bool) {x : A} {xs : List A} → List·Memᴰ x xs → T (f x) → T (any f xs)
 unfolding any
 any-of-member f (List·Memᴰ·head {x = y} {xs} e) h = T-or-left (f y) (any f xs) (rw e at h)
 any-of-member f (List·Memᴰ·tail {x = y} {xs} i) h = T-or-right (f y) (any f xs) (any-of-member f i h)
 
+-- where a test holds of some member, there is one
 pub member-of-any : {A : Type 0} (f : A → Bool) (xs : List A) → T (any f xs) → (x : A) × List·Memᴰ x xs × T (f x)
 unfolding any
 member-of-any f [] h = absurd h
@@ -56,22 +57,8 @@ member-of-any {A} f (y ∷ xs) h = T-or-elim (f y) (any f xs) (λ (g : T (f y)).
 
 -- ---- all
 
+-- a test that holds of each member holds of this one
 pub T-of-all : {A : Type 0} (f : A → Bool) {x : A} (xs : List A) → T (all f xs) → List·Memᴰ x xs → T (f x)
 unfolding all
 T-of-all f (y ∷ xs) h (List·Memᴰ·head e) = rw e (T-and-left (f y) (all f xs) h)
 T-of-all f (y ∷ xs) h (List·Memᴰ·tail i) = T-of-all f xs (T-and-right (f y) (all f xs) h) i
-
--- ---- a test of each member, found from left to right
-
-and-true : (a : Bool) → a && true ≡ a
-and-true true = refl
-and-true false = refl
-
-and-assoc : (a b c : Bool) → (a && b) && c ≡ a && (b && c)
-and-assoc true b c = refl
-and-assoc false b c = refl
-
-pub fold-and : (f : ℕ → Bool) (b : Bool) (xs : List ℕ) → fold (λ (a : Bool) (x : ℕ). a && f x) b xs ≡ b && all f xs
-unfolding all
-fold-and f b [] = sym (and-true b)
-fold-and f b (x ∷ xs) = fold-and f (b && f x) xs ∙ and-assoc b (f x) (all f xs)

@@ -20,6 +20,7 @@ pub data EdgeFrom : ℕ → List Entry → ℕ → Entry → Type 0 where
       → EdgeFrom i (edge r f q k t m ∷ es) e x
   past-end : {i e r q : ℕ} {f : Form} {es : List Entry} {x : Entry} → EdgeFrom i es e x → EdgeFrom i (end-state r f q ∷ es) e x
 
+-- its number is not below the first's
 pub le-of-edge : {i e : ℕ} {es : List Entry} {x : Entry} → EdgeFrom i es e x → i ≤ e
 le-of-edge (this-edge p q) = omega arith
 le-of-edge {i} (past-edge h) = let g = le-of-edge h in omega arith
@@ -33,6 +34,7 @@ edge-unique (past-edge h) (this-edge p q) = let g = le-of-edge h in absurd (omeg
 edge-unique (past-edge h) (past-edge g) = edge-unique h g
 edge-unique (past-end h) (past-end g) = edge-unique h g
 
+-- it is an entry of the book
 pub member-of-edge : {i e : ℕ} {es : List Entry} {x : Entry} → EdgeFrom i es e x → x ∈ es
 member-of-edge (this-edge p q) = List·Memᴰ·head q
 member-of-edge (past-edge h) = List·Memᴰ·tail (member-of-edge h)
@@ -48,12 +50,14 @@ edge-of-member i {es = end-state _ _ _ ∷ _} (List·Memᴰ·tail h) = let (e, g
 
 -- ---- anyEdge
 
+-- a test that an edge passes is passed by some edge
 pub anyEdge-of-edge : (p : ℕ → Entry → Bool) {i e : ℕ} {es : List Entry} {x : Entry} → EdgeFrom i es e x → T (p e x) → T (anyEdge p i es)
 unfolding anyEdge
 anyEdge-of-edge p {i} (this-edge {r} {q} {m} {f} {k} {t} {es} a b) h = T-or-left (p i (edge r f q k t m)) (anyEdge p (suc i) es) (rw (a, b) at h)
 anyEdge-of-edge p {i} (past-edge {r} {q} {m} {f} {k} {t} {es} g) h = T-or-right (p i (edge r f q k t m)) (anyEdge p (suc i) es) (anyEdge-of-edge p g h)
 anyEdge-of-edge p (past-end g) h = anyEdge-of-edge p g h
 
+-- where some edge passes a test, there is one
 pub edge-of-anyEdge : (p : ℕ → Entry → Bool) (i : ℕ) (es : List Entry) → T (anyEdge p i es) → (e : ℕ) × (x : Entry) × EdgeFrom i es e x × T (p e x)
 unfolding anyEdge
 edge-of-anyEdge p i [] h = absurd h

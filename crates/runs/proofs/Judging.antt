@@ -75,6 +75,11 @@ module _ (es : List Entry) where
       back : {t : ValueKind} → FitsInSomeOrder es t (array vs) → T (meaning (judging es) (array vs) t)
       back (in-order (order-array os) f) = of-run os f
 
+-- only objects and arrays fit a rule
+pub compound-of-fits : {es : List Entry} {v : Json} {r : ℕ} → FitsInSomeOrder es (Rule r) v → Compound v
+compound-of-fits (in-order (order-array os) f) = compound-array
+compound-of-fits (in-order (order-object os) f) = compound-object
+
 module _ {es : List Entry} (sound : Sound es) where
   -- ---- objects
 
@@ -110,6 +115,8 @@ module _ {es : List Entry} (sound : Sound es) where
     judged-pairs no-pairs = judged-none
     judged-pairs (pairs k v ps) = judged-pair (judged-value v) (judged-pairs ps)
 
+  -- ---- the theorems
+
   -- a value is judged to fit a kind exactly when it does so in some order of the pairs within its objects
   pub fits-iff-judged : (v : Json) (t : ValueKind) → FitsInSomeOrder es t v ↔ (meaning (judging es) v t ≡ true)
   fits-iff-judged v t = (λ f. true-of-T (meaning (judging es) v t) ((judged-value v) .judged t f), λ e. (judged-value v) .fits t (T-of-true (meaning (judging es) v t) e))
@@ -124,11 +131,6 @@ module _ {es : List Entry} (sound : Sound es) where
 
       there : (qs : Pairs) × OrderPairs ps qs × ObjectRun es r 0 qs → accepted ≡ true
       there (qs, os, run) = true-of-T accepted (objectFits-of-run sound ps (judged-pairs ps) os run)
-
-  -- only objects and arrays fit a rule
-  pub compound-of-fits : {v : Json} {r : ℕ} → FitsInSomeOrder es (Rule r) v → Compound v
-  compound-of-fits (in-order (order-array os) f) = compound-array
-  compound-of-fits (in-order (order-object os) f) = compound-object
 
   -- a text is valid exactly when its value is judged to fit rule 0
   pub valid-iff-judged : (v : Json) → Valid es v ↔ (meaning (judging es) v (Rule 0) ≡ true)

@@ -1,15 +1,14 @@
 -- Laws of a book's keys and their numbers. Assumes nothing.
 use mathlib.Core.Bool.{Bool, true, false, not, cond}
-use mathlib.Core.List.{List, [], _∷_, _++_, append-assoc, append-nil, List·Memᴰ, List·Memᴰ·head, List·Memᴰ·tail, Memᴰ·append-left, Memᴰ·append-right, Memᴰ·cast}
+use mathlib.Core.List.{List, [], _∷_, List·Memᴰ, List·Memᴰ·head, List·Memᴰ·tail, Memᴰ·append-left, Memᴰ·append-right, Memᴰ·cast}
 use mathlib.Core.Path.{_≡_, refl, sym, _∙_}
-use Prim.Native.Nat.{ℕ, suc, _<_}
+use Prim.Native.Nat.{ℕ, suc, _<_, _≤_}
 use native.Mathlib.Omega.{arith}
 use lib.Dec.{T}
 use lib.ListN.{length}
 use Rattle.laws.specs.Lists.{any, same}
-use Rattle.laws.proofs.TestLaws.{cond-elim, cond-yes}
+use Rattle.laws.proofs.TestLaws.{T-of-true, cond-elim, cond-yes}
 use Rattle.laws.proofs.ListLaws.{same-refl, eq-of-same}
-use Rattle.json.specs.Meaning.{fold}
 use Rattle.book.specs.Entry.{Form, Entry, edge, end-state, withKey, keysFrom, keysOf, numberOf}
 use Rattle.table.specs.declared.kind.ValueKind.{ValueKind}
 use Rattle.runs.specs.Runs.{_∈_}
@@ -25,30 +24,37 @@ number-lt-of-member (x ∷ ks) k (List·Memᴰ·tail i) =
     let h = number-lt-of-member ks k i in
     cond-elim (λ (n : ℕ). n < suc (length ks)) (same x k) (λ (g : T (same x k)). omega arith) (λ (g : T (not (same x k))). omega arith)
 
+-- any key has at most the number behind the keys
+pub numberOf-le : (ks : List (List ℕ)) (k : List ℕ) → numberOf ks k ≤ length ks
+unfolding numberOf
+numberOf-le [] k = omega arith
+numberOf-le (x ∷ ks) k =
+    let h = numberOf-le ks k in
+    cond-elim (λ (n : ℕ). n ≤ suc (length ks)) (same x k) (λ (g : T (same x k)). omega arith) (λ (g : T (not (same x k))). omega arith)
+
 -- two keys of one number are the same
 pub key-eq-of-number-eq : (ks : List (List ℕ)) (k l : List ℕ) → numberOf ks k < length ks → numberOf ks k ≡ numberOf ks l → k ≡ l
 unfolding numberOf
 key-eq-of-number-eq [] k l h e = absurd (omega arith)
 key-eq-of-number-eq (x ∷ ks) k l h e = go (same x k) refl (same x l) refl h e (λ (g : numberOf ks k < length ks) (d : numberOf ks k ≡ numberOf ks l). key-eq-of-number-eq ks k l g d)
   where
-    holds : (b : Bool) → b ≡ true → T b
-    holds b e = rw e tt
-
     go : (a : Bool) → same x k ≡ a → (b : Bool) → same x l ≡ b → cond a 0 (suc (numberOf ks k)) < suc (length ks)
         → cond a 0 (suc (numberOf ks k)) ≡ cond b 0 (suc (numberOf ks l))
         → (numberOf ks k < length ks → numberOf ks k ≡ numberOf ks l → k ≡ l) → k ≡ l
-    go true p true q h e r = sym (eq-of-same x k (holds (same x k) p)) ∙ eq-of-same x l (holds (same x l) q)
+    go true p true q h e r = sym (eq-of-same x k (T-of-true (same x k) p)) ∙ eq-of-same x l (T-of-true (same x l) q)
     go true p false q h e r = absurd (omega arith)
     go false p true q h e r = absurd (omega arith)
     go false p false q h e r = r (omega arith) (omega arith)
 
 -- ---- keysOf
 
+-- a key stays a key
 member-withKey : (ks : List (List ℕ)) (l : List ℕ) {k : List ℕ} → List·Memᴰ k ks → List·Memᴰ k (withKey ks l)
 unfolding withKey
 member-withKey ks [] i = i
 member-withKey ks (b ∷ l) {k} i = cond-elim (λ (xs : List (List ℕ)). List·Memᴰ k xs) (any (same (b ∷ l)) ks) (λ h. i) (λ h. Memᴰ·append-left ((b ∷ l) ∷ []) i)
 
+-- a key that is added is one
 new-withKey : (ks : List (List ℕ)) (b : ℕ) (l : List ℕ) → List·Memᴰ (b ∷ l) (withKey ks (b ∷ l))
 unfolding withKey
 new-withKey ks b l =
@@ -59,6 +65,7 @@ new-withKey ks b l =
     old : (x : List ℕ) × List·Memᴰ x ks × T (same (b ∷ l) x) → List·Memᴰ (b ∷ l) ks
     old (x, i, h) = Memᴰ·cast (eq-of-same (b ∷ l) x h) i
 
+-- the keys so far are keys
 member-keysFrom : (ks : List (List ℕ)) (es : List Entry) {k : List ℕ} → List·Memᴰ k ks → List·Memᴰ k (keysFrom ks es)
 unfolding keysFrom
 member-keysFrom ks [] i = i
@@ -78,12 +85,3 @@ key-member-from ks (end-state r f q ∷ es) (List·Memᴰ·tail i) = key-member-
 pub key-member : (es : List Entry) {r q m b : ℕ} {f : Form} {l : List ℕ} {t : ValueKind} → edge r f q (b ∷ l) t m ∈ es → List·Memᴰ (b ∷ l) (keysOf es)
 unfolding keysOf
 key-member es i = key-member-from [] es i
-
--- ---- the characters of a key, one after the other
-
-fold-snoc-from : (s k : List ℕ) → fold (λ (a : List ℕ) (c : ℕ). a ++ (c ∷ [])) s k ≡ s ++ k
-fold-snoc-from s [] = sym (append-nil s)
-fold-snoc-from s (c ∷ k) = fold-snoc-from (s ++ (c ∷ [])) k ∙ append-assoc s (c ∷ []) k
-
-pub fold-snoc : (k : List ℕ) → fold (λ (a : List ℕ) (c : ℕ). a ++ (c ∷ [])) [] k ≡ k
-fold-snoc k = fold-snoc-from [] k

@@ -62,6 +62,7 @@ countBelow-without q S (suc n) s h = go (eqb n q) refl (λ (g : q < n). countBel
 
 -- ---- how many pairs there are
 
+-- the pairs of an object, counted
 abbrev pub pairCount : Pairs → ℕ
 pairCount no-pairs = 0
 pairCount (pairs k v ps) = suc (pairCount ps)

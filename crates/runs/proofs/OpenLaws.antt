@@ -13,7 +13,8 @@ use Rattle.book.specs.Entry.{Entry, keysOf}
 use Rattle.runs.specs.Runs.{Among, first, later, KeyTwice, first-again, later-twice}
 use Rattle.runs.specs.Walk.{asks, hasKey, OpenObject, keyCount, numberIn, atOpening, afterKey, fitsEdge, afterValue, judging}
 use Rattle.runs.proofs.AnyLaws.{T-or-left, T-or-right, T-nor, T-nor-left, T-nor-right, T-of-not-not, T-not-not}
-use Rattle.runs.proofs.KeyLaws.{fold-snoc, key-eq-of-number-eq}
+use Rattle.runs.proofs.FoldLaws.{fold-snoc}
+use Rattle.runs.proofs.KeyLaws.{key-eq-of-number-eq}
 use Rattle.runs.proofs.EdgeLaws.{EdgeFrom, anyEdge-of-edge, edge-of-anyEdge}
 
 module _ (es : List Entry) where
@@ -36,6 +37,7 @@ module _ (es : List Entry) where
   pub data FitsAt (c : ℕ) (w : ValueKind → Bool) (e : ℕ) : Type 0 where
     fits-at : {x : Entry} → EdgeFrom 0 es e x → T (hasKey (keysOf es) c x) → T (asks w x) → FitsAt c w e
 
+  -- such an edge is a fitting one
   pub fitsEdge-of-edge : (c : ℕ) (w : ValueKind → Bool) {e : ℕ} {x : Entry} → EdgeFrom 0 es e x → T (hasKey (keysOf es) c x) → T (asks w x)
       → T (fitsEdge es c w e)
   unfolding fitsEdge
@@ -43,6 +45,7 @@ module _ (es : List Entry) where
       anyEdge-of-edge (λ (i : ℕ) (x : Entry). eqb i e && (hasKey (keysOf es) c x && asks w x)) i
       (T-and (eqb e e) (hasKey (keysOf es) c x && asks w x) (eqb-refl e) (T-and (hasKey (keysOf es) c x) (asks w x) h g))
 
+  -- a fitting edge is such an edge
   pub edge-of-fitsEdge : (c : ℕ) (w : ValueKind → Bool) (e : ℕ) → T (fitsEdge es c w e) → FitsAt c w e
   unfolding fitsEdge
   edge-of-fitsEdge c w e h = go (edge-of-anyEdge test 0 es h)

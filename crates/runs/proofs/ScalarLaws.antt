@@ -12,7 +12,7 @@ use Rattle.table.specs.declared.kind.ValueKind.the-variants.{Plain, Rule}
 use Rattle.book.specs.Entry.{Entry}
 use Rattle.runs.specs.Runs.{beginsPart, isInteger, Fits, fits-null, fits-true, fits-false, fits-str, fits-num, fits-int, order-word, order-string, order-number, FitsInSomeOrder, in-order}
 use Rattle.runs.specs.Walk.{ofScalar, ofWord}
-use Rattle.runs.proofs.AnyLaws.{fold-and}
+use Rattle.runs.proofs.FoldLaws.{fold-and}
 use Rattle.runs.proofs.WalkLaws.{Judged}
 
 module _ (es : List Entry) where

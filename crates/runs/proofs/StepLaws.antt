@@ -1,29 +1,21 @@
 -- Laws of the steps by themselves, for a reader that keeps an open object in a frame: the numbers are bounded by the number of keys, and a walk
 -- over more keys than were seen is the same walk. Assumes nothing.
-use mathlib.Core.Bool.{Bool, false, not, _&&_, _||_}
-use mathlib.Core.List.{List, [], _∷_}
+use mathlib.Core.Bool.{Bool, false, _&&_, _||_}
+use mathlib.Core.List.{List}
 use mathlib.Core.Path.{_≡_, sym, ap, _∙_}
 use Prim.Native.Nat.{ℕ, zero, suc, _+_, _<_, _≤_}
 use native.Mathlib.Nat.{add-zero, add-suc, suc-add}
 use native.Mathlib.Omega.{arith}
 use lib.Dec.{T, eqb, ltb, ltb→lt}
-use lib.ListN.{length}
-use Rattle.laws.specs.Lists.{same}
-use Rattle.laws.proofs.TestLaws.{T-and-right, T-or-elim, cond-elim}
+use Rattle.laws.proofs.TestLaws.{T-and-right, T-or-elim}
 use Rattle.table.specs.declared.kind.ValueKind.{ValueKind}
-use Rattle.book.specs.Entry.{Entry, keysOf, numberOf}
+use Rattle.book.specs.Entry.{Entry, keysOf}
+use Rattle.runs.proofs.KeyLaws.{numberOf-le}
 use Rattle.runs.specs.Walk.{States, OpenObject, keyCount, numberIn, atOpening, afterKey, afterValue, useKey, walk}
 
--- ---- numbers
-
-numberOf-le : (ks : List (List ℕ)) (k : List ℕ) → numberOf ks k ≤ length ks
-unfolding numberOf
-numberOf-le [] k = omega arith
-numberOf-le (x ∷ ks) k =
-    let h = numberOf-le ks k in
-    cond-elim (λ (n : ℕ). n ≤ suc (length ks)) (same x k) (λ (g : T (same x k)). omega arith) (λ (g : T (not (same x k))). omega arith)
-
 module _ (es : List Entry) where
+  -- ---- numbers
+
   -- a key is one of the keys, or has the number behind them
   pub numberIn-le : (k : List ℕ) → numberIn es k ≤ keyCount es
   unfolding numberIn keyCount

@@ -1,5 +1,5 @@
 -- What a reader finds of a text from left to right, as a meaning: which kinds a finished value fits; sets of states in an open array; in an open
--- object what its frame keeps: 01, "Frames". Derived: `Judging.fits-iff-judged` joins it to `Runs.Fits`. Assumes nothing.
+-- object what its frame keeps: 01, "Frames". Derived: `Judging.fits-iff-judged` joins it to `Runs.FitsInSomeOrder`. Assumes nothing.
 use mathlib.Core.Bool.{Bool, true, false, not, cond, _&&_, _||_}
 use mathlib.Core.List.{List, [], _∷_, _++_}
 use Prim.Native.Nat.{ℕ, zero, suc}

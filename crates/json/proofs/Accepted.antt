@@ -133,14 +133,14 @@ module _ (𝕄 : Meaning) where
   -- ---- strings
 
   pub text-run : (k : Stack 𝕄) {m : StringMode} {s cs r : List ℕ} {w : Result} (g : Token 𝕄) → Continues m (g .bits) (g .high) s cs r
-           → Behind (finish 𝕄 (of-string (fold string-char (g .string) cs)) k) r w → Accepts 𝕄 (at (M.Text m) g k) s w
+      → Behind (finish 𝕄 (of-string (fold string-char (g .string) cs)) k) r w → Accepts 𝕄 (at (M.Text m) g k) s w
   unfolding step classOf isBreak isStructure
   text-run k g closes x = x _
   text-run k g (goes y c) x = rw (string-move-of-goes y) (text-run k _ c x)
   text-run k g (ends y c) x = rw (string-move-of-ends y) (text-run k _ c x)
 
   pub key-run : (k : Stack 𝕄) {m : StringMode} {s cs r : List ℕ} {w : Result} (g : Token 𝕄) → Continues m (g .bits) (g .high) s cs r
-          → ((e : Token 𝕄) → Accepts 𝕄 (at (M.At P.Colon) e (name 𝕄 (fold string-char (g .string) cs) k)) r w) → Accepts 𝕄 (at (M.Key m) g k) s w
+      → ((e : Token 𝕄) → Accepts 𝕄 (at (M.At P.Colon) e (name 𝕄 (fold string-char (g .string) cs) k)) r w) → Accepts 𝕄 (at (M.Key m) g k) s w
   unfolding step classOf isBreak isStructure
   key-run k g closes x = x _
   key-run k g (goes y c) x = rw (string-move-of-goes y) (key-run k _ c x)
@@ -157,7 +157,7 @@ module _ (𝕄 : Meaning) where
 
   -- a number that may end is a value behind which the bytes go on
   number-ends : (n : NumberMode) (g : Token 𝕄) (k : Stack 𝕄) (r : List ℕ) {w : Result} → T (mayEnd n)
-              → Behind (finish 𝕄 (of-number (g .number)) k) r w → Accepts 𝕄 (at (M.Number n) g k) r w
+      → Behind (finish 𝕄 (of-number (g .number)) k) r w → Accepts 𝕄 (at (M.Number n) g k) r w
   number-ends n g k [] h x = rw (true-of-T (mayEnd n) h) (x g)
   number-ends n g k (b ∷ r) {w} h x = go (behaved (topOf 𝕄 k) b) (x g)
     where
@@ -168,13 +168,13 @@ module _ (𝕄 : Meaning) where
       go (separates e) y = unfold step in rw (end-of-separates n b h e) (rw (topOf-finish (of-number (g .number)) k, ends-none (topOf 𝕄 k) b) at y)
 
   pub number-run : (k : Stack 𝕄) {n : NumberMode} {ds s r : List ℕ} {w : Result} (g : Token 𝕄) → NumberFrom n ds → Follow ds s r
-             → Behind (finish 𝕄 (of-number (fold number-byte (g .number) ds)) k) r w → Accepts 𝕄 (at (M.Number n) g k) s w
+      → Behind (finish 𝕄 (of-number (fold number-byte (g .number) ds)) k) r w → Accepts 𝕄 (at (M.Number n) g k) s w
   unfolding step
   number-run k {n} {r} g (ends-here h) follow-none x = number-ends n g k r h x
   number-run k g (goes-on y d) (follow f) x = rw (move-of-goes y) (number-run k _ d f x)
 
   begun-run : {ds s r : List ℕ} {w : Result} → Begun ds → Follow ds s r → (g : Token 𝕄) (k : Stack 𝕄)
-            → Behind (finish 𝕄 (of-number (fold number-byte number-start ds)) k) r w → Accepts 𝕄 (at (M.At P.Value) g k) s w
+      → Behind (finish 𝕄 (of-number (fold number-byte number-start ds)) k) r w → Accepts 𝕄 (at (M.At P.Value) g k) s w
   unfolding step
   begun-run (begun z d) (follow f) g k y = rw (number-start-step z) (number-run k _ d f y)
 
@@ -195,7 +195,7 @@ module _ (𝕄 : Meaning) where
   first-element g a k (b ∷ s) {w} x = go (λ y. first-element g a k s y) (isBlank b) refl (eqb b 0x5D) refl
     where
       go : (Accepts 𝕄 (at (M.At P.Value) g (in-array a k)) s w → Accepts 𝕄 (at (M.At P.First) g (in-array a k)) s w)
-         → (v : Bool) → isBlank b ≡ v → (u : Bool) → eqb b 0x5D ≡ u → Accepts 𝕄 (at (M.At P.First) g (in-array a k)) (b ∷ s) w
+          → (v : Bool) → isBlank b ≡ v → (u : Bool) → eqb b 0x5D ≡ u → Accepts 𝕄 (at (M.At P.First) g (in-array a k)) (b ∷ s) w
       go more true e u f = rw e (more (rw e at x))
       go more false e true f =
           let z : Accepts 𝕄 fault s w = rw (eqb-true b 0x5D f) at x in
@@ -209,7 +209,7 @@ module _ (𝕄 : Meaning) where
   first-key g o k (b ∷ s) {w} x = go (λ y. first-key g o k s y) (isBlank b) refl (eqb b 0x7D) refl
     where
       go : (Accepts 𝕄 (at (M.At P.Key) g (in-object o k)) s w → Accepts 𝕄 (at (M.At P.First) g (in-object o k)) s w)
-         → (v : Bool) → isBlank b ≡ v → (u : Bool) → eqb b 0x7D ≡ u → Accepts 𝕄 (at (M.At P.First) g (in-object o k)) (b ∷ s) w
+          → (v : Bool) → isBlank b ≡ v → (u : Bool) → eqb b 0x7D ≡ u → Accepts 𝕄 (at (M.At P.First) g (in-object o k)) (b ∷ s) w
       go more true e u f = rw e (more (rw e at x))
       go more false e true f =
           let z : Accepts 𝕄 fault s w = rw (eqb-true b 0x7D f) at x in
@@ -232,18 +232,18 @@ module _ (𝕄 : Meaning) where
     element-run {v} (element b e c) g k y = over-blanks P.Value g k b (value-run e g k (λ h. over-blanks P.After h (finish 𝕄 (meaning 𝕄 v) k) c (y h)))
 
     elements-run : {s r : List ℕ} {vs : Values} {w : Result} → Elements s vs r → (g : Token 𝕄) (a : InArray) (k : Stack 𝕄)
-                 → Behind (in-array (elements 𝕄 vs a) k) r w → Accepts 𝕄 (at (M.At P.Value) g (in-array a k)) s w
+        → Behind (in-array (elements 𝕄 vs a) k) r w → Accepts 𝕄 (at (M.At P.Value) g (in-array a k)) s w
     elements-run (last-element e) g a k y = element-run e g (in-array a k) y
     elements-run (more-elements {v} e f) g a k y = element-run e g (in-array a k) (λ h. elements-run f h (array-element a (meaning 𝕄 v)) k y)
 
     member-run : {s r n : List ℕ} {v : Json} {w : Result} → Member s n v r → (g : Token 𝕄) (o : InObject) (k : Stack 𝕄)
-               → Behind (in-object (object-value (object-key o (fold string-char string-start n)) (meaning 𝕄 v)) k) r w → Accepts 𝕄 (at (M.At P.Key) g (in-object o k)) s w
+        → Behind (in-object (object-value (object-key o (fold string-char string-start n)) (meaning 𝕄 v)) k) r w → Accepts 𝕄 (at (M.At P.Key) g (in-object o k)) s w
     member-run (member {k = n} b c d e) g o k y =
         over-blanks P.Key g (in-object o k) b (key-run (in-object o k) _ (continues-of-chars c _ _)
         (λ h. over-blanks P.Colon h (in-object (object-key o (fold string-char string-start n)) k) d (element-run e h (in-object (object-key o (fold string-char string-start n)) k) y)))
 
     members-run : {s r : List ℕ} {ps : Pairs} {w : Result} → Members s ps r → (g : Token 𝕄) (o : InObject) (k : Stack 𝕄)
-                → Behind (in-object (members 𝕄 ps o) k) r w → Accepts 𝕄 (at (M.At P.Key) g (in-object o k)) s w
+        → Behind (in-object (members 𝕄 ps o) k) r w → Accepts 𝕄 (at (M.At P.Key) g (in-object o k)) s w
     members-run (last-member e) g o k y = member-run e g o k y
     members-run (more-members {k = n} {v} e f) g o k y = member-run e g o k (λ h. members-run f h (object-value (object-key o (fold string-char string-start n)) (meaning 𝕄 v)) k y)
 

@@ -22,7 +22,7 @@ pub data Continues : StringMode → ℕ → ℕ → List ℕ → List ℕ → Li
   closes : {x h : ℕ} {r : List ℕ} → Continues S.Char x h (0x22 ∷ r) [] r
   goes : {m n : StringMode} {x h b : ℕ} {s cs r : List ℕ} → Goes m b n → Continues n (bitsAfter m x b) (highAfter m x h b) s cs r → Continues m x h (b ∷ s) cs r
   ends : {m : StringMode} {x h b : ℕ} {s cs r : List ℕ} → Ends m b → Continues S.Char (bitsAfter m x b) (highAfter m x h b) s cs r
-       → Continues m x h (b ∷ s) (charOf m x h b ∷ cs) r
+      → Continues m x h (b ∷ s) (charOf m x h b ∷ cs) r
 
 -- ---- the registers
 
@@ -176,13 +176,13 @@ module _ {t cs r : List ℕ} (K : (x h : ℕ) → Continues S.Char x h t cs r) w
 
   -- four digits of a code unit that is no surrogate
   unit-continues : (a b c d x h : ℕ) → hexOf a < 16 → hexOf b < 16 → hexOf c < 16 → hexOf d < 16
-                 → T (not (within 0xD800 0xDFFF (hexMore (hexMore (hexMore (hexOf a) (hexOf b)) (hexOf c)) (hexOf d))))
-                 → Continues S.Unit1 x h (a ∷ b ∷ c ∷ d ∷ t) (hexMore (hexMore (hexMore (hexOf a) (hexOf b)) (hexOf c)) (hexOf d) ∷ cs) r
+      → T (not (within 0xD800 0xDFFF (hexMore (hexMore (hexMore (hexOf a) (hexOf b)) (hexOf c)) (hexOf d))))
+      → Continues S.Unit1 x h (a ∷ b ∷ c ∷ d ∷ t) (hexMore (hexMore (hexMore (hexOf a) (hexOf b)) (hexOf c)) (hexOf d) ∷ cs) r
   unit-continues a b c d x h p q u v n =
       rw (← unit-number (hexOf a) (hexOf b) (hexOf c) (hexOf d) p q u v) (go (eqb (hexOf a) 13) refl)
     where
       go : (y : Bool) → eqb (hexOf a) 13 ≡ y
-         → Continues S.Unit1 x h (a ∷ b ∷ c ∷ d ∷ t) (hexBits (hexBits (hexBits (hexOf a) (hexOf b)) (hexOf c)) (hexOf d) ∷ cs) r
+          → Continues S.Unit1 x h (a ∷ b ∷ c ∷ d ∷ t) (hexBits (hexBits (hexBits (hexOf a) (hexOf b)) (hexOf c)) (hexOf d) ∷ cs) r
       go true e = goes (digit-1D (eqb-true (hexOf a) 13 e)) (goes (digit-2-below below) (goes (digit-3 u) (ends (digit-4 v) (K _ _))))
         where
           below : hexOf b < 8
@@ -191,11 +191,11 @@ module _ {t cs r : List ℕ} (K : (x h : ℕ) → Continues S.Char x h t cs r) w
 
   -- eight digits of a surrogate pair
   pair-continues : (a b c d e f g i x h : ℕ) → hexOf a < 16 → hexOf b < 16 → hexOf c < 16 → hexOf d < 16
-                 → hexOf e < 16 → hexOf f < 16 → hexOf g < 16 → hexOf i < 16
-                 → (u v : ℕ) → u ≡ hexMore (hexMore (hexMore (hexOf a) (hexOf b)) (hexOf c)) (hexOf d)
-                 → v ≡ hexMore (hexMore (hexMore (hexOf e) (hexOf f)) (hexOf g)) (hexOf i)
-                 → T (within 0xD800 0xDBFF u) → T (within 0xDC00 0xDFFF v)
-                 → Continues S.Unit1 x h (a ∷ b ∷ c ∷ d ∷ 0x5C ∷ 0x75 ∷ e ∷ f ∷ g ∷ i ∷ t) (paired u v ∷ cs) r
+      → hexOf e < 16 → hexOf f < 16 → hexOf g < 16 → hexOf i < 16
+      → (u v : ℕ) → u ≡ hexMore (hexMore (hexMore (hexOf a) (hexOf b)) (hexOf c)) (hexOf d)
+      → v ≡ hexMore (hexMore (hexMore (hexOf e) (hexOf f)) (hexOf g)) (hexOf i)
+      → T (within 0xD800 0xDBFF u) → T (within 0xDC00 0xDFFF v)
+      → Continues S.Unit1 x h (a ∷ b ∷ c ∷ d ∷ 0x5C ∷ 0x75 ∷ e ∷ f ∷ g ∷ i ∷ t) (paired u v ∷ cs) r
   pair-continues a b c d e f g i x h ha hb hc hd he hf hg hi u v eu ev p q =
       let H = second-of-high (hexOf a) (hexOf b) (hexOf c) (hexOf d) ha hb hc hd (rw eu at p) in
       let L = second-of-low (hexOf e) (hexOf f) (hexOf g) (hexOf i) he hf hg hi (rw ev at q) in
@@ -240,13 +240,13 @@ module _ (a b c d : ℕ) (ha : hexOf a < 16) (hb : hexOf b < 16) (hc : hexOf c <
   unit-of-digits t = code-unit (hex-of-lt a ha) (hex-of-lt b hb) (hex-of-lt c hc) (hex-of-lt d hd)
 
   unit-chars : {t cs r : List ℕ} → T (not (within 0xD800 0xDFFF (hexMore (hexMore (hexMore (hexOf a) (hexOf b)) (hexOf c)) (hexOf d)))) → Chars t cs r
-             → Chars (0x5C ∷ 0x75 ∷ a ∷ b ∷ c ∷ d ∷ t) (hexBits (hexBits (hexBits (hexOf a) (hexOf b)) (hexOf c)) (hexOf d) ∷ cs) r
+      → Chars (0x5C ∷ 0x75 ∷ a ∷ b ∷ c ∷ d ∷ t) (hexBits (hexBits (hexBits (hexOf a) (hexOf b)) (hexOf c)) (hexOf d) ∷ cs) r
   unit-chars {t} n k = rw (unit-number (hexOf a) (hexOf b) (hexOf c) (hexOf d) ha hb hc hd) (chars (unit (unit-of-digits t) n) k)
 
 pair-chars : (a b c d e f g i : ℕ) → hexOf a ≡ 13 → 8 ≤ hexOf b → hexOf b < 12 → hexOf c < 16 → hexOf d < 16
-           → hexOf e ≡ 13 → 12 ≤ hexOf f → hexOf f < 16 → hexOf g < 16 → hexOf i < 16 → {t cs r : List ℕ} → Chars t cs r
-           → Chars (0x5C ∷ 0x75 ∷ a ∷ b ∷ c ∷ d ∷ 0x5C ∷ 0x75 ∷ e ∷ f ∷ g ∷ i ∷ t)
-             (pairOf (hexBits (hexBits (hexBits (hexOf a) (hexOf b)) (hexOf c)) (hexOf d)) (hexBits (hexBits (hexBits (hexOf e) (hexOf f)) (hexOf g)) (hexOf i)) ∷ cs) r
+    → hexOf e ≡ 13 → 12 ≤ hexOf f → hexOf f < 16 → hexOf g < 16 → hexOf i < 16 → {t cs r : List ℕ} → Chars t cs r
+    → Chars (0x5C ∷ 0x75 ∷ a ∷ b ∷ c ∷ d ∷ 0x5C ∷ 0x75 ∷ e ∷ f ∷ g ∷ i ∷ t)
+    (pairOf (hexBits (hexBits (hexBits (hexOf a) (hexOf b)) (hexOf c)) (hexOf d)) (hexBits (hexBits (hexBits (hexOf e) (hexOf f)) (hexOf g)) (hexOf i)) ∷ cs) r
 pair-chars a b c d e f g i ea lb hb hc hd ee lf hf hg hi {t} k =
     let ha : hexOf a < 16 = omega arith in
     let hb′ : hexOf b < 16 = omega arith in
@@ -292,5 +292,5 @@ chars-of-continues (goes backslash (goes letter-u (goes (digit-1D {b = a} ea) (g
     let hb′ : hexOf b < 16 = omega arith in
     unit-chars a b c d ha hb′ hc hd (no-surrogate-below (hexOf a) (hexOf b) (hexOf c) (hexOf d) ha hb′ hc hd ea hb) (chars-of-continues k)
 chars-of-continues (goes backslash (goes letter-u (goes (digit-1D {b = a} ea) (goes (digit-2-high {b} lb hb) (goes (high-3 {b = c} hc) (goes (high-4 {b = d} hd)
-  (goes low-backslash (goes low-u (goes (low-1 {b = e} ee) (goes (low-2 {b = f} lf hf) (goes (low-3 {b = g} hg) (ends (low-4 {b = i} hi) k)))))))))))) =
+    (goes low-backslash (goes low-u (goes (low-1 {b = e} ee) (goes (low-2 {b = f} lf hf) (goes (low-3 {b = g} hg) (ends (low-4 {b = i} hi) k)))))))))))) =
     pair-chars a b c d e f g i ea lb hb hc hd ee lf hf hg hi (chars-of-continues k)

@@ -155,7 +155,7 @@ module _ (𝕄 : Meaning) where
 
   -- the letters of a word that are left
   letters-run : (g : Token 𝕄) (k : Stack 𝕄) (r : List ℕ) (y : Word) (i : ℕ) {w : Result} → T (ltb i (length (spelling (wordOf y))))
-              → Behind 𝕄 (finish 𝕄 (of-word (wordOf y)) k) r w → Accepts 𝕄 (at (M.Word y i) g k) (drop i (spelling (wordOf y)) ++ r) w
+      → Behind 𝕄 (finish 𝕄 (of-word (wordOf y)) k) r w → Accepts 𝕄 (at (M.Word y i) g k) (drop i (spelling (wordOf y)) ++ r) w
   unfolding spelling step letterMove
   letters-run g k r W.Null zero h x = x g
   letters-run g k r W.Null (suc zero) h x = x g
@@ -255,7 +255,7 @@ module _ (𝕄 : Meaning) where
       J cs = in-object (object-key o (fold string-char (g .string) cs)) k
 
       ended : {s cs : List ℕ} → Continues m (g .bits) (g .high) s cs (0x3A ∷ 0x6E ∷ 0x75 ∷ 0x6C ∷ 0x6C ∷ 0x7D ∷ closing k)
-            → Closes (finish 𝕄 (of-word null-word) (J cs)) (closing (J cs)) → Hope (at (M.Key m) g (in-object o k))
+          → Closes (finish 𝕄 (of-word null-word) (J cs)) (closing (J cs)) → Hope (at (M.Key m) g (in-object o k))
       ended {s} c (closes-with w x) = hope s w (key-run 𝕄 (in-object o k) g c x)
 
       go : CompletedString m (g .bits) (g .high) (0x3A ∷ 0x6E ∷ 0x75 ∷ 0x6C ∷ 0x6C ∷ 0x7D ∷ closing k) → Hope (at (M.Key m) g (in-object o k))
@@ -346,7 +346,7 @@ module _ (𝕄 : Meaning) where
   stops-of-place (b ∷ s) q i d e = go (λ j. stops-of-place s (step 𝕄 q b) j) (isFault 𝕄 (step 𝕄 q b)) refl
     where
       go : ((j : ℕ) → isFault 𝕄 (step 𝕄 q b) ≡ false → placeFrom 𝕄 (step 𝕄 q b) s ≡ some j → Stops (step 𝕄 q b) s j)
-         → (v : Bool) → isFault 𝕄 (step 𝕄 q b) ≡ v → Stops q (b ∷ s) i
+          → (v : Bool) → isFault 𝕄 (step 𝕄 q b) ≡ v → Stops q (b ∷ s) i
       go ih true f = let h : 0 ≡ i = cc (place-here q b s f) in rw (← h) (record { inside = omega arith; before = d; behind = f })
       go ih false f =
           let l = some-of-later (placeFrom 𝕄 (step 𝕄 q b) s) i (sym (place-later q b s f) ∙ e) in
@@ -358,7 +358,7 @@ module _ (𝕄 : Meaning) where
   alive-of-no-place (b ∷ s) q d e = go (alive-of-no-place s (step 𝕄 q b)) (isFault 𝕄 (step 𝕄 q b)) refl
     where
       go : (isFault 𝕄 (step 𝕄 q b) ≡ false → placeFrom 𝕄 (step 𝕄 q b) s ≡ none → isFault 𝕄 (run 𝕄 (step 𝕄 q b) s) ≡ false)
-         → (v : Bool) → isFault 𝕄 (step 𝕄 q b) ≡ v → isFault 𝕄 (run 𝕄 (step 𝕄 q b) s) ≡ false
+          → (v : Bool) → isFault 𝕄 (step 𝕄 q b) ≡ v → isFault 𝕄 (run 𝕄 (step 𝕄 q b) s) ≡ false
       go ih true f = no-result {A = ℕ} (sym e ∙ place-here q b s f)
       go ih false f = ih f (none-of-later _ (sym (place-later q b s f) ∙ e))
 
@@ -372,7 +372,7 @@ module _ (𝕄 : Meaning) where
       record {
         inside = r .inside;
         before = begins-of-alive (take i p) (r .before);
-        behind = λ b. true-and-false (alive-of-begins (take (suc i) p) b) (r .behind)
+        behind = λ b. true-and-false (alive-of-begins (take (suc i) p) b) (r .behind);
       }
 
   -- where it finds none, some text begins with the bytes

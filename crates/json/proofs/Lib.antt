@@ -7,3 +7,4 @@ pub mod Phrases
 pub mod Proper
 pub mod Sound
 pub mod Faults
+pub mod LevelLaws

@@ -56,33 +56,33 @@ module _ (𝕄 : Meaning) where
   data After : Stack 𝕄 → List ℕ → Result → Type 0 where
     after-whole : {s : List ℕ} {w : Result} → Ending s → After (whole w) s w
     after-element : {a : InArray} {k : Stack 𝕄} {s r : List ℕ} {vs : Values} {w : Result} → AfterElement s vs r
-                  → After (finish 𝕄 (of-array (elements 𝕄 vs a)) k) r w → After (in-array a k) s w
+        → After (finish 𝕄 (of-array (elements 𝕄 vs a)) k) r w → After (in-array a k) s w
     after-pair : {o : InObject} {k : Stack 𝕄} {s r : List ℕ} {ps : Pairs} {w : Result} → AfterPair s ps r
-               → After (finish 𝕄 (of-object (members 𝕄 ps o)) k) r w → After (in-object o k) s w
+        → After (finish 𝕄 (of-object (members 𝕄 ps o)) k) r w → After (in-object o k) s w
 
   -- the bytes may follow the state, and give the whole value
   data Rest : State 𝕄 → List ℕ → Result → Type 0 where
     rest-value : {g : Token 𝕄} {k : Stack 𝕄} {s r : List ℕ} {v : Json} {w : Result} → AtValue s v r
-               → After (finish 𝕄 (meaning 𝕄 v) k) r w → Rest (at (M.At P.Value) g k) s w
+        → After (finish 𝕄 (meaning 𝕄 v) k) r w → Rest (at (M.At P.Value) g k) s w
     rest-first-element : {g : Token 𝕄} {a : InArray} {k : Stack 𝕄} {s r : List ℕ} {vs : Values} {w : Result} → AtFirstElement s vs r
-                       → After (finish 𝕄 (of-array (elements 𝕄 vs a)) k) r w → Rest (at (M.At P.First) g (in-array a k)) s w
+        → After (finish 𝕄 (of-array (elements 𝕄 vs a)) k) r w → Rest (at (M.At P.First) g (in-array a k)) s w
     rest-first-key : {g : Token 𝕄} {o : InObject} {k : Stack 𝕄} {s r : List ℕ} {ps : Pairs} {w : Result} → AtFirstKey s ps r
-                   → After (finish 𝕄 (of-object (members 𝕄 ps o)) k) r w → Rest (at (M.At P.First) g (in-object o k)) s w
+        → After (finish 𝕄 (of-object (members 𝕄 ps o)) k) r w → Rest (at (M.At P.First) g (in-object o k)) s w
     rest-key : {g : Token 𝕄} {o : InObject} {k : Stack 𝕄} {s r : List ℕ} {ps : Pairs} {w : Result} → AtKey s ps r
-             → After (finish 𝕄 (of-object (members 𝕄 ps o)) k) r w → Rest (at (M.At P.Key) g (in-object o k)) s w
+        → After (finish 𝕄 (of-object (members 𝕄 ps o)) k) r w → Rest (at (M.At P.Key) g (in-object o k)) s w
     rest-colon : {g : Token 𝕄} {o : InObject} {k : Stack 𝕄} {s r : List ℕ} {v : Json} {ps : Pairs} {w : Result} → AtColon s v ps r
-               → After (finish 𝕄 (of-object (members 𝕄 ps (object-value o (meaning 𝕄 v)))) k) r w → Rest (at (M.At P.Colon) g (in-object o k)) s w
+        → After (finish 𝕄 (of-object (members 𝕄 ps (object-value o (meaning 𝕄 v)))) k) r w → Rest (at (M.At P.Colon) g (in-object o k)) s w
     rest-after : {g : Token 𝕄} {k : Stack 𝕄} {s : List ℕ} {w : Result} → After k s w → Rest (at (M.At P.After) g k) s w
     rest-text : {m : StringMode} {g : Token 𝕄} {k : Stack 𝕄} {s cs r : List ℕ} {w : Result} → Continues m (g .bits) (g .high) s cs r
-              → After (finish 𝕄 (of-string (fold string-char (g .string) cs)) k) r w → Rest (at (M.Text m) g k) s w
+        → After (finish 𝕄 (of-string (fold string-char (g .string) cs)) k) r w → Rest (at (M.Text m) g k) s w
     rest-in-key : {m : StringMode} {g : Token 𝕄} {o : InObject} {k : Stack 𝕄} {s cs t r : List ℕ} {v : Json} {ps : Pairs} {w : Result}
-                → Continues m (g .bits) (g .high) s cs t → AtColon t v ps r
-                → After (finish 𝕄 (of-object (members 𝕄 ps (object-value (object-key o (fold string-char (g .string) cs)) (meaning 𝕄 v)))) k) r w
-                → Rest (at (M.Key m) g (in-object o k)) s w
+        → Continues m (g .bits) (g .high) s cs t → AtColon t v ps r
+        → After (finish 𝕄 (of-object (members 𝕄 ps (object-value (object-key o (fold string-char (g .string) cs)) (meaning 𝕄 v)))) k) r w
+        → Rest (at (M.Key m) g (in-object o k)) s w
     rest-number : {n : NumberMode} {g : Token 𝕄} {k : Stack 𝕄} {ds s r : List ℕ} {w : Result} → NumberFrom n ds → Follow ds s r
-                → After (finish 𝕄 (of-number (fold number-byte (g .number) ds)) k) r w → Rest (at (M.Number n) g k) s w
+        → After (finish 𝕄 (of-number (fold number-byte (g .number) ds)) k) r w → Rest (at (M.Number n) g k) s w
     rest-word : {x : LexWord} {i : ℕ} {g : Token 𝕄} {k : Stack 𝕄} {s r : List ℕ} {w : Result} → Follow (drop i (spelling (wordOf x))) s r
-              → After (finish 𝕄 (of-word (wordOf x)) k) r w → Rest (at (M.Word x i) g k) s w
+        → After (finish 𝕄 (of-word (wordOf x)) k) r w → Rest (at (M.Word x i) g k) s w
 
   no-rest : {X : Type 0} {s : List ℕ} {w : Result} → Rest fault s w → X
   no-rest x = elim x [ ]
@@ -146,7 +146,7 @@ module _ (𝕄 : Meaning) where
     object-held k (rest-first-key e a) = held (from-object e) a
 
     number-held : (b : ℕ) (n : NumberMode) (k : Stack 𝕄) → Starts b n
-                → Rest (at (M.Number n) (record { bits = g .bits; high = g .high; string = g .string; number = number-byte number-start b }) k) s w → Held k (b ∷ s) w
+        → Rest (at (M.Number n) (record { bits = g .bits; high = g .high; string = g .string; number = number-byte number-start b }) k) s w → Held k (b ∷ s) w
     number-held b n k z (rest-number d e a) = held (from-number (number-of-from (begun z d)) (follow e)) a
 
     word-held : (b : ℕ) (x : LexWord) (k : Stack 𝕄) → spelling (wordOf x) ≡ b ∷ drop 1 (spelling (wordOf x)) → Rest (at (M.Word x 1) g k) s w → Held k (b ∷ s) w
@@ -192,7 +192,7 @@ module _ (𝕄 : Meaning) where
         begins b (held e (after-element f x)) = rest-first-element (value-first e f) x
 
     quoted-back : (o : InObject) (k : Stack 𝕄)
-                → Rest (at (M.Key S.Char) (record { bits = g .bits; high = g .high; string = string-start; number = g .number }) (in-object o k)) s w → Quoted o k s w
+        → Rest (at (M.Key S.Char) (record { bits = g .bits; high = g .high; string = string-start; number = g .number }) (in-object o k)) s w → Quoted o k s w
     quoted-back o k (rest-in-key c e x) = quoted (chars-of-continues c) e x
 
     first-key-back : (b : ℕ) (o : InObject) (k : Stack 𝕄) → Rest (take 𝕄 (atFirstKey b) 0 b g g (in-object o k)) s w → Rest (at (M.At P.First) g (in-object o k)) (b ∷ s) w
@@ -263,21 +263,21 @@ module _ (𝕄 : Meaning) where
     -- ---- inside a token
 
     text-back : {m : StringMode} {b : ℕ} {y : StringMove} (k : Stack 𝕄) → StringMoved m b y
-              → Rest (take 𝕄 (textStep y) (charIn 𝕄 (M.Text m) g b) b g (gather 𝕄 (M.Text m) g b) k) s w → Rest (at (M.Text m) g k) (b ∷ s) w
+        → Rest (take 𝕄 (textStep y) (charIn 𝕄 (M.Text m) g b) b g (gather 𝕄 (M.Text m) g b) k) s w → Rest (at (M.Text m) g k) (b ∷ s) w
     text-back k string-fault x = no-rest x
     text-back k moved-close (rest-after x) = rest-text closes x
     text-back k (string-go z) (rest-text c x) = rest-text (goes z c) x
     text-back k (moved-char z) (rest-text c x) = rest-text (ends z c) x
 
     in-key-back : {m : StringMode} {b : ℕ} {y : StringMove} (o : InObject) (k : Stack 𝕄) → StringMoved m b y
-                → Rest (take 𝕄 (keyStep y) (charIn 𝕄 (M.Key m) g b) b g (gather 𝕄 (M.Key m) g b) (in-object o k)) s w → Rest (at (M.Key m) g (in-object o k)) (b ∷ s) w
+        → Rest (take 𝕄 (keyStep y) (charIn 𝕄 (M.Key m) g b) b g (gather 𝕄 (M.Key m) g b) (in-object o k)) s w → Rest (at (M.Key m) g (in-object o k)) (b ∷ s) w
     in-key-back o k string-fault x = no-rest x
     in-key-back o k moved-close (rest-colon e x) = rest-in-key closes e x
     in-key-back o k (string-go z) (rest-in-key c e x) = rest-in-key (goes z c) e x
     in-key-back o k (moved-char z) (rest-in-key c e x) = rest-in-key (ends z c) e x
 
     number-back : {n : NumberMode} {b : ℕ} {y : NumberMove} (k : Stack 𝕄) → Moved n b y
-                → Rest (take 𝕄 (numberStep y (topOf 𝕄 k) b) 0 b g g k) s w → Rest (at (M.Number n) g k) (b ∷ s) w
+        → Rest (take 𝕄 (numberStep y (topOf 𝕄 k) b) 0 b g g k) s w → Rest (at (M.Number n) g k) (b ∷ s) w
     number-back k moved-fault x = no-rest x
     number-back k (moved-go z) (rest-number d f x) = rest-number (goes-on z d) (follow f) x
     number-back {b} k (moved-end h) x =
@@ -285,7 +285,7 @@ module _ (𝕄 : Meaning) where
         (after-back b (finish 𝕄 (of-number (g .number)) k) (rw (topOf-finish 𝕄 (of-number (g .number)) k, ends-none (topOf 𝕄 k) b) x))
 
     word-back : (b : ℕ) (y : LexWord) (i : ℕ) (k : Stack 𝕄)
-              → Rest (take 𝕄 (wordStep (letterMove (spelling (wordOf y)) i b) y i) 0 b g g k) s w → Rest (at (M.Word y i) g k) (b ∷ s) w
+        → Rest (take 𝕄 (wordStep (letterMove (spelling (wordOf y)) i b) y i) 0 b g g k) s w → Rest (at (M.Word y i) g k) (b ∷ s) w
     unfolding letterMove
     word-back b y i k =
         let Q : WordMove → Type 0 = λ m. Rest (take 𝕄 (wordStep m y i) 0 b g g k) s w → Rest (at (M.Word y i) g k) (b ∷ s) w in

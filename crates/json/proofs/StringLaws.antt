@@ -132,10 +132,24 @@ ranged-move lo hi b m h = simp (le-ltb b lo (low-of-within lo hi b h), le-ltb hi
 high-class : (b : ℕ) → 0x80 ≤ b → classOf b ≡ highClass b
 unfolding classOf isBreak isStructure within
 high-class b h =
-    simp (ne-eqb b 0x09 (λ e. omega arith), ne-eqb b 0x0A (λ e. omega arith), ne-eqb b 0x0D (λ e. omega arith), le-ltb b 0x20 (omega arith),
-      ne-eqb b 0x20 (λ e. omega arith), ne-eqb b 0x22 (λ e. omega arith), ne-eqb b 0x5C (λ e. omega arith), ne-eqb b 0x5B (λ e. omega arith),
-      ne-eqb b 0x7B (λ e. omega arith), ne-eqb b 0x5D (λ e. omega arith), ne-eqb b 0x7D (λ e. omega arith), ne-eqb b 0x3A (λ e. omega arith),
-      ne-eqb b 0x2C (λ e. omega arith), le-leb 0x30 b (omega arith), lt-leb b 0x39 (omega arith), le-ltb b 0x80 h)
+    simp (
+      ne-eqb b 0x09 (λ e. omega arith),
+      ne-eqb b 0x0A (λ e. omega arith),
+      ne-eqb b 0x0D (λ e. omega arith),
+      le-ltb b 0x20 (omega arith),
+      ne-eqb b 0x20 (λ e. omega arith),
+      ne-eqb b 0x22 (λ e. omega arith),
+      ne-eqb b 0x5C (λ e. omega arith),
+      ne-eqb b 0x5B (λ e. omega arith),
+      ne-eqb b 0x7B (λ e. omega arith),
+      ne-eqb b 0x5D (λ e. omega arith),
+      ne-eqb b 0x7D (λ e. omega arith),
+      ne-eqb b 0x3A (λ e. omega arith),
+      ne-eqb b 0x2C (λ e. omega arith),
+      le-leb 0x30 b (omega arith),
+      lt-leb b 0x39 (omega arith),
+      le-ltb b 0x80 h,
+    )
 
 class-C2 : (b : ℕ) → T (within 0xC2 0xDF b) → classOf b ≡ C.LeadC2
 unfolding highClass within
@@ -150,8 +164,15 @@ class-E1 b h =
     let lo = low-of-within 0xE1 0xEC b h in
     let hi = high-of-within 0xE1 0xEC b h in
     rw (high-class b (omega arith))
-    (simp (le-leb 0x80 b (omega arith), lt-leb b 0xBF (omega arith), le-leb 0xC2 b (omega arith), lt-leb b 0xDF (omega arith),
-      ne-eqb b 0xE0 (λ e. omega arith), le-leb 0xE1 b lo, le-leb b 0xEC hi))
+    (simp (
+      le-leb 0x80 b (omega arith),
+      lt-leb b 0xBF (omega arith),
+      le-leb 0xC2 b (omega arith),
+      lt-leb b 0xDF (omega arith),
+      ne-eqb b 0xE0 (λ e. omega arith),
+      le-leb 0xE1 b lo,
+      le-leb b 0xEC hi,
+    ))
 
 class-EE : (b : ℕ) → T (within 0xEE 0xEF b) → classOf b ≡ C.LeadE1
 unfolding highClass within
@@ -159,9 +180,18 @@ class-EE b h =
     let lo = low-of-within 0xEE 0xEF b h in
     let hi = high-of-within 0xEE 0xEF b h in
     rw (high-class b (omega arith))
-    (simp (le-leb 0x80 b (omega arith), lt-leb b 0xBF (omega arith), le-leb 0xC2 b (omega arith), lt-leb b 0xDF (omega arith),
-      ne-eqb b 0xE0 (λ e. omega arith), le-leb 0xE1 b (omega arith), lt-leb b 0xEC (omega arith), ne-eqb b 0xED (λ e. omega arith),
-      le-leb 0xEE b lo, le-leb b 0xEF hi))
+    (simp (
+      le-leb 0x80 b (omega arith),
+      lt-leb b 0xBF (omega arith),
+      le-leb 0xC2 b (omega arith),
+      lt-leb b 0xDF (omega arith),
+      ne-eqb b 0xE0 (λ e. omega arith),
+      le-leb 0xE1 b (omega arith),
+      lt-leb b 0xEC (omega arith),
+      ne-eqb b 0xED (λ e. omega arith),
+      le-leb 0xEE b lo,
+      le-leb b 0xEF hi,
+    ))
 
 class-F1 : (b : ℕ) → T (within 0xF1 0xF3 b) → classOf b ≡ C.LeadF1
 unfolding highClass within
@@ -169,9 +199,21 @@ class-F1 b h =
     let lo = low-of-within 0xF1 0xF3 b h in
     let hi = high-of-within 0xF1 0xF3 b h in
     rw (high-class b (omega arith))
-    (simp (le-leb 0x80 b (omega arith), lt-leb b 0xBF (omega arith), le-leb 0xC2 b (omega arith), lt-leb b 0xDF (omega arith),
-      ne-eqb b 0xE0 (λ e. omega arith), le-leb 0xE1 b (omega arith), lt-leb b 0xEC (omega arith), ne-eqb b 0xED (λ e. omega arith),
-      le-leb 0xEE b (omega arith), lt-leb b 0xEF (omega arith), ne-eqb b 0xF0 (λ e. omega arith), le-leb 0xF1 b lo, le-leb b 0xF3 hi))
+    (simp (
+      le-leb 0x80 b (omega arith),
+      lt-leb b 0xBF (omega arith),
+      le-leb 0xC2 b (omega arith),
+      lt-leb b 0xDF (omega arith),
+      ne-eqb b 0xE0 (λ e. omega arith),
+      le-leb 0xE1 b (omega arith),
+      lt-leb b 0xEC (omega arith),
+      ne-eqb b 0xED (λ e. omega arith),
+      le-leb 0xEE b (omega arith),
+      lt-leb b 0xEF (omega arith),
+      ne-eqb b 0xF0 (λ e. omega arith),
+      le-leb 0xF1 b lo,
+      le-leb b 0xF3 hi,
+    ))
 
 pub move-of-goes : {m n : StringMode} {b : ℕ} → Goes m b n → stringMove m b ≡ SM.Go n
 unfolding classOf highClass isBreak isStructure within escapeMove unit1 unitD low1 low2 only
@@ -279,8 +321,8 @@ unfolding others-test
 unescaped-of-other b l q s h =
     T-or-elim (ltb b 0x20 || eqb b 0x22 || eqb b 0x5C) (isUnescaped b)
     (T-or-elim (ltb b 0x20 || eqb b 0x22) (eqb b 0x5C)
-      (T-or-elim (ltb b 0x20) (eqb b 0x22) (λ x. absurd (T-not (ltb b 0x20) l x)) (λ x. absurd (T-not (eqb b 0x22) q x)))
-      (λ x. absurd (T-not (eqb b 0x5C) s x)))
+    (T-or-elim (ltb b 0x20) (eqb b 0x22) (λ x. absurd (T-not (ltb b 0x20) l x)) (λ x. absurd (T-not (eqb b 0x22) q x)))
+    (λ x. absurd (T-not (eqb b 0x5C) s x)))
     (λ x. x)
     (T-of-every others-test 128 others-tested b (ltb→lt b 0x80 h))
 
@@ -290,11 +332,11 @@ lt-of-structure b =
     let P : ℕ → Type 0 = λ b. T (ltb b 0x80) in
     T-or-elim (eqb b 0x5B || eqb b 0x7B || eqb b 0x5D || eqb b 0x7D || eqb b 0x3A) (eqb b 0x2C)
     (T-or-elim (eqb b 0x5B || eqb b 0x7B || eqb b 0x5D || eqb b 0x7D) (eqb b 0x3A)
-      (T-or-elim (eqb b 0x5B || eqb b 0x7B || eqb b 0x5D) (eqb b 0x7D)
-        (T-or-elim (eqb b 0x5B || eqb b 0x7B) (eqb b 0x5D)
-          (T-or-elim (eqb b 0x5B) (eqb b 0x7B) (at-byte P b 0x5B tt) (at-byte P b 0x7B tt)) (at-byte P b 0x5D tt))
-        (at-byte P b 0x7D tt))
-      (at-byte P b 0x3A tt))
+    (T-or-elim (eqb b 0x5B || eqb b 0x7B || eqb b 0x5D) (eqb b 0x7D)
+    (T-or-elim (eqb b 0x5B || eqb b 0x7B) (eqb b 0x5D)
+    (T-or-elim (eqb b 0x5B) (eqb b 0x7B) (at-byte P b 0x5B tt) (at-byte P b 0x7B tt)) (at-byte P b 0x5D tt))
+    (at-byte P b 0x7D tt))
+    (at-byte P b 0x3A tt))
     (at-byte P b 0x2C tt)
 
 lt-of-digit : (b : ℕ) → T (within 0x30 0x39 b) → T (ltb b 0x80)

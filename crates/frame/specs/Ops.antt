@@ -8,8 +8,8 @@ use Rattle.laws.specs.Bits.{bitAt, setBit, setAll}
 use Rattle.laws.specs.Lists.{any}
 use Rattle.laws.specs.Tab.{tab}
 use Rattle.table.specs.declared.kind.Finished.{Finished}
-use Rattle.frame.specs.Frame.{isObject, currentKey, marked, seenIn, heldIn}
-use Rattle.frame.specs.Edges.{Edges, edgeCount, hasForm, stateNumber, fitsCode, hasKey}
+use Rattle.frame.specs.Frame.{isObject, currentKey, marked, seenIn}
+use Rattle.frame.specs.Edges.{Edges, edgeCount, hasForm, stateNumber, fitsCode, fitting, stepping, walking}
 
 -- ---- opening
 
@@ -33,41 +33,27 @@ keyed k f =
 
 -- ---- a finished value
 
--- edge e is one of key k, and its kind's code passes the test
-unfoldable pub fitting : (ℕ → Bool) → Edges → ℕ → ℕ → Bool
-fitting fits t k e = hasKey (t .keys) k e && fits (getD (t .kinds) e 0)
-
 -- in an object the fitting edges of the current key are added; an unknown key has none
-unfoldable pub withEdges : Edges → Finished → List ℕ → List ℕ
-withEdges t v f =
-    cond (ltb (currentKey f) 128) (setAll (fitting (fitsCode v) t (currentKey f)) (λ e. 256 + e) (edgeCount (t .count)) f) f
+unfoldable pub withEdges : Edges → List ℕ → Finished → List ℕ → List ℕ
+withEdges t kinds v f =
+    cond (ltb (currentKey f) 128) (setAll (fitting (fitsCode v) (t .keys) kinds (currentKey f)) (λ e. 256 + e) (edgeCount (t .count)) f) f
 
--- edge e of an `arr` rule leaves a state of the array, and its kind's code passes the test
-unfoldable pub stepping : (ℕ → Bool) → Edges → List ℕ → List ℕ → ℕ → Bool
-stepping fits t forms f e =
-    fits (getD (t .kinds) e 0) && (hasForm forms 2 (getD (t .rules) e 0) && heldIn f (stateNumber (t .rules) (t .states) e))
-
--- the states that such edges lead to
-unfoldable pub nextStates : (ℕ → Bool) → Edges → List ℕ → List ℕ → List ℕ
-nextStates fits t forms f = setAll (stepping fits t forms f) (stateNumber (t .rules) (t .nexts)) (edgeCount (t .count)) (replicate 64 0)
-
--- in an array the states are replaced
-unfoldable pub withStates : Edges → List ℕ → Finished → List ℕ → List ℕ
-withStates t forms v f = take 32 f ++ nextStates (fitsCode v) t forms f
+-- in an array the states are replaced by those that the fitting edges lead to
+unfoldable pub withStates : Edges → List ℕ → List ℕ → Finished → List ℕ → List ℕ
+withStates t kinds forms v f =
+    take 32 f
+    ++ setAll (stepping (fitsCode v) (t .rules) (t .states) kinds forms f) (stateNumber (t .rules) (t .nexts)) (edgeCount (t .count)) (replicate 64 0)
 
 -- a finished value in the frame of the open value that it stands in
-unfoldable pub valued : Edges → List ℕ → Finished → List ℕ → List ℕ
-valued t forms v f = cond (isObject f) (withEdges t v f) (withStates t forms v f)
+unfoldable pub valued : Edges → List ℕ → List ℕ → Finished → List ℕ → List ℕ
+valued t kinds forms v f = cond (isObject f) (withEdges t kinds v f) (withStates t kinds forms v f)
 
 -- ---- closing
 
--- edge e of key k is among the object's fitting edges, and leaves one of the states s
-unfoldable pub walking : Edges → List ℕ → List ℕ → ℕ → ℕ → Bool
-walking t f s k e = hasKey (t .keys) k e && (heldIn f e && bitAt s (stateNumber (t .rules) (t .states) e))
-
--- the states that such edges lead to
+-- the states that the object's fitting edges of key k lead to from the states s
 unfoldable pub keyStates : Edges → List ℕ → List ℕ → ℕ → List ℕ
-keyStates t f s k = setAll (walking t f s k) (stateNumber (t .rules) (t .nexts)) (edgeCount (t .count)) (replicate 64 0)
+keyStates t f s k =
+    setAll (walking (t .rules) (t .states) (t .keys) f s k) (stateNumber (t .rules) (t .nexts)) (edgeCount (t .count)) (replicate 64 0)
 
 -- from the states s over the keys seen among a, a + 1, .., n of them, ascending, all of them used
 unfoldable pub walked : Edges → List ℕ → ℕ → List ℕ → ℕ → List ℕ

@@ -6,6 +6,7 @@ use mathlib.Core.Path.{_≡_, refl, sym, ap, subst, _∙_}
 use Prim.Native.Nat.{ℕ, zero, suc, _+_, _*_, _/_, _%_, _^_, _<_, _≤_}
 use native.Mathlib.Decide.{decLt}
 use native.Mathlib.Nat.{zero-div, mod-lt, one-mul, mod-eq-of-lt, eq-or-lt-of-le, not-suc-le-zero, le-of-suc-le-suc, le-refl}
+use native.Mathlib.Numerals.{add-one}
 use native.Mathlib.Omega.{arith}
 use lib.Bits.{bitAnd, bitOr, or-shr, or-mod, and-shr, and-mod, and-le-l}
 use lib.Dec.{T, eqb, eqb-refl, lit<}
@@ -19,11 +20,18 @@ use Rattle.laws.specs.Tab.{tab, every}
 use Rattle.laws.proofs.TabLaws.{T-of-every, eq-of-every}
 use Rattle.laws.proofs.TestLaws.{true-of-T, T-or-elim, cond-elim, cond-yes}
 
+-- two tests that are computed to be the same are equal
+pub eq-of-beq : (a b : Bool) → T (Bool·beq a b) → a ≡ b
+eq-of-beq true true t = refl
+eq-of-beq true false t = absurd t
+eq-of-beq false true t = absurd t
+eq-of-beq false false t = refl
+
 -- ---- one byte
 
--- what `1u8 << k` gives
-pub one-shl : (k : ℕ) → k < 8 → (1 * 2 ^ k) % 2 ^ 8 ≡ 2 ^ k
-one-shl k h = rw one-mul (mod-eq-of-lt (pow-lt h))
+-- what `1 << k` gives in a number of w bits
+pub one-shl : (w k : ℕ) → k < w → (1 * 2 ^ k) % 2 ^ w ≡ 2 ^ k
+one-shl w k h = rw one-mul (mod-eq-of-lt (pow-lt h))
 
 -- the number of a test
 abbrev pub bitOf : Bool → ℕ
@@ -71,12 +79,6 @@ unfolding any
 nonzero-bits x h =
     eq-of-beq (not (eqb x 0)) (any (λ j. eqb (x / 2 ^ j % 2) 1) (tab (λ j. j) 0 8))
     (T-of-every (λ y. Bool·beq (not (eqb y 0)) (any (λ j. eqb (y / 2 ^ j % 2) 1) (tab (λ j. j) 0 8))) 256 tt x h)
-  where
-    eq-of-beq : (a b : Bool) → T (Bool·beq a b) → a ≡ b
-    eq-of-beq true true t = refl
-    eq-of-beq true false t = absurd t
-    eq-of-beq false true t = absurd t
-    eq-of-beq false false t = refl
 
 -- ---- one bit of a list
 
@@ -180,6 +182,12 @@ same-or-bitAt-of-setBit xs i j t =
 -- tests that agree below n set the same bits
 pub setAll-same : (p q : ℕ → Bool) (f : ℕ → ℕ) (n : ℕ) (xs : List ℕ) → ((e : ℕ) → p e ≡ q e) → setAll p f n xs ≡ setAll q f n xs
 setAll-same p q f n xs h = ap (λ (r : ℕ → Bool). setAll r f n xs) (λ i e. h e i)
+
+-- one number more, as a loop sets its bit: the test b of number e, and the number i of its bit
+pub setAll-more : (p : ℕ → Bool) (f : ℕ → ℕ) (e i : ℕ) (b : Bool) (xs ys zs : List ℕ) → ys ≡ setAll p f e xs → b ≡ p e → i ≡ f e
+    → zs ≡ cond b (setBit ys i) ys → zs ≡ setAll p f (e + 1) xs
+unfolding setAll
+setAll-more p f e i b xs ys zs y h k z = rw (add-one, ← y, ← h, ← k) z
 
 pub length-setAll : (p : ℕ → Bool) (f : ℕ → ℕ) (n : ℕ) (xs : List ℕ) → length (setAll p f n xs) ≡ length xs
 unfolding setAll

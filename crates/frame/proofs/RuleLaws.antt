@@ -1,0 +1,112 @@
+-- Sets of rules: the bytes of a rule's states, and the number that a set of rules is. Assumes nothing.
+use mathlib.Core.Bool.{Bool, true, false, cond, not, _&&_, _||_, or-assoc, and-false}
+use mathlib.Core.List.{List, [], _∷_, _++_}
+use mathlib.Core.Path.{_≡_, refl, sym, ap, _∙_}
+use Prim.Native.Nat.{ℕ, zero, suc, _+_, _*_, _/_, _%_, _^_, _<_, _≤_}
+use native.Mathlib.Nat.{add-zero, add-suc, suc-add, one-mul, mod-eq-of-lt, lt-of-le-of-lt, lt-of-lt-of-le}
+use native.Mathlib.Numerals.{unary-clauses}
+use native.Mathlib.Omega.{arith}
+use lib.Bits.{bitAnd, and-le-l, and-zero-l}
+use lib.Dec.{T, eqb, lit<}
+use lib.ListN.{getD}
+use lib.Pow.{pow-lt, pow-mono, pow-pos, add-lt-pow}
+use borrow.Author.Tests.{lt-ltb}
+use Rattle.laws.specs.Bits.{bitAt}
+use Rattle.laws.specs.Lists.{any}
+use Rattle.laws.specs.Tab.{tab}
+use Rattle.laws.proofs.BitLaws.{bit-bitAnd, nonzero-bits}
+use Rattle.laws.proofs.TestLaws.{cond-elim}
+use Rattle.frame.specs.Edges.{hasForm}
+use Rattle.frame.specs.Ops.{ended, accepting, ruleSet}
+
+-- ---- forms
+
+-- the form of a rule below 32
+pub hasForm-below : (forms : List ℕ) (form r : ℕ) → r < 32 → hasForm forms form r ≡ eqb (getD forms r 0) form
+unfolding hasForm
+hasForm-below forms form r h = rw (lt-ltb r 32 h)
+
+-- ---- some number of a run
+
+-- tests that agree along two runs of n numbers pass for some number of both or of none
+pub any-tab-same : (g h : ℕ → Bool) (i j n : ℕ) → ((k : ℕ) → k < n → g (i + k) ≡ h (j + k)) → any g (tab (λ q. q) i n) ≡ any h (tab (λ q. q) j n)
+unfolding any
+any-tab-same g h i j zero e = refl
+any-tab-same g h i j (suc n) e =
+    ap (λ (b : Bool). b || any g (tab (λ q. q) (suc i) n)) (ap g (sym (add-zero i)) ∙ e zero (omega arith) ∙ ap h (add-zero j))
+    ∙ ap (λ (b : Bool). h j || b)
+    (any-tab-same g h (suc i) (suc j) n (λ k l. ap g (suc-add i k ∙ sym (add-suc i k)) ∙ e (suc k) (omega arith) ∙ ap h (add-suc j k ∙ sym (suc-add j k))))
+
+-- some number of two runs, one behind the other
+pub any-append : {A : Type 0} (g : A → Bool) (xs ys : List A) → any g (xs ++ ys) ≡ (any g xs || any g ys)
+unfolding any
+any-append g [] ys = refl
+any-append g (x ∷ xs) ys = ap (λ (b : Bool). g x || b) (any-append g xs ys) ∙ sym (or-assoc (g x) (any g xs) (any g ys))
+
+-- ---- end states
+
+-- the eight states whose bits are byte b: one of them is an end state where the byte shares a bit with that of the end states
+byte-ended : (ends s : List ℕ) (i b : ℕ) → i ≡ 8 * b → getD s b 0 < 256
+    → any (λ q. bitAt s (i + q) && bitAt ends (i + q)) (tab (λ q. q) 0 8) ≡ not (eqb (bitAnd (getD s b 0) (getD ends b 0)) 0)
+unfolding bitAt
+byte-ended ends s i b e h =
+    any-tab-same (λ q. bitAt s (i + q) && bitAt ends (i + q)) (λ q. eqb (bitAnd (getD s b 0) (getD ends b 0) / 2 ^ q % 2) 1) 0 0 8
+    (λ k l.
+      let q : (i + (0 + k)) / 8 ≡ b = omega arith in
+      let r : (i + (0 + k)) % 8 ≡ 0 + k = omega arith in
+      rw (q, r) (sym (bit-bitAnd (getD s b 0) (getD ends b 0) (0 + k))))
+    ∙ sym (nonzero-bits (bitAnd (getD s b 0) (getD ends b 0)) (lt-of-le-of-lt (and-le-l (getD s b 0) (getD ends b 0)) h))
+
+-- the 16 states of a rule are the bits of two bytes
+pub ended-of-bytes : (ends s : List ℕ) (r : ℕ) → getD s (2 * r) 0 < 256 → getD s (2 * r + 1) 0 < 256
+    → ended ends s r ≡ (not (eqb (bitAnd (getD s (2 * r) 0) (getD ends (2 * r) 0)) 0) || not (eqb (bitAnd (getD s (2 * r + 1) 0) (getD ends (2 * r + 1) 0)) 0))
+unfolding ended
+ended-of-bytes ends s r h g =
+    any-append test (tab (λ q. q) 0 8) (tab (λ q. q) 8 8)
+    ∙ ap (λ (b : Bool). b || any test (tab (λ q. q) 8 8)) (byte-ended ends s (16 * r) (2 * r) (omega arith) h)
+    ∙ ap (λ (b : Bool). not (eqb (bitAnd (getD s (2 * r) 0) (getD ends (2 * r) 0)) 0) || b)
+    (any-tab-same test (λ q. bitAt s (16 * r + 8 + q) && bitAt ends (16 * r + 8 + q)) 8 0 8
+    (λ k l. let e : 16 * r + (8 + k) ≡ 16 * r + 8 + (0 + k) = omega arith in rw e)
+    ∙ byte-ended ends s (16 * r + 8) (2 * r + 1) (omega arith) g)
+  where
+    test : ℕ → Bool
+    test q = bitAt s (16 * r + q) && bitAt ends (16 * r + q)
+
+-- ---- the number of a set of rules
+
+add-lt-next : (n : ℕ) {m : ℕ} → m < 2 ^ n → 2 ^ n + m < 2 ^ suc n
+add-lt-next n {m} h = simp unary-clauses (omega arith)
+
+-- it has no bit from n on
+pub ruleSet-lt : (p : ℕ → Bool) (n : ℕ) → ruleSet p n < 2 ^ n
+unfolding ruleSet
+ruleSet-lt p zero = lit< tt
+ruleSet-lt p (suc n) =
+    cond-elim (λ (m : ℕ). m < 2 ^ suc n) (p n) (λ t. add-lt-next n (ruleSet-lt p n)) (λ t. lt-of-lt-of-le (ruleSet-lt p n) (pow-mono (omega arith)))
+
+-- bit r more in a number of 32 bits
+pub with-bit-lt : (r m : ℕ) → r < 32 → m < 2 ^ r → 2 ^ r + m < 2 ^ 32
+with-bit-lt r m h l = lt-of-lt-of-le (add-lt-next r l) (pow-mono {i = suc r} {j = 32} (omega arith))
+
+-- a set of no rules
+pub ruleSet-none : (p : ℕ → Bool) (n : ℕ) → ((r : ℕ) → p r ≡ false) → ruleSet p n ≡ 0
+unfolding ruleSet
+ruleSet-none p zero h = refl
+ruleSet-none p (suc n) h = rw (h n) (ruleSet-none p n h)
+
+-- no states
+pub accepting-nil : (forms ends : List ℕ) (form r : ℕ) → accepting forms ends form [] r ≡ false
+unfolding accepting
+accepting-nil forms ends form r = rw (ended-nil, and-false)
+  where
+    nil : (i : ℕ) → _≡_ {A = ℕ} (getD [] i 0) 0
+    nil zero = refl
+    nil (suc i) = refl
+
+    none : (i : ℕ) → not (eqb (bitAnd (getD [] i 0) (getD ends i 0)) 0) ≡ false
+    none i = ap (λ (n : ℕ). not (eqb (bitAnd n (getD ends i 0)) 0)) (nil i) ∙ ap (λ (n : ℕ). not (eqb n 0)) (and-zero-l (getD ends i 0))
+
+    ended-nil : ended ends [] r ≡ false
+    ended-nil =
+        ended-of-bytes ends [] r (omega (arith, nil (2 * r))) (omega (arith, nil (2 * r + 1)))
+        ∙ cc (none (2 * r), none (2 * r + 1))

@@ -1,8 +1,10 @@
 pub mod ListLaws
 pub mod LevelLaws
+pub mod PartLaws
 pub mod MaskLaws
+pub mod RuleLaws
+pub mod OpenLaws
 pub mod KeyLaws
 pub mod ValueLaws
 pub mod WalkLaws
-pub mod RuleLaws
 pub mod CloseLaws

@@ -1,13 +1,14 @@
 -- Sets of rules: the bytes of a rule's states, and the number that a set of rules is. Assumes nothing.
 use mathlib.Core.Bool.{Bool, true, false, cond, not, _&&_, _||_, or-assoc, and-false}
 use mathlib.Core.List.{List, [], _∷_, _++_}
-use mathlib.Core.Path.{_≡_, refl, sym, ap, _∙_}
+use mathlib.Core.Logic.{⊎-elim}
+use mathlib.Core.Path.{_≡_, refl, sym, ap, subst, _∙_}
 use Prim.Native.Nat.{ℕ, zero, suc, _+_, _*_, _/_, _%_, _^_, _<_, _≤_}
-use native.Mathlib.Nat.{add-zero, add-suc, suc-add, one-mul, mod-eq-of-lt, lt-of-le-of-lt, lt-of-lt-of-le}
+use native.Mathlib.Nat.{eq-or-lt-of-le, add-zero, add-suc, suc-add, one-mul, mod-eq-of-lt, lt-of-le-of-lt, lt-of-lt-of-le}
 use native.Mathlib.Numerals.{unary-clauses}
 use native.Mathlib.Omega.{arith}
 use lib.Bits.{bitAnd, and-le-l, and-zero-l}
-use lib.Dec.{T, eqb, lit<}
+use lib.Dec.{T, eqb, ltb, ltb→lt, lit<}
 use lib.ListN.{getD}
 use lib.Pow.{pow-lt, pow-mono, pow-pos, add-lt-pow}
 use borrow.Author.Tests.{lt-ltb}
@@ -15,7 +16,8 @@ use Rattle.laws.specs.Bits.{bitAt}
 use Rattle.laws.specs.Lists.{any}
 use Rattle.laws.specs.Tab.{tab}
 use Rattle.laws.proofs.BitLaws.{bit-bitAnd, nonzero-bits}
-use Rattle.laws.proofs.TestLaws.{cond-elim}
+use Rattle.laws.proofs.TestLaws.{T-and, T-and-left, T-and-right, T-or-elim, cond-elim}
+use Rattle.laws.proofs.BitLaws.{T-or-left, T-or-right}
 use Rattle.frame.specs.Edges.{hasForm}
 use Rattle.frame.specs.Ops.{ended, accepting, ruleSet}
 
@@ -25,6 +27,11 @@ use Rattle.frame.specs.Ops.{ended, accepting, ruleSet}
 pub hasForm-below : (forms : List ℕ) (form r : ℕ) → r < 32 → hasForm forms form r ≡ eqb (getD forms r 0) form
 unfolding hasForm
 hasForm-below forms form r h = rw (lt-ltb r 32 h)
+
+-- a rule that has a form is below 32
+pub below-of-hasForm : (forms : List ℕ) (form r : ℕ) → T (hasForm forms form r) → r < 32
+unfolding hasForm
+below-of-hasForm forms form r t = ltb→lt r 32 (T-and-left (ltb r 32) (eqb (getD forms r 0) form) t)
 
 -- ---- some number of a run
 
@@ -42,6 +49,22 @@ pub any-append : {A : Type 0} (g : A → Bool) (xs ys : List A) → any g (xs ++
 unfolding any
 any-append g [] ys = refl
 any-append g (x ∷ xs) ys = ap (λ (b : Bool). g x || b) (any-append g xs ys) ∙ sym (or-assoc (g x) (any g xs) (any g ys))
+
+-- some number of a run passes
+pub some-of-any-tab : (g : ℕ → Bool) (i n : ℕ) → T (any g (tab (λ q. q) i n)) → (q : ℕ) × (i ≤ q) × (q < i + n) × T (g q)
+unfolding any
+some-of-any-tab g i zero t = absurd t
+some-of-any-tab g i (suc n) t =
+    T-or-elim (g i) (any g (tab (λ q. q) (suc i) n)) (λ h. (i, omega arith, omega arith, h))
+    (λ h. let w = some-of-any-tab g (suc i) n h in (w .0, omega arith, omega arith, w .3)) t
+
+-- where some number of a run passes
+pub any-tab-of-some : (g : ℕ → Bool) (i n q : ℕ) → i ≤ q → q < i + n → T (g q) → T (any g (tab (λ q. q) i n))
+unfolding any
+any-tab-of-some g i zero q a b t = absurd (omega arith)
+any-tab-of-some g i (suc n) q a b t =
+    ⊎-elim (λ e. T-or-left (g i) (any g (tab (λ q. q) (suc i) n)) (subst (λ (m : ℕ). T (g m)) (sym e) t))
+    (λ l. T-or-right (g i) (any g (tab (λ q. q) (suc i) n)) (any-tab-of-some g (suc i) n q l (omega arith) t)) (eq-or-lt-of-le a)
 
 -- ---- end states
 

@@ -1,23 +1,24 @@
 -- Sets of rules: the bytes of a rule's states, and the number that a set of rules is. Assumes nothing.
 use mathlib.Core.Bool.{Bool, true, false, cond, not, _&&_, _||_, or-assoc, and-false}
 use mathlib.Core.List.{List, [], _∷_, _++_}
-use mathlib.Core.Logic.{⊎-elim}
+use mathlib.Core.Logic.{⊎-elim, _↔_}
 use mathlib.Core.Path.{_≡_, refl, sym, ap, subst, _∙_}
 use Prim.Native.Nat.{ℕ, zero, suc, _+_, _*_, _/_, _%_, _^_, _<_, _≤_}
-use native.Mathlib.Nat.{eq-or-lt-of-le, add-zero, add-suc, suc-add, one-mul, mod-eq-of-lt, lt-of-le-of-lt, lt-of-lt-of-le}
+use native.Mathlib.Nat.{zero-div, eq-or-lt-of-le, add-zero, add-suc, suc-add, one-mul, mod-eq-of-lt, lt-of-le-of-lt, lt-of-lt-of-le}
+use native.Mathlib.Decide.{decLt}
 use native.Mathlib.Numerals.{unary-clauses}
 use native.Mathlib.Omega.{arith}
-use lib.Bits.{bitAnd, and-le-l, and-zero-l}
+use lib.Bits.{bitAnd, bitOr, or-shifted-r, and-le-l, and-zero-l}
 use lib.Dec.{T, eqb, ltb, ltb→lt, lit<}
 use lib.ListN.{getD}
 use lib.Pow.{pow-lt, pow-mono, pow-pos, add-lt-pow}
-use borrow.Author.Tests.{lt-ltb}
+use borrow.Author.Tests.{lt-ltb, le-ltb, eqb-true, eqb-false}
 use Rattle.laws.specs.Bits.{bitAt}
 use Rattle.laws.specs.Lists.{any}
 use Rattle.laws.specs.Tab.{tab}
-use Rattle.laws.proofs.BitLaws.{bit-bitAnd, nonzero-bits}
-use Rattle.laws.proofs.TestLaws.{T-and, T-and-left, T-and-right, T-or-elim, cond-elim}
-use Rattle.laws.proofs.BitLaws.{T-or-left, T-or-right}
+use Rattle.laws.proofs.BitLaws.{bit-bitAnd, bit-bitOr, nonzero-bits, ltb-iff, T-or-left, T-or-right}
+use Rattle.laws.proofs.TestLaws.{T-of-true, T-and, T-and-left, T-and-right, T-or-elim, cond-elim}
+use Rattle.table.specs.Kind.{ruleFits}
 use Rattle.frame.specs.Edges.{hasForm}
 use Rattle.frame.specs.Ops.{ended, accepting, ruleSet}
 
@@ -133,3 +134,59 @@ accepting-nil forms ends form r = rw (ended-nil, and-false)
     ended-nil =
         ended-of-bytes ends [] r (omega (arith, nil (2 * r))) (omega (arith, nil (2 * r + 1)))
         ∙ cc (none (2 * r), none (2 * r + 1))
+
+-- ---- a rule in a set
+
+-- bit r of the number of a set
+pub bit-ruleSet : (p : ℕ → Bool) (n r : ℕ) → eqb (ruleSet p n / 2 ^ r % 2) 1 ≡ (ltb r n && p r)
+unfolding ruleSet
+bit-ruleSet p zero r = rw (zero-div, le-ltb r 0 (omega arith))
+bit-ruleSet p (suc n) r = go (p n) refl (eqb n r) refl (bit-ruleSet p n r)
+  where
+    with-bit : (m : ℕ) → m < 2 ^ n → 2 ^ n + m ≡ bitOr m (2 ^ n)
+    with-bit m h = ap (λ (x : ℕ). x + m) (sym (one-mul (2 ^ n))) ∙ sym (or-shifted-r 1 n m h) ∙ ap (bitOr m) (one-mul (2 ^ n))
+
+    below : (eqb n r ≡ false) → (ltb r n && p r) ≡ (ltb r (suc n) && p r)
+    below e = ap (λ (b : Bool). b && p r) (ltb-iff r n (suc n) (λ l. omega arith) (λ l. let ne = eqb-false n r e in omega arith))
+
+    at : eqb n r ≡ true → (ltb r (suc n) && p r) ≡ p n
+    at e = let q : n ≡ r = eqb-true n r e in rw (lt-ltb r (suc n) (omega arith)) (ap p (sym q))
+
+    not-below : eqb n r ≡ true → (ltb r n && p r) ≡ false
+    not-below e = let q : n ≡ r = eqb-true n r e in rw (le-ltb r n (omega arith))
+
+    go : (b : Bool) → p n ≡ b → (c : Bool) → eqb n r ≡ c → eqb (ruleSet p n / 2 ^ r % 2) 1 ≡ (ltb r n && p r)
+        → eqb (cond b (2 ^ n + ruleSet p n) (ruleSet p n) / 2 ^ r % 2) 1 ≡ (ltb r (suc n) && p r)
+    go true e true q ih =
+        rw (with-bit (ruleSet p n) (ruleSet-lt p n)) (bit-bitOr (ruleSet p n) n r ∙ rw q (sym (at q ∙ e)))
+    go true e false q ih =
+        rw (with-bit (ruleSet p n) (ruleSet-lt p n)) (bit-bitOr (ruleSet p n) n r ∙ rw q (ih ∙ below q))
+    go false e true q ih = ih ∙ not-below q ∙ sym (at q ∙ e)
+    go false e false q ih = ih ∙ below q
+
+-- the rules of a set that has them below 32
+pub ruleFits-ruleSet : (p : ℕ → Bool) → ((r : ℕ) → T (p r) → r < 32) → (r : ℕ) → ruleFits (ruleSet p 32) r ≡ p r
+unfolding ruleFits
+ruleFits-ruleSet p small r = go (decLt r 32) (p r) refl
+  where
+    go : Dec (r < 32) → (b : Bool) → p r ≡ b → cond (ltb r 32) (eqb (ruleSet p 32 / 2 ^ r % 2) 1) false ≡ p r
+    go (yes h) b e = rw (lt-ltb r 32 h) (bit-ruleSet p 32 r ∙ rw (lt-ltb r 32 h))
+    go (no h) true e = let l = small r (T-of-true (p r) e) in absurd (omega arith)
+    go (no h) false e = rw (le-ltb r 32 (omega arith)) (sym e)
+
+-- the rules that accept: of the form, with an end state among the states
+pub accepting-iff : (forms ends : List ℕ) (form : ℕ) (s : List ℕ) (r : ℕ)
+    → T (accepting forms ends form s r)
+    ↔ (T (hasForm forms form r) × ((q : ℕ) × (q < 16) × T (bitAt s (16 * r + q)) × T (bitAt ends (16 * r + q))))
+unfolding accepting ended
+accepting-iff forms ends form s r =
+    ((λ t.
+      let w = some-of-any-tab test 0 16 (T-and-right (hasForm forms form r) (any test (tab (λ q. q) 0 16)) t) in
+      (T-and-left (hasForm forms form r) (any test (tab (λ q. q) 0 16)) t,
+      (w .0, w .2, T-and-left (bitAt s (16 * r + w .0)) (bitAt ends (16 * r + w .0)) (w .3), T-and-right (bitAt s (16 * r + w .0)) (bitAt ends (16 * r + w .0)) (w .3)))),
+    (λ p.
+      T-and (hasForm forms form r) (any test (tab (λ q. q) 0 16)) (p .0)
+      (any-tab-of-some test 0 16 (p .1 .0) (omega arith) (p .1 .1) (T-and (bitAt s (16 * r + p .1 .0)) (bitAt ends (16 * r + p .1 .0)) (p .1 .2) (p .1 .3)))))
+  where
+    test : ℕ → Bool
+    test q = bitAt s (16 * r + q) && bitAt ends (16 * r + q)

@@ -5,15 +5,15 @@ use mathlib.Core.Logic.{_⊎_, inl, inr, ⊎-elim}
 use mathlib.Core.Path.{_≡_, refl, sym, ap, subst, _∙_}
 use Prim.Native.Nat.{ℕ, zero, suc, _+_, _-_, _*_, _/_, _%_, _^_, _<_, _≤_}
 use native.Mathlib.Decide.{decLt}
-use native.Mathlib.Nat.{zero-div, div-eq-of-lt, mod-lt, one-mul, mul-comm, mod-eq-of-lt, eq-or-lt-of-le, not-suc-le-zero, le-of-suc-le-suc, le-refl}
+use native.Mathlib.Nat.{zero-div, div-eq-of-lt, mod-lt, one-mul, mul-comm, mod-eq-of-lt, eq-or-lt-of-le, not-suc-le-zero, le-of-suc-le-suc, le-refl, lt-of-not-le, not-le-of-lt}
 use native.Mathlib.Numerals.{add-one}
 use native.Mathlib.Omega.{arith}
 use lib.Bits.{bitAnd, bitOr, or-shr, or-mod, and-shr, and-mod, shifted-even}
-use lib.Dec.{T, eqb, eqb-refl, lit<}
+use lib.Dec.{T, eqb, ltb, eqb-refl, lit<}
 use lib.ListN.{length, getD, set, length-set, replicate, List·getD-eq-default}
 use lib.Pow.{pow-lt, pow-add, shl-shr}
 use lib.Seq.{getD-set-same, getD-set-other, set-out}
-use borrow.Author.Tests.{eq-eqb, ne-eqb, eqb-true, eqb-false}
+use borrow.Author.Tests.{eq-eqb, ne-eqb, eqb-true, eqb-false, lt-ltb, le-ltb, ltb-true, ltb-false}
 use Rattle.laws.specs.Bits.{bitAt, setBit, setAll}
 use Rattle.laws.specs.Lists.{any}
 use Rattle.laws.specs.Tab.{tab}
@@ -149,6 +149,14 @@ eqb-iff a b c d f g = go (eqb a b) refl
     go : (t : Bool) → eqb a b ≡ t → eqb a b ≡ eqb c d
     go true e = e ∙ sym (eq-eqb c d (f (eqb-true a b e)))
     go false e = e ∙ sym (ne-eqb c d (λ q. eqb-false a b e (g q)))
+
+-- two bounds that hold together are one test
+pub ltb-iff : (a b c : ℕ) → (a < b → a < c) → (a < c → a < b) → ltb a b ≡ ltb a c
+ltb-iff a b c f g = go (ltb a b) refl
+  where
+    go : (t : Bool) → ltb a b ≡ t → ltb a b ≡ ltb a c
+    go true e = e ∙ sym (lt-ltb a c (f (ltb-true a b e)))
+    go false e = e ∙ sym (le-ltb a c (le-of-suc-le-suc (lt-of-not-le (λ l. not-le-of-lt (g l) (ltb-false a b e)))))
 
 -- a bit that is set in the list is set, and each other is as it was
 pub bitAt-setBit : (xs : List ℕ) (i j : ℕ) → i / 8 < length xs → bitAt (setBit xs i) j ≡ (eqb i j || bitAt xs j)

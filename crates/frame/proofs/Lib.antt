@@ -8,3 +8,4 @@ pub mod KeyLaws
 pub mod ValueLaws
 pub mod WalkLaws
 pub mod CloseLaws
+pub mod Examples

@@ -133,7 +133,7 @@ accepting-nil forms ends form r = rw (ended-nil, and-false)
     ended-nil : ended ends [] r ≡ false
     ended-nil =
         ended-of-bytes ends [] r (omega (arith, nil (2 * r))) (omega (arith, nil (2 * r + 1)))
-        ∙ cc (none (2 * r), none (2 * r + 1))
+        ∙ cc (none (2 * r + 1))
 
 -- ---- a rule in a set
 

@@ -1,0 +1,11 @@
+pub mod ListLaws
+pub mod LevelLaws
+pub mod PartLaws
+pub mod MaskLaws
+pub mod RuleLaws
+pub mod OpenLaws
+pub mod KeyLaws
+pub mod ValueLaws
+pub mod WalkLaws
+pub mod CloseLaws
+pub mod Examples

@@ -1,0 +1,94 @@
+-- The walk over the keys seen, in steps of any size. Assumes nothing.
+use mathlib.Core.Bool.{Bool, true, false, cond, _&&_}
+use mathlib.Core.List.{List}
+use mathlib.Core.Logic.{_↔_}
+use mathlib.Core.Path.{_≡_, refl, sym, ap, _∙_}
+use Prim.Native.Nat.{ℕ, zero, suc, _+_, _*_, _/_, _%_, _^_, _<_, _≤_}
+use native.Mathlib.Nat.{zero-div, zero-add, add-zero, add-suc, add-assoc, le-refl}
+use native.Mathlib.Omega.{arith}
+use lib.Dec.{T, eqb, eqb→eq}
+use lib.ListN.{getD, replicate}
+use borrow.Author.Tests.{eq-eqb}
+use Rattle.laws.specs.Bits.{bitAt}
+use Rattle.laws.proofs.BitLaws.{bitAt-setAll-of-test, test-of-setAll-zeros}
+use Rattle.laws.proofs.TestLaws.{T-and, T-and-left, T-and-right, T-of-true}
+use Rattle.frame.specs.Edges.{Edges, edgeCount, stateNumber, walking}
+use Rattle.frame.specs.Frame.{seenIn, heldIn}
+use Rattle.frame.specs.Ops.{keyStates, walked}
+
+-- n keys and then m keys are n + m keys
+pub walked-add : (t : Edges) (f : List ℕ) (a : ℕ) (s : List ℕ) (n m : ℕ) → walked t f a s (n + m) ≡ walked t f (a + n) (walked t f a s n) m
+unfolding walked
+walked-add t f a s n zero = ap (walked t f a s) (add-zero n)
+walked-add t f a s n (suc m) =
+    ap (walked t f a s) (add-suc n m)
+    ∙ ap (λ (k : ℕ). cond (seenIn f k) (keyStates t f (walked t f a s (n + m)) k) (walked t f a s (n + m))) (sym (add-assoc a n m))
+    ∙ ap (λ (x : List ℕ). cond (seenIn f (a + n + m)) (keyStates t f x (a + n + m)) x) (walked-add t f a s n m)
+
+-- where no key was seen the states stay
+pub walked-none : (t : Edges) (f : List ℕ) (a : ℕ) (s : List ℕ) (n : ℕ) → ((j : ℕ) → j < n → seenIn f (a + j) ≡ false) → walked t f a s n ≡ s
+unfolding walked
+walked-none t f a s zero h = refl
+walked-none t f a s (suc n) h = rw (h n (le-refl (suc n))) (walked-none t f a s n (λ j l. h j (omega arith)))
+
+-- a byte of the keys seen that is 0 has none
+pub walked-byte-zero : (t : Edges) (f s : List ℕ) (i : ℕ) → getD f (16 + i) 0 ≡ 0 → s ≡ walked t f (8 * i) s 8
+unfolding seenIn bitAt
+walked-byte-zero t f s i e =
+    sym (walked-none t f (8 * i) s 8
+    (λ j l.
+      let q : (128 + (8 * i + j)) / 8 ≡ 16 + i = omega arith in
+      rw (q, e, zero-div)))
+
+-- the keys of one more byte
+pub walked-next-byte : (t : Edges) (f s cur next : List ℕ) (i : ℕ) → cur ≡ walked t f 0 s (8 * i) → next ≡ walked t f (8 * i) cur 8
+    → next ≡ walked t f 0 s (8 * (i + 1))
+walked-next-byte t f s cur next i e h =
+    let k : 8 * (i + 1) ≡ 8 * i + 8 = omega arith in
+    h ∙ ap (λ (x : List ℕ). walked t f (8 * i) x 8) e ∙ ap (λ (a : ℕ). walked t f a (walked t f 0 s (8 * i)) 8) (sym (zero-add (8 * i)))
+    ∙ sym (ap (walked t f 0 s) k ∙ walked-add t f 0 s (8 * i) 8)
+
+-- ---- what an edge of the walk says
+
+pub walking-iff : (rules states keys f s : List ℕ) (k e : ℕ)
+    → T (walking rules states keys f s k e) ↔ ((getD keys e 0 ≡ k) × T (heldIn f e) × T (bitAt s (stateNumber rules states e)))
+unfolding walking
+walking-iff rules states keys f s k e =
+    let a = eqb (getD keys e 0) k in
+    let b = heldIn f e in
+    let c = bitAt s (stateNumber rules states e) in
+    ((λ t. (eqb→eq (getD keys e 0) k (T-and-left a (b && c) t), T-and-left b c (T-and-right a (b && c) t), T-and-right b c (T-and-right a (b && c) t))),
+    (λ p. T-and a (b && c) (T-of-true a (eq-eqb (getD keys e 0) k (p .0))) (T-and b c (p .1) (p .2))))
+
+-- the states after key k: those that a fitting edge of the key leads to from one of the states
+pub bitAt-keyStates : (t : Edges) (f s : List ℕ) (k j : ℕ) → j < 512 → T (bitAt (keyStates t f s k) j)
+    ↔ ((e : ℕ) × (e < edgeCount (t .count)) × (getD (t .keys) e 0 ≡ k) × T (heldIn f e)
+    × T (bitAt s (stateNumber (t .rules) (t .states) e)) × (stateNumber (t .rules) (t .nexts) e ≡ j))
+unfolding keyStates
+bitAt-keyStates t f s k j l =
+    ((λ h.
+      let w = test-of-setAll-zeros p g n 64 j h in
+      let q = walking-iff (t .rules) (t .states) (t .keys) f s k (w .0) .0 (w .2) in
+      (w .0, w .1, q .0, q .1, q .2, w .3)),
+    (λ w.
+      let i : g (w .0) / 8 < 64 = omega arith in
+      rw (w .5) at (bitAt-setAll-of-test p g n (replicate 64 0) (w .0) (w .1)
+      (walking-iff (t .rules) (t .states) (t .keys) f s k (w .0) .1 (w .2, w .3, w .4)) i)))
+  where
+    p : ℕ → Bool
+    p = walking (t .rules) (t .states) (t .keys) f s k
+
+    g : ℕ → ℕ
+    g = stateNumber (t .rules) (t .nexts)
+
+    n : ℕ
+    n = edgeCount (t .count)
+
+-- one key more: a key that was seen is used, one that was not is passed
+pub walked-seen : (t : Edges) (f s : List ℕ) (k : ℕ) → seenIn f k ≡ true → walked t f 0 s (suc k) ≡ keyStates t f (walked t f 0 s k) k
+unfolding walked
+walked-seen t f s k e = rw (zero-add k, e)
+
+pub walked-unseen : (t : Edges) (f s : List ℕ) (k : ℕ) → seenIn f k ≡ false → walked t f 0 s (suc k) ≡ walked t f 0 s k
+unfolding walked
+walked-unseen t f s k e = rw (zero-add k, e)

@@ -1,0 +1,4 @@
+pub mod Frame
+pub mod Edges
+pub mod Mask
+pub mod Ops

@@ -1,0 +1,119 @@
+// Frames: what each open value of a text holds, 96 bytes of a work buffer that the caller lends: 01, "Frames".
+// Levels are numbered from 1. Where the buffer has no frame of a level, nothing is read and nothing changes.
+mod bits; // bits.rt: bits of bytes
+mod close; // close.rt: the rules that a closed value fits
+mod edge; // edge.rt: tests of one edge
+mod key; // key.rt: a finished key
+mod mask; // mask.rt: the kinds that a finished value fits
+mod open; // open.rt: a fresh frame
+mod value; // value.rt: a finished value
+
+use table::kind::Finished;
+
+ghost use mathlib.Core.Path.{_≡_};
+ghost use lib.ListN.{length};
+ghost use Rattle.frame.specs.Edges.{edgesOf};
+ghost use Rattle.frame.specs.Frame.{frameCount, frameAt, putFrame, kindNumber};
+ghost use Rattle.frame.specs.Ops.{opened, keyed, valued, closed};
+
+// The number of frames of a buffer of n bytes.
+pub fn frames(n: usize) -> usize
+    ensures { λ r. ⌜ r ≡ frameCount n ⌝ }
+{
+    let k = n / 96;
+    if k < 64 { k } else { 64 }
+}
+
+// The kind of the value that is open at a level: 1 object, 2 array.
+pub fn kind_at(work: &[u8], level: usize) -> u8
+    ensures { λ r. ⌜ r ≡ kindNumber (frameAt (now (work .entry)) level) ⌝ }
+{
+    if level == 0 {
+        return 2;
+    }
+    if frames(work.len()) < level {
+        return 2;
+    }
+    if work[96 * (level - 1)] == 1 { 1 } else { 2 }
+}
+
+// Opens an object or an array at a level: writes its whole frame.
+pub fn open_level(work: &mut [u8], level: usize, object: bool, forms: &[u8; 32])
+    ensures { λ _. ⌜ now (work .exit) ≡ putFrame (now (work .entry)) level (opened (now (forms .entry)) object) ⌝ }
+{
+    if level == 0 {
+        return;
+    }
+    if frames(work.len()) < level {
+        return;
+    }
+    let a = 96 * (level - 1);
+    let b = a + 96;
+    open::open_frame(&mut work[a..b], object, forms);
+}
+
+// A finished key in the frame of a level: the number of a key of the book, or any from 128 on for a key that it does not have.
+pub fn key_level(work: &mut [u8], level: usize, key: u8)
+    ensures { λ _. ⌜ now (work .exit) ≡ putFrame (now (work .entry)) level (keyed key (frameAt (now (work .entry)) level)) ⌝ }
+{
+    if level == 0 {
+        return;
+    }
+    if frames(work.len()) < level {
+        return;
+    }
+    let a = 96 * (level - 1);
+    let b = a + 96;
+    key::key_frame(&mut work[a..b], key);
+}
+
+// A finished value in the frame of the level that it stands in.
+pub fn value_level<'a>(
+    work: &mut [u8],
+    level: usize,
+    edges: usize,
+    rules: &'a [u8; 512],
+    states: &'a [u8; 512],
+    keys: &'a [u8; 512],
+    kinds: &'a [u8; 512],
+    nexts: &'a [u8; 512],
+    forms: &'a [u8; 32],
+    v: Finished,
+)
+    ensures { λ _. ⌜ now (work .exit) ≡ putFrame (now (work .entry)) level (valued (edgesOf edges (now (rules .entry)) (now (states .entry)) (now (keys .entry)) (now (nexts .entry))) (now (kinds .entry)) (now (forms .entry)) v (frameAt (now (work .entry)) level)) ⌝ }
+{
+    if level == 0 {
+        return;
+    }
+    if frames(work.len()) < level {
+        return;
+    }
+    let a = 96 * (level - 1);
+    let b = a + 96;
+    value::value_frame(&mut work[a..b], edges, rules, states, keys, kinds, nexts, forms, v);
+}
+
+// Closes the value of a level: the rules that it fits, rule N at bit N.
+pub fn close_level<'a>(
+    work: &'a [u8],
+    level: usize,
+    edges: usize,
+    rules: &'a [u8; 512],
+    states: &'a [u8; 512],
+    keys: &'a [u8; 512],
+    nexts: &'a [u8; 512],
+    forms: &'a [u8; 32],
+    ends: &'a [u8; 64],
+) -> u32
+    ensures { λ s. ⌜ s ≡ closed (edgesOf edges (now (rules .entry)) (now (states .entry)) (now (keys .entry)) (now (nexts .entry))) (now (forms .entry)) (now (ends .entry)) (frameAt (now (work .entry)) level) ⌝ }
+{
+    if level == 0 {
+        return 0;
+    }
+    if frames(work.len()) < level {
+        return 0;
+    }
+    let a = 96 * (level - 1);
+    let b = a + 96;
+    close::close_frame(&work[a..b], edges, rules, states, keys, nexts, forms, ends)
+}

@@ -18,11 +18,10 @@ use Rattle.table.proofs.KindLaws.{kindOf-codeOf}
 use Rattle.book.specs.Text.{isNumber, number}
 use Rattle.book.specs.Entry.{Form, obj, arr}
 use Rattle.book.specs.Line.{isForm, formOf, isKey, keyOf, isKind, kindIn, smallKind, formed, small, entryOf, Said, bad, good, sayFields, sayLine, word-obj, word-end, dash}
-use Rattle.book.specs.Holds.{formCode}
 use Rattle.scan.specs.Scan.{capped}
 use Rattle.line.specs.declared.Line.{Line}
 use Rattle.line.specs.declared.Cuts.{Cuts}
-use Rattle.line.specs.Line.{saidWith, said, faulty, Judged, seg, Cut, formWith, formedEnd, formedEdge}
+use Rattle.line.specs.Line.{saidWith, said, faulty, Judged, seg, Cut, formedEnd, formedEdge}
 
 -- ---- well-formed fields
 module _ (k m : List ℕ) (r : Bool) (q : r ≡ same k dash) where
@@ -77,21 +76,7 @@ module _ (x f s k v m : List ℕ) (a : Bool) (qa : a ≡ isNumber x) where
         unfolding formed formedEdge
         formed-edge r e p = rw (sym qa ∙ ea, sym qb ∙ eb, sym qc ∙ ec, sym qd ∙ e) p
 
--- ---- forms and keys
-pub formCode-obj : (s : List ℕ) (r : Bool) → r ≡ same s word-obj → r ≡ true → 1 ≡ formCode (formOf s)
-unfolding formCode formOf
-formCode-obj s r q e = rw (sym q ∙ e)
-
-pub formCode-arr : (s : List ℕ) (r : Bool) → r ≡ same s word-obj → r ≡ false → 2 ≡ formCode (formOf s)
-unfolding formCode formOf
-formCode-arr s r q e = rw (sym q ∙ e)
-
--- the form with the code of a form is that form
-pub formWith-formCode : (f : Form) → formWith (formCode f) ≡ f
-unfolding formCode
-formWith-formCode obj = refl
-formWith-formCode arr = refl
-
+-- ---- keys
 pub keyOf-none : (s : List ℕ) (r : Bool) → r ≡ same s dash → r ≡ true → 0 ≡ length (keyOf s)
 unfolding keyOf
 keyOf-none s r q e = rw (sym q ∙ e)
@@ -169,14 +154,14 @@ module _ (x f s k v m : List ℕ) (at : ℕ) (a : Bool) (qa : a ≡ formed x f s
       unfolding small
       says-state r h p = over r ea (rw (eq-of-capped-lt 32 (number x) i qi hi .0, ltb-of-capped-ge 16 (number s) j qj h)) p
 
-      module _ (g : ℕ) (e : Bool) (hj : j < 16) (qg : g ≡ formCode (formOf f)) (qe : e ≡ same v word-end) where
-        pub says-end : e ≡ true → Judged k at (sayFields x f s k v m) (record { fault = 0; rule = i; form = g; state = j; kind = 38; next = 0; «key_at» = at; «key_len» = 0 })
-        unfolding sayFields small entryOf
+      module _ (g e : Bool) (hj : j < 16) (qg : g ≡ same f word-obj) (qe : e ≡ same v word-end) where
+        pub says-end : e ≡ true → Judged k at (sayFields x f s k v m) (record { fault = 0; rule = i; obj = g; state = j; kind = 38; next = 0; «key_at» = at; «key_len» = 0 })
+        unfolding sayFields small entryOf formOf
         says-end h =
             let ci = eq-of-capped-lt 32 (number x) i qi hi in
             let cj = eq-of-capped-lt 16 (number s) j qj hj in
             record {
-              says = rw (sym qa ∙ not-false a ea, ci .0, cj .0, sym qe ∙ h, qg, formWith-formCode (formOf f), ci .1, cj .1);
+              says = rw (sym qa ∙ not-false a ea, ci .0, cj .0, sym qe ∙ h, qg, ci .1, cj .1);
               place = refl;
               len = omega arith }
 
@@ -197,8 +182,8 @@ module _ (x f s k v m : List ℕ) (at : ℕ) (a : Bool) (qa : a ≡ formed x f s
                      eq-of-capped-lt 38 (codeOf (kindIn v)) c qc hc .0, ltb-of-capped-ge 16 (number m) n qn h)) p
 
             pub says-edge : (w : ℕ) → n < 16 → w ≡ length (keyOf k)
-                → Judged k at (sayFields x f s k v m) (record { fault = 0; rule = i; form = g; state = j; kind = c; next = n; «key_at» = at; «key_len» = w })
-            unfolding sayFields small entryOf
+                → Judged k at (sayFields x f s k v m) (record { fault = 0; rule = i; obj = g; state = j; kind = c; next = n; «key_at» = at; «key_len» = w })
+            unfolding sayFields small entryOf formOf
             says-edge w h qw =
                 let ci = eq-of-capped-lt 32 (number x) i qi hi in
                 let cj = eq-of-capped-lt 16 (number s) j qj hj in
@@ -207,8 +192,7 @@ module _ (x f s k v m : List ℕ) (at : ℕ) (a : Bool) (qa : a ≡ formed x f s
                 let kk : kindOf c ≡ kindIn v = ap kindOf (sym (ck .1)) ∙ kindOf-codeOf (kindIn v) in
                 record {
                   says =
-                    rw (sym qa ∙ not-false a ea, ci .0, cj .0, sym qe ∙ he, smallKind-codeOf (kindIn v), ck .0, cn .0, lt-ltb c 38 hc, qg,
-                        formWith-formCode (formOf f), qw, take-keyOf k, kk, ci .1, cj .1, cn .1);
+                    rw (sym qa ∙ not-false a ea, ci .0, cj .0, sym qe ∙ he, smallKind-codeOf (kindIn v), ck .0, cn .0, lt-ltb c 38 hc, qg, qw, take-keyOf k, kk, ci .1, cj .1, cn .1);
                   place = refl;
                   len = omega (arith, keyOf-le k) }
 

@@ -34,16 +34,16 @@ pub record Cut (l : List ℕ) (r : Cuts) : Type 0 where
           (seg (r .p5 + 1) (length l) l)
   pub rising : r .six ≡ true → Rising (length l) r
 
--- the form with a code
-abbrev pub formWith : ℕ → Form
-formWith c = cond (eqb c 1) obj arr
+-- the form of a line
+abbrev pub formWith : Bool → Form
+formWith b = cond b obj arr
 
 -- the entry of a line whose key is k
 abbrev pub entryWith : Line → List ℕ → Entry
 entryWith r k =
     cond (ltb (r .kind) 38)
-    (edge (r .rule) (formWith (r .form)) (r .state) k (kindOf (r .kind)) (r .next))
-    (end-state (r .rule) (formWith (r .form)) (r .state))
+    (edge (r .rule) (formWith (r .obj)) (r .state) k (kindOf (r .kind)) (r .next))
+    (end-state (r .rule) (formWith (r .obj)) (r .state))
 
 -- what the code's answer says, where the key's field is k
 abbrev pub saidWith : Line → List ℕ → Said
@@ -55,7 +55,7 @@ said r l = saidWith r (drop (r .«key_at») l)
 
 -- the line of a fault
 abbrev pub faulty : ℕ → ℕ → Line
-faulty n at = record { fault = n; rule = 0; form = 0; state = 0; kind = 0; next = 0; «key_at» = at; «key_len» = 0 }
+faulty n at = record { fault = n; rule = 0; obj = false; state = 0; kind = 0; next = 0; «key_at» = at; «key_len» = 0 }
 
 -- what six fields with the key's field k, which is at `at`, are judged to say
 pub record Judged (k : List ℕ) (at : ℕ) (s : Said) (r : Line) : Type 0 where

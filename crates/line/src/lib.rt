@@ -3,8 +3,7 @@ ghost use mathlib.Core.Path.{_≡_};
 ghost use Prim.Native.Nat.{_+_, _<_, _≤_};
 ghost use lib.ListN.{length};
 ghost use Rattle.laws.specs.Lists.{same};
-ghost use Rattle.book.specs.Line.{formed as isFormed, formOf, keyOf, sayFields, sayLine};
-ghost use Rattle.book.specs.Holds.{formCode};
+ghost use Rattle.book.specs.Line.{formed as isFormed, keyOf, sayFields, sayLine};
 ghost use Rattle.line.specs.Line.{Cut, Judged, said, faulty, seg, formedEnd, formedEdge};
 
 const OBJ: [u8; 3] = *b"obj";
@@ -21,12 +20,12 @@ pub struct Cuts {
     pub p5: usize,
 }
 
-// What a line says, or its fault, 3 or 4; 0 is none. Forms and kinds are by their codes, and kind 38 is an end line. The key is key_len
-// bytes of the line from key_at on.
+// What a line says, or its fault, 3 or 4; 0 is none. Its form is obj or else arr, its kind is by its code, and kind 38 is an end line. The
+// key is key_len bytes of the line from key_at on.
 pub struct Line {
     pub fault: u8,
     pub rule: u8,
-    pub form: u8,
+    pub obj: bool,
     pub state: u8,
     pub kind: u8,
     pub next: u8,
@@ -128,22 +127,13 @@ fn bad_line(fault: u8, at: usize) -> Line
     Line {
         fault,
         rule: 0,
-        form: 0,
+        obj: false,
         state: 0,
         kind: 0,
         next: 0,
         key_at: at,
         key_len: 0,
     }
-}
-
-fn form_code(form: &[u8]) -> u8
-    ensures { λ r. ⌜ r ≡ formCode (formOf (now (form .entry))) ⌝ }
-{
-    if scan::equal(form, &OBJ) {
-        return 1;
-    }
-    2
 }
 
 // How many bytes the key has; `-` is none.
@@ -171,12 +161,12 @@ fn judge_fields(rule: &[u8], form: &[u8], state: &[u8], key: &[u8], value: &[u8]
     if 16 <= q {
         return bad_line(4, at);
     }
-    let f = form_code(form);
+    let obj = scan::equal(form, &OBJ);
     if scan::equal(value, &END) {
         return Line {
             fault: 0,
             rule: r,
-            form: f,
+            obj,
             state: q,
             kind: 38,
             next: 0,
@@ -196,7 +186,7 @@ fn judge_fields(rule: &[u8], form: &[u8], state: &[u8], key: &[u8], value: &[u8]
     Line {
         fault: 0,
         rule: r,
-        form: f,
+        obj,
         state: q,
         kind: v,
         next: m,

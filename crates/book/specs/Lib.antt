@@ -1,1 +1,5 @@
 pub mod Entry
+pub mod Text
+pub mod Line
+pub mod Load
+pub mod Holds

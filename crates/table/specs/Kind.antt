@@ -1,6 +1,6 @@
 -- Value kinds and what fits them: 01, "Rule books" (value) and "Runs". Stated; the codes are this table's own. Assumes nothing.
 use mathlib.Core.Bool.{Bool, true, false, cond}
-use Prim.Native.Nat.{ℕ, _-_, _/_, _%_, _^_}
+use Prim.Native.Nat.{ℕ, _+_, _-_, _/_, _%_, _^_}
 use lib.Dec.{eqb, ltb}
 use Rattle.table.specs.declared.kind.Scalar.{Scalar}
 use Rattle.table.specs.declared.kind.Scalar.the-variants.{Null, True, False, Str, Num, Int}
@@ -18,6 +18,20 @@ kindOf c =
     (cond (eqb c 3) (Plain Str)
     (cond (eqb c 4) (Plain Num)
     (cond (eqb c 5) (Plain Int) (Rule (c - 6)))))))
+
+-- the code of a plain kind
+abbrev pub scalarCode : Scalar → ℕ
+scalarCode Null = 0
+scalarCode True = 1
+scalarCode False = 2
+scalarCode Str = 3
+scalarCode Num = 4
+scalarCode Int = 5
+
+-- the code of a kind: `kindOf` read backwards
+unfoldable pub codeOf : ValueKind → ℕ
+codeOf (Plain s) = scalarCode s
+codeOf (Rule n) = 6 + n
 
 -- `num` fits any number, `int` one without fraction and exponent part, the other plain kinds themselves: kind, then scalar
 abbrev pub scalarFits : Scalar → Scalar → Bool

@@ -1,5 +1,6 @@
 // The table of a rule book: what load makes of a book, in flat number arrays that can be lent one by one.
 pub mod kind; // kind.rt: value kinds, and which finished value fits which
+pub mod limits; // limits.rt: the limit of each number of a table
 
 // The numbers of a book. docs/LIMITS.md names the limit of each.
 pub struct Table {

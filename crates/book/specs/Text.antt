@@ -1,0 +1,39 @@
+-- Byte strings of a book: the parts between separators, and numbers in digits. 01, "Rule books". Stated. Assumes nothing.
+use mathlib.Core.Bool.{Bool, true, false, not, cond, _&&_, _||_}
+use mathlib.Core.List.{List, [], _∷_}
+use Prim.Native.Nat.{ℕ, _+_, _*_, _-_}
+use lib.Dec.{leb, eqb}
+use Rattle.laws.specs.Lists.{all}
+
+-- there is nothing in it
+unfoldable pub isEmpty : List ℕ → Bool
+isEmpty [] = true
+isEmpty (b ∷ s) = false
+
+-- byte b before the first of the parts
+unfoldable pub onto : ℕ → List (List ℕ) → List (List ℕ)
+onto b [] = (b ∷ []) ∷ []
+onto b (p ∷ ps) = (b ∷ p) ∷ ps
+
+-- the parts of a byte string between the bytes c: one part more than it has such bytes
+unfoldable pub split : ℕ → List ℕ → List (List ℕ)
+split c [] = [] ∷ []
+split c (b ∷ s) = cond (eqb b c) ([] ∷ split c s) (onto b (split c s))
+
+-- `0` to `9`
+unfoldable pub isDigit : ℕ → Bool
+isDigit b = leb 48 b && leb b 57
+
+-- digits without a leading zero: `0` itself, or digits of which the first is another
+unfoldable pub isNumber : List ℕ → Bool
+isNumber [] = false
+isNumber (d ∷ s) = isDigit d && (all isDigit s && (not (eqb d 48) || isEmpty s))
+
+-- what digits mean behind digits that mean a
+unfoldable pub numberFrom : ℕ → List ℕ → ℕ
+numberFrom a [] = a
+numberFrom a (d ∷ s) = numberFrom (a * 10 + (d - 48)) s
+
+-- what digits mean, in base ten
+unfoldable pub number : List ℕ → ℕ
+number s = numberFrom 0 s

@@ -1,0 +1,222 @@
+-- What a line says, by the tests on the way: each law takes their results and gives the answer there. Assumes nothing.
+use mathlib.Core.Bool.{Bool, true, false, not, cond, _&&_, _||_}
+use mathlib.Core.List.{List, [], _∷_}
+use mathlib.Core.Path.{_≡_, refl, sym, ap, _∙_}
+use Prim.Native.Nat.{ℕ, suc, _+_, _-_, _<_, _≤_}
+use native.Mathlib.Omega.{arith}
+use lib.Dec.{eqb, ltb}
+use lib.ListN.{length, take, drop, length-drop}
+use lib.Seq.{take-all, take-take, length-take-le}
+use borrow.Author.Tests.{eq-eqb, ne-eqb, lt-ltb, le-ltb, ltb-true, ltb-false, not-true, not-false}
+use Rattle.laws.specs.Lists.{same}
+use Rattle.table.specs.declared.kind.ValueKind.{ValueKind}
+use Rattle.table.specs.declared.kind.ValueKind.the-variants.{Plain, Rule}
+use Rattle.table.specs.declared.kind.Scalar.{Scalar}
+use Rattle.table.specs.declared.kind.Scalar.the-variants.{Null, True, False, Str, Num, Int}
+use Rattle.table.specs.Kind.{kindOf, codeOf}
+use Rattle.table.proofs.KindLaws.{kindOf-codeOf}
+use Rattle.book.specs.Text.{isNumber, number}
+use Rattle.book.specs.Entry.{Form, obj, arr}
+use Rattle.book.specs.Line.{isForm, formOf, isKey, keyOf, isKind, kindIn, smallKind, formed, small, entryOf, Said, bad, good, sayFields, sayLine, word-obj, word-end, dash}
+use Rattle.scan.specs.Scan.{capped}
+use Rattle.line.specs.declared.Line.{Line}
+use Rattle.line.specs.declared.Cuts.{Cuts}
+use Rattle.line.specs.Line.{saidWith, said, faulty, Judged, seg, Cut, formedEnd, formedEdge}
+
+-- ---- well-formed fields
+module _ (k m : List ℕ) (r : Bool) (q : r ≡ same k dash) where
+  pub formedEnd-yes : (t : Bool) → r ≡ true → t ≡ same m dash → t ≡ formedEnd k m
+  unfolding formedEnd
+  formedEnd-yes t e p = rw (sym q ∙ e) p
+
+  pub formedEnd-no : r ≡ false → false ≡ formedEnd k m
+  unfolding formedEnd
+  formedEnd-no e = rw (sym q ∙ e)
+
+module _ (f k v m : List ℕ) (a : Bool) (qa : a ≡ isKind v) where
+  pub formedEdge-kind : a ≡ false → false ≡ formedEdge f k v m
+  unfolding formedEdge
+  formedEdge-kind e = rw (sym qa ∙ e)
+
+  module _ (b : Bool) (ea : a ≡ true) (qb : b ≡ isNumber m) where
+    pub formedEdge-next : b ≡ false → false ≡ formedEdge f k v m
+    unfolding formedEdge
+    formedEdge-next e = rw (sym qa ∙ ea, sym qb ∙ e)
+
+    module _ (c : Bool) (eb : b ≡ true) (qc : c ≡ same f word-obj) where
+      pub formedEdge-obj : (d : Bool) → c ≡ true → d ≡ isKey k → d ≡ formedEdge f k v m
+      unfolding formedEdge
+      formedEdge-obj d e p = rw (sym qa ∙ ea, sym qb ∙ eb, sym qc ∙ e) p
+
+      pub formedEdge-arr : (d : Bool) → c ≡ false → d ≡ same k dash → d ≡ formedEdge f k v m
+      unfolding formedEdge
+      formedEdge-arr d e p = rw (sym qa ∙ ea, sym qb ∙ eb, sym qc ∙ e) p
+
+module _ (x f s k v m : List ℕ) (a : Bool) (qa : a ≡ isNumber x) where
+  pub formed-rule : a ≡ false → false ≡ formed x f s k v m
+  unfolding formed
+  formed-rule e = rw (sym qa ∙ e)
+
+  module _ (b : Bool) (ea : a ≡ true) (qb : b ≡ isForm f) where
+    pub formed-form : b ≡ false → false ≡ formed x f s k v m
+    unfolding formed
+    formed-form e = rw (sym qa ∙ ea, sym qb ∙ e)
+
+    module _ (c : Bool) (eb : b ≡ true) (qc : c ≡ isNumber s) where
+      pub formed-state : c ≡ false → false ≡ formed x f s k v m
+      unfolding formed
+      formed-state e = rw (sym qa ∙ ea, sym qb ∙ eb, sym qc ∙ e)
+
+      module _ (d : Bool) (ec : c ≡ true) (qd : d ≡ same v word-end) where
+        pub formed-end : (r : Bool) → d ≡ true → r ≡ formedEnd k m → r ≡ formed x f s k v m
+        unfolding formed formedEnd
+        formed-end r e p = rw (sym qa ∙ ea, sym qb ∙ eb, sym qc ∙ ec, sym qd ∙ e) p
+
+        pub formed-edge : (r : Bool) → d ≡ false → r ≡ formedEdge f k v m → r ≡ formed x f s k v m
+        unfolding formed formedEdge
+        formed-edge r e p = rw (sym qa ∙ ea, sym qb ∙ eb, sym qc ∙ ec, sym qd ∙ e) p
+
+-- ---- keys
+pub keyOf-none : (s : List ℕ) (r : Bool) → r ≡ same s dash → r ≡ true → 0 ≡ length (keyOf s)
+unfolding keyOf
+keyOf-none s r q e = rw (sym q ∙ e)
+
+pub keyOf-some : (s : List ℕ) (r : Bool) → r ≡ same s dash → r ≡ false → length s ≡ length (keyOf s)
+unfolding keyOf
+keyOf-some s r q e = rw (sym q ∙ e)
+
+-- the key is the first bytes of its field, all of them or none
+take-keyOf : (s : List ℕ) → take (length (keyOf s)) s ≡ keyOf s
+unfolding keyOf
+take-keyOf s = go (same s dash)
+  where
+    go : (b : Bool) → take (length (cond b [] s)) s ≡ cond b [] s
+    go true = refl
+    go false = take-all (length s) s (omega arith)
+
+keyOf-le : (s : List ℕ) → length (keyOf s) ≤ length s
+unfolding keyOf
+keyOf-le s = go (same s dash)
+  where
+    go : (b : Bool) → length (cond b [] s) ≤ length s
+    go true = omega arith
+    go false = omega arith
+
+-- ---- numbers against their limits
+ltb-of-capped-ge : (m v x : ℕ) → x ≡ capped m v → m ≤ x → ltb v m ≡ false
+unfolding capped
+ltb-of-capped-ge m v x e h = go (ltb v m) refl e
+  where
+    go : (b : Bool) → ltb v m ≡ b → x ≡ cond b v m → ltb v m ≡ false
+    go true q f = let l = ltb-true v m q in absurd (omega arith)
+    go false q f = q
+
+eq-of-capped-lt : (m v x : ℕ) → x ≡ capped m v → x < m → (ltb v m ≡ true) × (v ≡ x)
+unfolding capped
+eq-of-capped-lt m v x e h = go (ltb v m) refl e
+  where
+    go : (b : Bool) → ltb v m ≡ b → x ≡ cond b v m → (ltb v m ≡ true) × (v ≡ x)
+    go true q f = (q, sym f)
+    go false q f = absurd (omega arith)
+
+-- a kind is within its limit where its code is below 38
+smallKind-codeOf : (v : ValueKind) → smallKind v ≡ ltb (codeOf v) 38
+unfolding smallKind codeOf
+smallKind-codeOf (Plain Null) = refl
+smallKind-codeOf (Plain True) = refl
+smallKind-codeOf (Plain False) = refl
+smallKind-codeOf (Plain Str) = refl
+smallKind-codeOf (Plain Num) = refl
+smallKind-codeOf (Plain Int) = refl
+smallKind-codeOf (Rule n) = go (ltb n 32) refl
+  where
+    go : (b : Bool) → ltb n 32 ≡ b → b ≡ ltb (6 + n) 38
+    go true e = let l = ltb-true n 32 e in sym (lt-ltb (6 + n) 38 (omega arith))
+    go false e = let l = ltb-false n 32 e in sym (le-ltb (6 + n) 38 (omega arith))
+
+-- ---- what six fields say: rule x, form f, state s, key k, value v, next m
+module _ (x f s k v m : List ℕ) (at : ℕ) (a : Bool) (qa : a ≡ formed x f s k v m) where
+  pub says-malformed : (r : Line) → not a ≡ true → r ≡ faulty 3 at → Judged k at (sayFields x f s k v m) r
+  unfolding sayFields
+  says-malformed r e p = rw p (record { says = rw (sym qa ∙ not-true a e); place = refl; len = omega arith })
+
+  over : (r : Line) → not a ≡ false → small x s v m ≡ false → r ≡ faulty 4 at → Judged k at (sayFields x f s k v m) r
+  unfolding sayFields
+  over r e z p = rw p (record { says = rw (sym qa ∙ not-false a e, z); place = refl; len = omega arith })
+
+  module _ (i : ℕ) (ea : not a ≡ false) (qi : i ≡ capped 32 (number x)) where
+    pub says-rule : (r : Line) → 32 ≤ i → r ≡ faulty 4 at → Judged k at (sayFields x f s k v m) r
+    unfolding small
+    says-rule r h p = over r ea (rw (ltb-of-capped-ge 32 (number x) i qi h)) p
+
+    module _ (j : ℕ) (hi : i < 32) (qj : j ≡ capped 16 (number s)) where
+      pub says-state : (r : Line) → 16 ≤ j → r ≡ faulty 4 at → Judged k at (sayFields x f s k v m) r
+      unfolding small
+      says-state r h p = over r ea (rw (eq-of-capped-lt 32 (number x) i qi hi .0, ltb-of-capped-ge 16 (number s) j qj h)) p
+
+      module _ (g e : Bool) (hj : j < 16) (qg : g ≡ same f word-obj) (qe : e ≡ same v word-end) where
+        pub says-end : e ≡ true → Judged k at (sayFields x f s k v m) (record { fault = 0; rule = i; obj = g; state = j; kind = 38; next = 0; «key_at» = at; «key_len» = 0 })
+        unfolding sayFields small entryOf formOf
+        says-end h =
+            let ci = eq-of-capped-lt 32 (number x) i qi hi in
+            let cj = eq-of-capped-lt 16 (number s) j qj hj in
+            record {
+              says = rw (sym qa ∙ not-false a ea, ci .0, cj .0, sym qe ∙ h, qg, ci .1, cj .1);
+              place = refl;
+              len = omega arith }
+
+        module _ (c : ℕ) (he : e ≡ false) (qc : c ≡ capped 38 (codeOf (kindIn v))) where
+          pub says-kind : (r : Line) → 38 ≤ c → r ≡ faulty 4 at → Judged k at (sayFields x f s k v m) r
+          unfolding small
+          says-kind r h p =
+              over r ea
+              (rw (eq-of-capped-lt 32 (number x) i qi hi .0, eq-of-capped-lt 16 (number s) j qj hj .0, sym qe ∙ he, smallKind-codeOf (kindIn v),
+                   ltb-of-capped-ge 38 (codeOf (kindIn v)) c qc h)) p
+
+          module _ (n : ℕ) (hc : c < 38) (qn : n ≡ capped 16 (number m)) where
+            pub says-next : (r : Line) → 16 ≤ n → r ≡ faulty 4 at → Judged k at (sayFields x f s k v m) r
+            unfolding small
+            says-next r h p =
+                over r ea
+                (rw (eq-of-capped-lt 32 (number x) i qi hi .0, eq-of-capped-lt 16 (number s) j qj hj .0, sym qe ∙ he, smallKind-codeOf (kindIn v),
+                     eq-of-capped-lt 38 (codeOf (kindIn v)) c qc hc .0, ltb-of-capped-ge 16 (number m) n qn h)) p
+
+            pub says-edge : (w : ℕ) → n < 16 → w ≡ length (keyOf k)
+                → Judged k at (sayFields x f s k v m) (record { fault = 0; rule = i; obj = g; state = j; kind = c; next = n; «key_at» = at; «key_len» = w })
+            unfolding sayFields small entryOf formOf
+            says-edge w h qw =
+                let ci = eq-of-capped-lt 32 (number x) i qi hi in
+                let cj = eq-of-capped-lt 16 (number s) j qj hj in
+                let ck = eq-of-capped-lt 38 (codeOf (kindIn v)) c qc hc in
+                let cn = eq-of-capped-lt 16 (number m) n qn h in
+                let kk : kindOf c ≡ kindIn v = ap kindOf (sym (ck .1)) ∙ kindOf-codeOf (kindIn v) in
+                record {
+                  says =
+                    rw (sym qa ∙ not-false a ea, ci .0, cj .0, sym qe ∙ he, smallKind-codeOf (kindIn v), ck .0, cn .0, lt-ltb c 38 hc, qg, qw, take-keyOf k, kk, ci .1, cj .1, cn .1);
+                  place = refl;
+                  len = omega (arith, keyOf-le k) }
+
+-- ---- a line
+
+-- the key's field lies in the line, so its first bytes are the line's
+pub key-in-line : (l : List ℕ) (a b : ℕ) (s : Said) (r : Line) → a ≤ b → b ≤ length l → Judged (seg a b l) a s r
+    → (said r l ≡ s) × (r .«key_at» + r .«key_len» ≤ length l)
+key-in-line l a b s r h k j =
+    let n : length (seg a b l) ≡ b - a = length-take-le (b - a) (drop a l) (omega (arith, length-drop a l)) in
+    let q = j .len in
+    let p = j .place in
+    let e : take (r .«key_len») (drop (r .«key_at») l) ≡ take (r .«key_len») (seg a b l) =
+        rw p (sym (take-take (r .«key_len») (b - a) (drop a l) (omega (arith, q, n)))) in
+    (rw e (j .says), omega (arith, p, q, n))
+
+module _ (l : List ℕ) (c : Cuts) (q : Cut l c) where
+  pub line-none : (r : Line) → c .six ≡ false → r ≡ faulty 3 0 → (said r l ≡ sayLine l) × (r .«key_at» + r .«key_len» ≤ length l)
+  line-none r e p = rw p (sym (q .none e), omega arith)
+
+  pub line-six : (r : Line) → c .six ≡ true
+      → (said r l
+         ≡ sayFields (seg 0 (c .p1) l) (seg (c .p1 + 1) (c .p2) l) (seg (c .p2 + 1) (c .p3) l) (seg (c .p3 + 1) (c .p4) l) (seg (c .p4 + 1) (c .p5) l)
+           (seg (c .p5 + 1) (length l) l))
+        × (r .«key_at» + r .«key_len» ≤ length l)
+      → (said r l ≡ sayLine l) × (r .«key_at» + r .«key_len» ≤ length l)
+  line-six r e w = (w .0 ∙ sym (q .some e), w .1)

@@ -1,0 +1,12 @@
+-- `judge_six` meets its contract: the fields lie between the spaces, and the key's field within the line. Assumes nothing.
+use Prim.Native.Nat.{_+_}
+use Rattle.line.proofs.LineLaws.{key-in-line}
+use borrow.Author.Needs.{needs}
+use Rattle.line.proofs.judge_six.Statement.{statement}
+use Rattle.line.proofs.judge_six.Tie as tie
+
+returns : tie.Need-returns
+returns c = key-in-line (c .before .before .before .before .before .before .before .before .args .l .now) (c .before .before .before .before .before .before .before .before .args .p3 + 1) (c .before .before .before .before .before .before .before .before .args .p4) _ _ (search needs) (search needs) (c .judge-fields .ensures)
+
+pub judge-six-spec : {M : Type 1} → statement M
+judge-six-spec = tie.close (tie.spec (λ c. search needs) (λ c. search needs) (λ c. search needs) (λ c. search needs) (λ c. search needs) (λ c. search needs) (λ c. search needs) (λ c. search needs) (λ c. search needs) (λ c. search needs) (λ c. search needs) (λ c. search needs) (λ c. search needs) (λ c. search needs) (λ c. search needs) (λ c. search needs) (λ c. search needs) (λ c. search needs) (λ c. search needs) (λ c. search needs) (λ c. search needs) (λ c. search needs) (λ c. search needs) (λ c κs. search needs) returns)

@@ -1,0 +1,74 @@
+-- How the code's answers tell what a line says. Derived: `judge` joins them to `sayLine`. Assumes nothing.
+use mathlib.Core.Bool.{Bool, true, false, cond, _&&_}
+use mathlib.Core.List.{List}
+use mathlib.Core.Path.{_≡_}
+use Prim.Native.Nat.{ℕ, _+_, _-_, _<_, _≤_}
+use lib.Dec.{ltb, eqb}
+use lib.ListN.{length, take, drop}
+use Rattle.laws.specs.Lists.{same}
+use Rattle.table.specs.Kind.{kindOf}
+use Rattle.book.specs.Text.{isNumber}
+use Rattle.book.specs.Entry.{Form, obj, arr, Entry, edge, end-state}
+use Rattle.book.specs.Line.{Said, bad, good, sayFields, sayLine, isKind, isKey, word-obj, dash}
+use Rattle.line.specs.declared.Cuts.{Cuts}
+use Rattle.line.specs.declared.Line.{Line}
+
+-- the bytes of l from a up to b
+abbrev pub seg : ℕ → ℕ → List ℕ → List ℕ
+seg a b l = take (b - a) (drop a l)
+
+-- the five spaces of a line in their order
+pub record Rising (n : ℕ) (r : Cuts) : Type 0 where
+  pub a : r .p1 < r .p2
+  pub b : r .p2 < r .p3
+  pub c : r .p3 < r .p4
+  pub d : r .p4 < r .p5
+  pub e : r .p5 < n
+
+-- what the places of the spaces say of a line
+pub record Cut (l : List ℕ) (r : Cuts) : Type 0 where
+  pub none : r .six ≡ false → sayLine l ≡ bad 3
+  pub some : r .six ≡ true
+      → sayLine l
+        ≡ sayFields (seg 0 (r .p1) l) (seg (r .p1 + 1) (r .p2) l) (seg (r .p2 + 1) (r .p3) l) (seg (r .p3 + 1) (r .p4) l) (seg (r .p4 + 1) (r .p5) l)
+          (seg (r .p5 + 1) (length l) l)
+  pub rising : r .six ≡ true → Rising (length l) r
+
+-- the form of a line
+abbrev pub formWith : Bool → Form
+formWith b = cond b obj arr
+
+-- the entry of a line whose key is k
+abbrev pub entryWith : Line → List ℕ → Entry
+entryWith r k =
+    cond (ltb (r .kind) 38)
+    (edge (r .rule) (formWith (r .obj)) (r .state) k (kindOf (r .kind)) (r .next))
+    (end-state (r .rule) (formWith (r .obj)) (r .state))
+
+-- what the code's answer says, where the key's field is k
+abbrev pub saidWith : Line → List ℕ → Said
+saidWith r k = cond (eqb (r .fault) 0) (good (entryWith r (take (r .«key_len») k))) (bad (r .fault))
+
+-- what it says of the line l
+abbrev pub said : Line → List ℕ → Said
+said r l = saidWith r (drop (r .«key_at») l)
+
+-- the line of a fault
+abbrev pub faulty : ℕ → ℕ → Line
+faulty n at = record { fault = n; rule = 0; obj = false; state = 0; kind = 0; next = 0; «key_at» = at; «key_len» = 0 }
+
+-- what six fields with the key's field k, which is at `at`, are judged to say
+pub record Judged (k : List ℕ) (at : ℕ) (s : Said) (r : Line) : Type 0 where
+  pub says : saidWith r k ≡ s
+  pub place : r .«key_at» ≡ at
+  pub len : r .«key_len» ≤ length k
+
+-- ---- parts of `formed`
+
+-- key and next of an end line
+unfoldable pub formedEnd : List ℕ → List ℕ → Bool
+formedEnd k m = same k dash && same m dash
+
+-- form, key, value and next of an edge
+unfoldable pub formedEdge : List ℕ → List ℕ → List ℕ → List ℕ → Bool
+formedEdge f k v m = isKind v && (isNumber m && cond (same f word-obj) (isKey k) (same k dash))

@@ -1,0 +1,216 @@
+// One line of a book: its fields, and what it says by itself, refusals 3 and 4.
+ghost use mathlib.Core.Path.{_≡_};
+ghost use Prim.Native.Nat.{_+_, _<_, _≤_};
+ghost use lib.ListN.{length};
+ghost use Rattle.laws.specs.Lists.{same};
+ghost use Rattle.book.specs.Line.{formed as isFormed, keyOf, sayFields, sayLine};
+ghost use Rattle.line.specs.Line.{Cut, Judged, said, faulty, seg, formedEnd, formedEdge};
+
+const OBJ: [u8; 3] = *b"obj";
+const END: [u8; 3] = *b"end";
+const DASH: [u8; 1] = *b"-";
+
+// Where the five spaces of a line are, if it has exactly five.
+pub struct Cuts {
+    pub six: bool,
+    pub p1: usize,
+    pub p2: usize,
+    pub p3: usize,
+    pub p4: usize,
+    pub p5: usize,
+}
+
+// What a line says, or its fault, 3 or 4; 0 is none. Its form is obj or else arr, its kind is by its code, and kind 38 is an end line. The
+// key is key_len bytes of the line from key_at on.
+pub struct Line {
+    pub fault: u8,
+    pub rule: u8,
+    pub obj: bool,
+    pub state: u8,
+    pub kind: u8,
+    pub next: u8,
+    pub key_at: usize,
+    pub key_len: usize,
+}
+
+fn cut(line: &[u8]) -> Cuts
+    ensures { λ r. ⌜ Cut (now (line .entry)) r ⌝ }
+{
+    let none = Cuts {
+        six: false,
+        p1: 0,
+        p2: 0,
+        p3: 0,
+        p4: 0,
+        p5: 0,
+    };
+    let n = line.len();
+    let p1 = scan::find(line, 0, 32);
+    if n <= p1 {
+        return none;
+    }
+    let p2 = scan::find(line, p1 + 1, 32);
+    if n <= p2 {
+        return none;
+    }
+    let p3 = scan::find(line, p2 + 1, 32);
+    if n <= p3 {
+        return none;
+    }
+    let p4 = scan::find(line, p3 + 1, 32);
+    if n <= p4 {
+        return none;
+    }
+    let p5 = scan::find(line, p4 + 1, 32);
+    if n <= p5 {
+        return none;
+    }
+    let p6 = scan::find(line, p5 + 1, 32);
+    if p6 < n {
+        return none;
+    }
+    Cuts {
+        six: true,
+        p1,
+        p2,
+        p3,
+        p4,
+        p5,
+    }
+}
+
+// Key and next of an end line are none.
+fn formed_end(key: &[u8], next: &[u8]) -> bool
+    ensures { λ r. ⌜ r ≡ formedEnd (now (key .entry)) (now (next .entry)) ⌝ }
+{
+    if scan::equal(key, &DASH) {
+        return scan::equal(next, &DASH);
+    }
+    false
+}
+
+// Form, key, value and next of an edge.
+fn formed_edge(form: &[u8], key: &[u8], value: &[u8], next: &[u8]) -> bool
+    ensures { λ r. ⌜ r ≡ formedEdge (now (form .entry)) (now (key .entry)) (now (value .entry)) (now (next .entry)) ⌝ }
+{
+    if scan::is_kind(value) {
+        if scan::is_number(next) {
+            if scan::equal(form, &OBJ) {
+                return scan::is_key(key);
+            }
+            return scan::equal(key, &DASH);
+        }
+    }
+    false
+}
+
+// The six fields are well formed.
+fn formed(rule: &[u8], form: &[u8], state: &[u8], key: &[u8], value: &[u8], next: &[u8]) -> bool
+    ensures { λ r. ⌜ r ≡ isFormed (now (rule .entry)) (now (form .entry)) (now (state .entry)) (now (key .entry)) (now (value .entry)) (now (next .entry)) ⌝ }
+{
+    if scan::is_number(rule) {
+        if scan::is_form(form) {
+            if scan::is_number(state) {
+                if scan::equal(value, &END) {
+                    return formed_end(key, next);
+                }
+                return formed_edge(form, key, value, next);
+            }
+        }
+    }
+    false
+}
+
+fn bad_line(fault: u8, at: usize) -> Line
+    ensures { λ r. ⌜ r ≡ faulty fault at ⌝ }
+{
+    Line {
+        fault,
+        rule: 0,
+        obj: false,
+        state: 0,
+        kind: 0,
+        next: 0,
+        key_at: at,
+        key_len: 0,
+    }
+}
+
+// How many bytes the key has; `-` is none.
+fn key_length(key: &[u8]) -> usize
+    ensures { λ r. ⌜ r ≡ length (keyOf (now (key .entry))) ⌝ }
+{
+    if scan::equal(key, &DASH) {
+        return 0;
+    }
+    key.len()
+}
+
+// What six fields say, the key's field being at `at`.
+fn judge_fields(rule: &[u8], form: &[u8], state: &[u8], key: &[u8], value: &[u8], next: &[u8], at: usize) -> Line
+    ensures { λ r. ⌜ Judged (now (key .entry)) at (sayFields (now (rule .entry)) (now (form .entry)) (now (state .entry)) (now (key .entry)) (now (value .entry)) (now (next .entry))) r ⌝ }
+{
+    if !formed(rule, form, state, key, value, next) {
+        return bad_line(3, at);
+    }
+    let r = scan::value(rule, 32);
+    if 32 <= r {
+        return bad_line(4, at);
+    }
+    let q = scan::value(state, 16);
+    if 16 <= q {
+        return bad_line(4, at);
+    }
+    let obj = scan::equal(form, &OBJ);
+    if scan::equal(value, &END) {
+        return Line {
+            fault: 0,
+            rule: r,
+            obj,
+            state: q,
+            kind: 38,
+            next: 0,
+            key_at: at,
+            key_len: 0,
+        };
+    }
+    let v = scan::kind_code(value);
+    if 38 <= v {
+        return bad_line(4, at);
+    }
+    let m = scan::value(next, 16);
+    if 16 <= m {
+        return bad_line(4, at);
+    }
+    let n = key_length(key);
+    Line {
+        fault: 0,
+        rule: r,
+        obj,
+        state: q,
+        kind: v,
+        next: m,
+        key_at: at,
+        key_len: n,
+    }
+}
+
+// What a line with spaces at p1 to p5 says.
+fn judge_six(l: &[u8], p1: usize, p2: usize, p3: usize, p4: usize, p5: usize) -> Line
+    requires { ⌜ (p1 < p2) × (p2 < p3) × (p3 < p4) × (p4 < p5) × (p5 < length (now l)) ⌝ }
+    ensures { λ r. ⌜ (said r (now (l .entry)) ≡ sayFields (seg 0 p1 (now (l .entry))) (seg (p1 + 1) p2 (now (l .entry))) (seg (p2 + 1) p3 (now (l .entry))) (seg (p3 + 1) p4 (now (l .entry))) (seg (p4 + 1) p5 (now (l .entry))) (seg (p5 + 1) (length (now (l .entry))) (now (l .entry)))) × (r .«key_at» + r .«key_len» ≤ length (now (l .entry))) ⌝ }
+{
+    let at = p3 + 1;
+    judge_fields(&l[0..p1], &l[p1 + 1..p2], &l[p2 + 1..p3], &l[at..p4], &l[p4 + 1..p5], &l[p5 + 1..], at)
+}
+
+// What a line without its LF says, or its fault. The key lies within the line.
+pub fn judge(l: &[u8]) -> Line
+    ensures { λ r. ⌜ (said r (now (l .entry)) ≡ sayLine (now (l .entry))) × (r .«key_at» + r .«key_len» ≤ length (now (l .entry))) ⌝ }
+{
+    let c = cut(l);
+    if c.six {
+        return judge_six(l, c.p1, c.p2, c.p3, c.p4, c.p5);
+    }
+    bad_line(3, 0)
+}

@@ -1,0 +1,99 @@
+-- One turn of each loop over the numbers below a bound, and its end. Each law takes what a turn knows and says what the next one needs.
+-- Assumes nothing.
+use mathlib.Core.Bool.{Bool, true, false, cond, _||_}
+use mathlib.Core.List.{List, [], _∷_}
+use mathlib.Core.Path.{_≡_, refl, sym, ap, _∙_}
+use Prim.Native.Nat.{ℕ, zero, suc, _+_, _*_, _-_, _<_, _≤_}
+use native.Mathlib.Numerals.{add-one}
+use native.Mathlib.Omega.{arith}
+use lib.ListN.{length, getD, set, take, drop, drop-of-length-le}
+use lib.Seq.{drop-cons}
+use Rattle.laws.specs.Lists.{same}
+use Rattle.laws.specs.Tab.{tab}
+use Rattle.book.specs.Entry.{numberOf}
+use Rattle.book.specs.Holds.{keyAt}
+use Rattle.load.specs.Step.{some, firstAt, written, Lens}
+
+-- ---- some: from i on the test comes to b
+module _ (f : ℕ → Bool) (i n : ℕ) (b : Bool) (inv : some f i (n - i) ≡ b) where
+  pub some-hit : (r : Bool) → r ≡ f i → i < n → r ≡ true → true ≡ b
+  unfolding some
+  some-hit r q h e = let m : n - i ≡ suc (n - (i + 1)) = omega arith in rw (m, sym q ∙ e) at inv
+
+  pub some-more : (r : Bool) → r ≡ f i → i < n → r ≡ false → some f (i + 1) (n - (i + 1)) ≡ b
+  unfolding some
+  some-more r q h e = let m : n - i ≡ suc (n - (i + 1)) = omega arith in rw add-one (rw (m, sym q ∙ e, add-one) at inv)
+
+  pub some-end : n ≤ i → false ≡ b
+  unfolding some
+  some-end h = let m : n - i ≡ 0 = omega arith in rw m at inv
+
+pub some-start : (f : ℕ → Bool) (n : ℕ) → some f 0 (n - 0) ≡ some f 0 n
+some-start f n = let e : n - 0 ≡ n = omega arith in rw e
+
+-- ---- firstAt: from i on the first comes to v
+module _ (f : ℕ → Bool) (g : ℕ → ℕ) (i n v : ℕ) (inv : firstAt f g i (n - i) ≡ v) where
+  pub firstAt-hit : (r : Bool) → r ≡ f i → i < n → r ≡ true → g i ≡ v
+  unfolding firstAt
+  firstAt-hit r q h e = let m : n - i ≡ suc (n - (i + 1)) = omega arith in rw (m, sym q ∙ e) at inv
+
+  pub firstAt-more : (r : Bool) → r ≡ f i → i < n → r ≡ false → firstAt f g (i + 1) (n - (i + 1)) ≡ v
+  unfolding firstAt
+  firstAt-more r q h e = let m : n - i ≡ suc (n - (i + 1)) = omega arith in rw add-one (rw (m, sym q ∙ e, add-one) at inv)
+
+  pub firstAt-end : n ≤ i → 0 ≡ v
+  unfolding firstAt
+  firstAt-end h = let m : n - i ≡ 0 = omega arith in rw m at inv
+
+pub firstAt-start : (f : ℕ → Bool) (g : ℕ → ℕ) (n : ℕ) → firstAt f g 0 (n - 0) ≡ firstAt f g 0 n
+firstAt-start f g n = let e : n - 0 ≡ n = omega arith in rw e
+
+-- ---- the number of a key: from i on it is found at e
+tab-more : {A : Type 0} (f : ℕ → A) (i n : ℕ) → i < n → tab f i (n - i) ≡ f i ∷ tab f (i + 1) (n - (i + 1))
+tab-more f i n h = let e : n - i ≡ suc (n - (i + 1)) = omega arith in rw (e, add-one)
+
+tab-end : {A : Type 0} (f : ℕ → A) (i n : ℕ) → n ≤ i → tab f i (n - i) ≡ []
+tab-end f i n h = let e : n - i ≡ 0 = omega arith in rw e
+
+module _ (f : ℕ → List ℕ) (k : List ℕ) (i n e : ℕ) (inv : i + numberOf (tab f i (n - i)) k ≡ e) where
+  pub number-hit : (r : Bool) (x : List ℕ) → r ≡ same x k → x ≡ f i → i < n → r ≡ true → i ≡ e
+  unfolding numberOf
+  number-hit r x q y h p =
+      let u : same (f i) k ≡ true = ap (λ (s : List ℕ). same s k) (sym y) ∙ sym q ∙ p in
+      let z = rw (tab-more f i n h, u) at inv in
+      omega (arith, z)
+
+  pub number-more : (r : Bool) (x : List ℕ) → r ≡ same x k → x ≡ f i → i < n → r ≡ false → i + 1 + numberOf (tab f (i + 1) (n - (i + 1))) k ≡ e
+  unfolding numberOf
+  number-more r x q y h p =
+      let u : same (f i) k ≡ false = ap (λ (s : List ℕ). same s k) (sym y) ∙ sym q ∙ p in
+      let z = rw (tab-more f i n h, u) at inv in
+      omega (arith, z)
+
+  pub number-end : i ≤ n → n ≤ i → n ≡ e
+  unfolding numberOf
+  number-end l h = let z = rw (tab-end f i n h) at inv in omega (arith, z)
+
+pub number-start : (f : ℕ → List ℕ) (k : List ℕ) (n : ℕ) → 0 + numberOf (tab f 0 (n - 0)) k ≡ numberOf (tab f 0 n) k
+number-start f k n = let e : n - 0 ≡ n = omega arith in rw e (omega arith)
+
+-- the part of the bytes that is key i
+pub part-keyAt : (bytes lens : List ℕ) (i w : ℕ) → w ≡ getD lens i 0 → take (32 * i + w - 32 * i) (drop (32 * i) bytes) ≡ keyAt bytes lens i
+part-keyAt bytes lens i w e = let q : 32 * i + w - 32 * i ≡ getD lens i 0 = omega arith in rw q
+
+-- it lies within 4,096 bytes
+pub key-room : (lens : List ℕ) (i n w : ℕ) → Lens lens → i < n → n ≤ 128 → w ≡ getD lens i 0 → 32 * i + w ≤ 4096
+key-room lens i n w l h m e = let q = l .at i in omega (arith, q)
+
+-- ---- writing a key: what is left to write gives v
+module _ (w k v : List ℕ) (a i : ℕ) (inv : written w (a + i) (drop i k) ≡ v) where
+  pub written-more : i < length k → written (set w (a + i) (getD k i 0)) (a + (i + 1)) (drop (i + 1) k) ≡ v
+  unfolding written
+  written-more h = let e : a + (i + 1) ≡ suc (a + i) = omega arith in rw (e, add-one) (rw (drop-cons k i 0) at inv)
+
+  pub written-end : length k ≤ i → w ≡ v
+  unfolding written
+  written-end h = rw (drop-of-length-le k h) at inv
+
+pub written-start : (w k : List ℕ) (a : ℕ) → written w (a + 0) k ≡ written w a k
+written-start w k a = let e : a + 0 ≡ a = omega arith in rw e

@@ -1,0 +1,148 @@
+-- What taking an entry gives, by the tests on the way: each law takes their results and gives the answer there. Assumes nothing.
+use mathlib.Core.Bool.{Bool, true, false, not, cond, _&&_, _||_}
+use mathlib.Core.List.{List, [], _∷_}
+use mathlib.Core.Path.{_≡_, refl, sym, ap, _∙_}
+use Prim.Native.Nat.{ℕ, zero, suc, _+_, _*_, _-_, _%_, _<_, _≤_}
+use native.Mathlib.Omega.{arith}
+use lib.Dec.{eqb, ltb, leb}
+use lib.ListN.{length, getD, set}
+use borrow.Author.Tests.{eq-eqb, ne-eqb, lt-ltb, le-ltb, le-leb, lt-leb}
+use Rattle.laws.specs.Bits.{bitAt, setBit}
+use Rattle.laws.specs.Lists.{same}
+use Rattle.laws.specs.Tab.{tab}
+use Rattle.table.specs.declared.Table.{Table}
+use Rattle.table.specs.Kind.{kindOf, codeOf}
+use Rattle.table.specs.Limits.{WithinLimits}
+use Rattle.table.proofs.KindLaws.{codeOf-kindOf}
+use Rattle.book.specs.Entry.{Form, Entry, edge, end-state, numberOf}
+use Rattle.book.specs.Holds.{keyAt, keyNumber, tableKeys, formCode}
+use Rattle.line.specs.declared.Line.{Line}
+use Rattle.line.specs.Line.{formWith, entryWith}
+use Rattle.load.specs.declared.store.Cell.{Cell}
+use Rattle.load.specs.declared.store.Taken.{Taken}
+use Rattle.load.specs.Proper.{Proper}
+use Rattle.load.specs.Step.{some, sameAt, hasCell, written, withEnd, withEdge, withKey, isNew, formChanges, taken, cellFor, takeEdge, takeEnd, takeEntry, Lens}
+
+-- ---- keys
+numberOf-tab-le : (f : ℕ → List ℕ) (i n : ℕ) (k : List ℕ) → numberOf (tab f i n) k ≤ n
+unfolding numberOf
+numberOf-tab-le f i zero k = omega arith
+numberOf-tab-le f i (suc n) k = go (same (f i) k) (numberOf-tab-le f (suc i) n k)
+  where
+    go : (b : Bool) → numberOf (tab f (suc i) n) k ≤ n → cond b 0 (suc (numberOf (tab f (suc i) n) k)) ≤ suc n
+    go true h = omega arith
+    go false h = omega arith
+
+pub keyNumber-none : (ks : List (List ℕ)) (k : List ℕ) → length k ≡ 0 → (128 ≡ keyNumber ks k) × (128 ≤ 128)
+unfolding keyNumber
+keyNumber-none ks [] e = (refl, omega arith)
+keyNumber-none ks (x ∷ k) e = absurd (omega arith)
+
+pub keyNumber-some : (f : ℕ → List ℕ) (n : ℕ) (k : List ℕ) (r : ℕ) → n ≤ 128 → (length k ≡ 0 → ⊥) → r ≡ numberOf (tab f 0 n) k
+    → (r ≡ keyNumber (tab f 0 n) k) × (r ≤ 128)
+unfolding keyNumber
+keyNumber-some f n [] r h e q = absurd (e refl)
+keyNumber-some f n (x ∷ k) r h e q = (q, omega (arith, numberOf-tab-le f 0 n (x ∷ k)))
+
+pub withKey-eq : (t : Table) (k w : List ℕ) → w ≡ written (t .«key_bytes») (32 * t .keys) k → length k ≤ 32
+    → _≡_ {A = Table}
+      (record {
+        edges = t .edges; keys = t .keys + 1;
+        «edge_rule» = t .«edge_rule»; «edge_state» = t .«edge_state»; «edge_key» = t .«edge_key»;
+        «edge_kind» = t .«edge_kind»; «edge_next» = t .«edge_next»; «edge_line» = t .«edge_line»;
+        «key_bytes» = w; «key_len» = set (t .«key_len») (t .keys) (length k % 256); ends = t .ends; forms = t .forms })
+      (withKey t k)
+withKey-eq t k w e h = let m : length k % 256 ≡ length k = omega arith in rw (e, m)
+
+-- ---- end lines
+module _ (t : Table) (r f q : ℕ) (b : Bool) (p : b ≡ bitAt (t .ends) (16 * r + q)) where
+  pub takeEnd-again : b ≡ true → taken 7 t ≡ takeEnd t r f q
+  unfolding takeEnd
+  takeEnd-again e = rw (sym p ∙ e)
+
+  pub takeEnd-new : (u : Table) → b ≡ false → u ≡ withEnd t r f q → taken 0 u ≡ takeEnd t r f q
+  unfolding takeEnd
+  takeEnd-new u e w = rw (sym p ∙ e, w)
+
+-- ---- edges
+module _ (n : ℕ) (t : Table) (f : ℕ) (c : Cell) (k : List ℕ) (b : Bool)
+    (p : b ≡ some (sameAt (t .«edge_rule») (t .«edge_state») (t .«edge_key») (t .«edge_kind») (t .«edge_next») c) 0 (t .edges)) where
+  pub takeEdge-again : b ≡ true → taken 7 t ≡ takeEdge n t f c k
+  unfolding takeEdge hasCell
+  takeEdge-again e = rw (sym p ∙ e)
+
+  module _ (nb : b ≡ false) where
+    pub takeEdge-full : 512 ≤ t .edges → taken 5 t ≡ takeEdge n t f c k
+    unfolding takeEdge hasCell
+    takeEdge-full h = rw (sym p ∙ nb, le-leb 512 (t .edges) h)
+
+    module _ (h : t .edges < 512) (w : Bool) (m : ℕ) (qm : m ≡ c .key) (qw : w ≡ isNew (length k) m (t .keys)) where
+      test : {x : Bool} → w ≡ x → isNew (length k) (c .key) (t .keys) ≡ x
+      test e = ap (λ (i : ℕ). isNew (length k) i (t .keys)) (sym qm) ∙ sym qw ∙ e
+
+      pub takeEdge-keys : w ≡ true → 128 ≤ t .keys → taken 5 t ≡ takeEdge n t f c k
+      unfolding takeEdge hasCell
+      takeEdge-keys e l = rw (sym p ∙ nb, lt-leb 512 (t .edges) h, test e, le-leb 128 (t .keys) l)
+
+      pub takeEdge-key : (u v : Table) → w ≡ true → t .keys < 128 → u ≡ withKey t k → v ≡ withEdge u f c n → taken 0 v ≡ takeEdge n t f c k
+      unfolding takeEdge hasCell
+      takeEdge-key u v e l x y = rw (sym p ∙ nb, lt-leb 512 (t .edges) h, test e, lt-leb 128 (t .keys) l, y, x)
+
+      pub takeEdge-old : (v : Table) → w ≡ false → v ≡ withEdge t f c n → taken 0 v ≡ takeEdge n t f c k
+      unfolding takeEdge hasCell
+      takeEdge-old v e y = rw (sym p ∙ nb, lt-leb 512 (t .edges) h, test e, y)
+
+-- the limits of a table bound the lengths of its keys
+pub lens-of-limits : (t : Table) → WithinLimits t → Lens (t .«key_len»)
+lens-of-limits t w = record { at = w .len }
+
+-- ---- entries
+module _ (l : Line) (k : List ℕ) where
+  -- an edge
+  pub entryWith-edge : l .kind < 38 → entryWith l k ≡ edge (l .rule) (formWith (l .obj)) (l .state) k (kindOf (l .kind)) (l .next)
+  entryWith-edge h = rw (lt-ltb (l .kind) 38 h)
+
+  pub entryWith-end : 38 ≤ l .kind → entryWith l k ≡ end-state (l .rule) (formWith (l .obj)) (l .state)
+  entryWith-end h = rw (le-ltb (l .kind) 38 h)
+
+  pub proper-rule : Proper (entryWith l k) → l .rule < 32
+  proper-rule = go (ltb (l .kind) 38)
+    where
+      go : (b : Bool) → Proper (cond b (edge (l .rule) (formWith (l .obj)) (l .state) k (kindOf (l .kind)) (l .next)) (end-state (l .rule) (formWith (l .obj)) (l .state))) → l .rule < 32
+      go true p = p .rule
+      go false p = p .0
+
+  pub proper-state : Proper (entryWith l k) → l .state < 16
+  proper-state = go (ltb (l .kind) 38)
+    where
+      go : (b : Bool) → Proper (cond b (edge (l .rule) (formWith (l .obj)) (l .state) k (kindOf (l .kind)) (l .next)) (end-state (l .rule) (formWith (l .obj)) (l .state))) → l .state < 16
+      go true p = p .state
+      go false p = p .1
+
+  pub proper-len : l .kind < 38 → Proper (entryWith l k) → length k ≤ 32
+  proper-len h p = let q : Proper (edge (l .rule) (formWith (l .obj)) (l .state) k (kindOf (l .kind)) (l .next)) = rw (entryWith-edge h) at p in q .len
+
+module _ (n : ℕ) (t : Table) (l : Line) (k : List ℕ) (f : ℕ) (qf : f ≡ formCode (formWith (l .obj))) (b : Bool)
+    (qb : b ≡ formChanges (getD (t .forms) (l .rule) 0) f) where
+  pub takeEntry-form : b ≡ true → taken 6 t ≡ takeEntry n t (entryWith l k)
+  unfolding takeEntry
+  takeEntry-form e = go (ltb (l .kind) 38)
+    where
+      z : formChanges (getD (t .forms) (l .rule) 0) (formCode (formWith (l .obj))) ≡ true
+      z = sym (ap (formChanges (getD (t .forms) (l .rule) 0)) qf) ∙ sym qb ∙ e
+      go : (c : Bool) → taken 6 t ≡ takeEntry n t (cond c (edge (l .rule) (formWith (l .obj)) (l .state) k (kindOf (l .kind)) (l .next)) (end-state (l .rule) (formWith (l .obj)) (l .state)))
+      go true = rw z
+      go false = rw z
+
+  module _ (nb : b ≡ false) where
+    same-form : formChanges (getD (t .forms) (l .rule) 0) (formCode (formWith (l .obj))) ≡ false
+    same-form = sym (ap (formChanges (getD (t .forms) (l .rule) 0)) qf) ∙ sym qb ∙ nb
+
+    pub takeEntry-edge : (m : ℕ) (v : Taken) → l .kind < 38 → m ≡ keyNumber (tab (keyAt (t .«key_bytes») (t .«key_len»)) 0 (t .keys)) k
+        → v ≡ takeEdge n t f (record { rule = l .rule; state = l .state; key = m; kind = l .kind; next = l .next }) k → v ≡ takeEntry n t (entryWith l k)
+    unfolding takeEntry tableKeys
+    takeEntry-edge m v h qm w = w ∙ rw (entryWith-edge l k h, same-form, codeOf-kindOf (l .kind), sym qm, qf)
+
+    pub takeEntry-end : (v : Taken) → 38 ≤ l .kind → v ≡ takeEnd t (l .rule) f (l .state) → v ≡ takeEntry n t (entryWith l k)
+    unfolding takeEntry
+    takeEntry-end v h w = w ∙ rw (entryWith-end l k h, same-form, qf)

@@ -1,0 +1,14 @@
+-- `store::key_number` meets its contract. Assumes nothing.
+use Rattle.load.proofs.StoreLaws.{keyNumber-none, keyNumber-some}
+use borrow.Author.Needs.{needs}
+use Rattle.load.proofs.store.key_number.Statement.{statement}
+use Rattle.load.proofs.store.key_number.Tie as tie
+
+returns : tie.Need-returns
+returns c = keyNumber-none _ _ (c .if1 .taken)
+
+returns-2 : tie.Need-returns-2
+returns-2 c = keyNumber-some _ _ _ _ (c .before .before .before .before .pre .0) (c .before .if1 .left) (c .find-key .ensures)
+
+pub key-number-spec : {M : Type 1} → statement M
+key-number-spec = tie.close (tie.spec returns (λ c κs. search needs) returns-2)

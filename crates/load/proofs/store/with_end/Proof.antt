@@ -1,0 +1,10 @@
+-- `store::with_end` meets its contract. Assumes nothing.
+use borrow.Author.Needs.{needs}
+use Rattle.load.proofs.store.with_end.Statement.{statement}
+use Rattle.load.proofs.store.with_end.Tie as tie
+
+returns : tie.Need-returns
+returns c = cc
+
+pub with-end-spec : {M : Type 1} → statement M
+with-end-spec = tie.close (tie.spec (λ c. search needs) (λ c. search needs) (λ c κs. search needs) (λ c. search needs) returns)

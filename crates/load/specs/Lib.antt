@@ -1,0 +1,4 @@
+pub mod Answer
+pub mod Step
+pub mod Check
+pub mod Proper

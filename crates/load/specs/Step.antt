@@ -1,0 +1,158 @@
+-- Reading a book into a table, line by line, as the code does it. Derived: `ReadLaws` joins it to `readBook` of the book. Assumes nothing.
+use mathlib.Core.Bool.{Bool, true, false, not, cond, _&&_, _||_}
+use mathlib.Core.List.{List, [], _∷_}
+use Prim.Native.Nat.{ℕ, zero, suc, _+_, _*_, _<_, _≤_}
+use mathlib.Core.Path.{_≡_}
+use lib.Dec.{leb, ltb, eqb}
+use lib.ListN.{length, getD, set, take, drop, replicate}
+use Rattle.laws.specs.Bits.{bitAt, setBit}
+use Rattle.laws.specs.Lists.{same}
+use Rattle.table.specs.declared.Table.{Table}
+use Rattle.table.specs.declared.kind.ValueKind.{ValueKind}
+use Rattle.table.specs.Kind.{codeOf}
+use Rattle.book.specs.Entry.{Form, obj, arr, Entry, edge, end-state}
+use Rattle.book.specs.Text.{isEmpty, split}
+use Rattle.book.specs.Line.{Said, bad, good, sayLine}
+use Rattle.book.specs.Load.{names}
+use Rattle.book.specs.Holds.{tableKeys, keyNumber, formCode}
+use Rattle.load.specs.declared.Answer.{Answer}
+use Rattle.load.specs.declared.Answer.the-variants.{Accepted, Size, Names, Malformed, AboveLimit, TooMany, FormChanged, Repeated}
+use Rattle.load.specs.declared.Loaded.{Loaded}
+use Rattle.load.specs.declared.store.Cell.{Cell}
+use Rattle.load.specs.declared.store.Taken.{Taken}
+
+-- ---- numbers below a bound
+
+-- the test passes at one of i, i + 1, .., n of them
+unfoldable pub some : (ℕ → Bool) → ℕ → ℕ → Bool
+some f i zero = false
+some f i (suc n) = f i || some f (suc i) n
+
+-- g at the first of i, i + 1, .., n of them, at which the test passes; 0 where it does at none
+unfoldable pub firstAt : (ℕ → Bool) → (ℕ → ℕ) → ℕ → ℕ → ℕ
+firstAt f g i zero = 0
+firstAt f g i (suc n) = cond (f i) (g i) (firstAt f g (suc i) n)
+
+-- ---- tables
+
+-- the table of a refusal
+unfoldable pub emptyTable : Table
+emptyTable = record {
+  edges = 0; keys = 0;
+  «edge_rule» = replicate 512 0; «edge_state» = replicate 512 0; «edge_key» = replicate 512 0;
+  «edge_kind» = replicate 512 0; «edge_next» = replicate 512 0; «edge_line» = replicate 512 0;
+  «key_bytes» = replicate 4096 0; «key_len» = replicate 128 0; ends = replicate 64 0; forms = replicate 32 0 }
+
+-- one end state more, of a rule with form f
+abbrev pub withEnd : Table → ℕ → ℕ → ℕ → Table
+withEnd t r f q = record {
+  edges = t .edges; keys = t .keys;
+  «edge_rule» = t .«edge_rule»; «edge_state» = t .«edge_state»; «edge_key» = t .«edge_key»;
+  «edge_kind» = t .«edge_kind»; «edge_next» = t .«edge_next»; «edge_line» = t .«edge_line»;
+  «key_bytes» = t .«key_bytes»; «key_len» = t .«key_len»; ends = setBit (t .ends) (16 * r + q); forms = set (t .forms) r f }
+
+-- one edge more, of a rule with form f, on line n
+abbrev pub withEdge : Table → ℕ → Cell → ℕ → Table
+withEdge t f c n = record {
+  edges = t .edges + 1; keys = t .keys;
+  «edge_rule» = set (t .«edge_rule») (t .edges) (c .rule); «edge_state» = set (t .«edge_state») (t .edges) (c .state);
+  «edge_key» = set (t .«edge_key») (t .edges) (c .key); «edge_kind» = set (t .«edge_kind») (t .edges) (c .kind);
+  «edge_next» = set (t .«edge_next») (t .edges) (c .next); «edge_line» = set (t .«edge_line») (t .edges) n;
+  «key_bytes» = t .«key_bytes»; «key_len» = t .«key_len»; ends = t .ends; forms = set (t .forms) (c .rule) f }
+
+-- the bytes k from place a on
+unfoldable pub written : List ℕ → ℕ → List ℕ → List ℕ
+written w a [] = w
+written w a (b ∷ k) = written (set w a b) (suc a) k
+
+-- one key more
+abbrev pub withKey : Table → List ℕ → Table
+withKey t k = record {
+  edges = t .edges; keys = t .keys + 1;
+  «edge_rule» = t .«edge_rule»; «edge_state» = t .«edge_state»; «edge_key» = t .«edge_key»;
+  «edge_kind» = t .«edge_kind»; «edge_next» = t .«edge_next»; «edge_line» = t .«edge_line»;
+  «key_bytes» = written (t .«key_bytes») (32 * t .keys) k; «key_len» = set (t .«key_len») (t .keys) (length k); ends = t .ends; forms = t .forms }
+
+-- all lengths of keys are at most 32
+pub record Lens (lens : List ℕ) : Type 0 where
+  pub at : (i : ℕ) → getD lens i 0 ≤ 32
+
+-- ---- one line
+
+-- edge e has the numbers of a cell, from the rules, states, key numbers, kinds and nexts of all edges
+unfoldable pub sameAt : List ℕ → List ℕ → List ℕ → List ℕ → List ℕ → Cell → ℕ → Bool
+sameAt rules states keys kinds nexts c e =
+    eqb (c .rule) (getD rules e 0)
+    && (eqb (c .state) (getD states e 0) && (eqb (c .key) (getD keys e 0) && (eqb (c .kind) (getD kinds e 0) && eqb (c .next) (getD nexts e 0))))
+
+-- an edge of the table has the numbers of a cell
+unfoldable pub hasCell : Table → Cell → Bool
+hasCell t c = some (sameAt (t .«edge_rule») (t .«edge_state») (t .«edge_key») (t .«edge_kind») (t .«edge_next») c) 0 (t .edges)
+
+-- the key of n bytes with number k is a new one behind m keys
+unfoldable pub isNew : ℕ → ℕ → ℕ → Bool
+isNew n k m = not (eqb n 0) && eqb k m
+
+-- a rule has another form already
+unfoldable pub formChanges : ℕ → ℕ → Bool
+formChanges old new = not (eqb old 0) && not (eqb old new)
+
+abbrev pub taken : ℕ → Table → Taken
+taken k t = record { fault = k; table = t }
+
+-- the numbers of an edge with key k
+abbrev pub cellFor : Table → ℕ → ℕ → List ℕ → ℕ → ℕ → Cell
+cellFor t r q k v m = record { rule = r; state = q; key = keyNumber (tableKeys t) k; kind = v; next = m }
+
+-- refusals 7 and 5 of an edge with key k, of a rule with form f, or the table with it
+unfoldable pub takeEdge : ℕ → Table → ℕ → Cell → List ℕ → Taken
+takeEdge n t f c k =
+    cond (hasCell t c) (taken 7 t)
+    (cond (leb 512 (t .edges)) (taken 5 t)
+    (cond (isNew (length k) (c .key) (t .keys))
+      (cond (leb 128 (t .keys)) (taken 5 t) (taken 0 (withEdge (withKey t k) f c n)))
+      (taken 0 (withEdge t f c n))))
+
+-- refusal 7 of an end line, or the table with it
+unfoldable pub takeEnd : Table → ℕ → ℕ → ℕ → Taken
+takeEnd t r f q = cond (bitAt (t .ends) (16 * r + q)) (taken 7 t) (taken 0 (withEnd t r f q))
+
+-- refusals 6, 7 and 5 of an entry on line n, or the table with it
+unfoldable pub takeEntry : ℕ → Table → Entry → Taken
+takeEntry n t (edge r f q k v m) =
+    cond (formChanges (getD (t .forms) r 0) (formCode f)) (taken 6 t) (takeEdge n t (formCode f) (cellFor t r q k (codeOf v) m) k)
+takeEntry n t (end-state r f q) = cond (formChanges (getD (t .forms) r 0) (formCode f)) (taken 6 t) (takeEnd t r (formCode f) q)
+
+-- a line
+unfoldable pub takeSaid : ℕ → Table → Said → Taken
+takeSaid n t (bad k) = taken k t
+takeSaid n t (good e) = takeEntry n t e
+
+-- ---- all lines
+
+-- the answer for a fault of line n
+unfoldable pub lineRefusal : ℕ → ℕ → Answer
+lineRefusal k n =
+    cond (eqb k 3) (Malformed n) (cond (eqb k 4) (AboveLimit n) (cond (eqb k 6) (FormChanged n) (cond (eqb k 7) (Repeated n) (TooMany n))))
+
+abbrev pub loaded : Table → Loaded
+loaded t = record { answer = Accepted; table = t }
+
+abbrev pub refusal : Answer → Loaded
+refusal a = record { answer = a; table = emptyTable }
+
+-- the rest of the book behind line n, where the line is taken
+unfoldable pub takeOn : ℕ → Taken → (Table → Loaded) → Loaded
+takeOn n v rest = cond (eqb (v .fault) 0) (rest (v .table)) (refusal (lineRefusal (v .fault) n))
+
+-- the lines from line n on, into t
+unfoldable pub takeLines : ℕ → Table → List (List ℕ) → Loaded
+takeLines n t [] = loaded t
+takeLines n t (l ∷ []) = cond (isEmpty l) (loaded t) (refusal (Malformed n))
+takeLines n t (l ∷ (x ∷ ls)) = takeOn n (takeSaid n t (sayLine l)) (λ u. takeLines (suc n) u (x ∷ ls))
+
+-- refusals 1 to 7, or the table of the lines
+unfoldable pub takeBook : List ℕ → Loaded
+takeBook b =
+    cond (isEmpty b || ltb 65536 (length b)) (refusal Size)
+    (cond (same (take 31 b) names) (takeLines 2 emptyTable (split 10 (drop 31 b))) (refusal Names))

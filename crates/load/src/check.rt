@@ -1,0 +1,1 @@
+// The checks after all lines.

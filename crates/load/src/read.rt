@@ -1,0 +1,1 @@
+// A book line by line.

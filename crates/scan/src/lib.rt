@@ -1,0 +1,231 @@
+// Scans of a book's bytes: where a separator is, and what a field may be and means.
+ghost use mathlib.Core.Path.{_≡_};
+ghost use mathlib.Core.Bool.{cond};
+ghost use Prim.Native.Nat.{_+_, _*_, _-_, _≤_};
+ghost use lib.Dec.{ltb};
+ghost use lib.ListN.{drop};
+ghost use Rattle.laws.specs.Lists.{same, all};
+ghost use Rattle.table.specs.Kind.{codeOf};
+ghost use Rattle.book.specs.Text.{isDigit, isNumber, number};
+ghost use Rattle.book.specs.Line.{isVisible, isKey, isKind, isForm, kindIn};
+ghost use Rattle.scan.specs.Scan.{until, capped, plainCode};
+
+const OBJ: [u8; 3] = *b"obj";
+const ARR: [u8; 3] = *b"arr";
+const NULL: [u8; 4] = *b"null";
+const TRUE: [u8; 4] = *b"true";
+const FALSE: [u8; 5] = *b"false";
+const STR: [u8; 3] = *b"str";
+const NUM: [u8; 3] = *b"num";
+const INT: [u8; 3] = *b"int";
+const DASH: [u8; 1] = *b"-";
+
+// The place of the first byte c from `from` on, or the end.
+pub fn find(s: &[u8], from: usize, c: u8) -> usize
+    ensures { λ r. ⌜ r ≡ from + until c (drop from (now (s .entry))) ⌝ }
+{
+    let mut i = from;
+    while i < s.len() {
+        if s[i] == c {
+            return i;
+        }
+        i += 1;
+    }
+    i
+}
+
+// The two are the same bytes.
+pub fn equal(s: &[u8], t: &[u8]) -> bool
+    ensures { λ r. ⌜ r ≡ same (now (s .entry)) (now (t .entry)) ⌝ }
+{
+    let mut i = 0;
+    while i < s.len() {
+        if i < t.len() {
+            if s[i] != t[i] {
+                return false;
+            }
+        } else {
+            return false;
+        }
+        i += 1;
+    }
+    i == t.len()
+}
+
+fn is_digit(b: u8) -> bool
+    ensures { λ r. ⌜ r ≡ isDigit b ⌝ }
+{
+    48 <= b && b <= 57
+}
+
+fn is_visible(b: u8) -> bool
+    ensures { λ r. ⌜ r ≡ isVisible b ⌝ }
+{
+    0x21 <= b && b <= 0x7E
+}
+
+// Every byte from `from` on is a digit.
+fn all_digits(s: &[u8], from: usize) -> bool
+    ensures { λ r. ⌜ r ≡ all isDigit (drop from (now (s .entry))) ⌝ }
+{
+    let mut i = from;
+    while i < s.len() {
+        if !is_digit(s[i]) {
+            return false;
+        }
+        i += 1;
+    }
+    true
+}
+
+// Every byte is visible.
+fn all_visible(s: &[u8]) -> bool
+    ensures { λ r. ⌜ r ≡ all isVisible (now (s .entry)) ⌝ }
+{
+    let mut i = 0;
+    while i < s.len() {
+        if !is_visible(s[i]) {
+            return false;
+        }
+        i += 1;
+    }
+    true
+}
+
+// The field is a number without a leading zero.
+pub fn is_number(s: &[u8]) -> bool
+    ensures { λ r. ⌜ r ≡ isNumber (now (s .entry)) ⌝ }
+{
+    if s.len() == 0 {
+        return false;
+    }
+    if !is_digit(s[0]) {
+        return false;
+    }
+    if !all_digits(s, 1) {
+        return false;
+    }
+    if s[0] != 48 {
+        return true;
+    }
+    s.len() == 1
+}
+
+fn digit(b: u8) -> u32
+    ensures { λ r. ⌜ (r ≡ b - 48) × (r ≤ 255) ⌝ }
+{
+    if b < 48 {
+        return 0;
+    }
+    (b - 48) as u32
+}
+
+// One digit more, until the limit is reached. A number never grows past ten times its limit, so none wraps.
+fn grow(acc: u32, limit: u8, b: u8) -> u32
+    ensures { λ r. ⌜ r ≡ cond (ltb acc limit) (acc * 10 + (b - 48)) acc ⌝ }
+{
+    if acc < limit as u32 {
+        return acc * 10 + digit(b);
+    }
+    acc
+}
+
+// What the digits mean, or the limit where that is not below it.
+pub fn value(s: &[u8], limit: u8) -> u8
+    ensures { λ r. ⌜ r ≡ capped limit (number (now (s .entry))) ⌝ }
+{
+    let mut acc: u32 = 0;
+    let mut i = 0;
+    while i < s.len() {
+        acc = grow(acc, limit, s[i]);
+        i += 1;
+    }
+    if acc < limit as u32 {
+        return acc as u8;
+    }
+    limit
+}
+
+// The field is a key.
+pub fn is_key(s: &[u8]) -> bool
+    ensures { λ r. ⌜ r ≡ isKey (now (s .entry)) ⌝ }
+{
+    if s.len() < 1 {
+        return false;
+    }
+    if 32 < s.len() {
+        return false;
+    }
+    if !all_visible(s) {
+        return false;
+    }
+    !equal(s, &DASH)
+}
+
+// The code of the plain kind, or 6.
+fn plain_code(s: &[u8]) -> u8
+    ensures { λ r. ⌜ r ≡ plainCode (now (s .entry)) ⌝ }
+{
+    if equal(s, &NULL) {
+        return 0;
+    }
+    if equal(s, &TRUE) {
+        return 1;
+    }
+    if equal(s, &FALSE) {
+        return 2;
+    }
+    if equal(s, &STR) {
+        return 3;
+    }
+    if equal(s, &NUM) {
+        return 4;
+    }
+    if equal(s, &INT) {
+        return 5;
+    }
+    6
+}
+
+// The field is the word of a plain kind, or `r` and a number.
+pub fn is_kind(s: &[u8]) -> bool
+    ensures { λ r. ⌜ r ≡ isKind (now (s .entry)) ⌝ }
+{
+    if plain_code(s) < 6 {
+        return true;
+    }
+    if s.len() == 0 {
+        return false;
+    }
+    if s[0] != 114 {
+        return false;
+    }
+    is_number(&s[1..])
+}
+
+// The code of a kind, or 38 where it refers to a rule above 31.
+pub fn kind_code(s: &[u8]) -> u8
+    ensures { λ r. ⌜ r ≡ capped 38 (codeOf (kindIn (now (s .entry)))) ⌝ }
+{
+    let p = plain_code(s);
+    if p < 6 {
+        return p;
+    }
+    if s.len() == 0 {
+        return 6;
+    }
+    if s[0] != 114 {
+        return 6;
+    }
+    6 + value(&s[1..], 32)
+}
+
+// The field is `obj` or `arr`.
+pub fn is_form(s: &[u8]) -> bool
+    ensures { λ r. ⌜ r ≡ isForm (now (s .entry)) ⌝ }
+{
+    if equal(s, &OBJ) {
+        return true;
+    }
+    equal(s, &ARR)
+}

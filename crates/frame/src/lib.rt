@@ -9,7 +9,6 @@ mod open; // open.rt: a fresh frame
 mod value; // value.rt: a finished value
 
 use table::kind::Finished;
-
 ghost use mathlib.Core.Path.{_≡_};
 ghost use lib.ListN.{length};
 ghost use Rattle.frame.specs.Edges.{edgesOf};
@@ -90,7 +89,17 @@ pub fn value_level<'a>(
     }
     let a = 96 * (level - 1);
     let b = a + 96;
-    value::value_frame(&mut work[a..b], edges, rules, states, keys, kinds, nexts, forms, v);
+    value::value_frame(
+        &mut work[a..b],
+        edges,
+        rules,
+        states,
+        keys,
+        kinds,
+        nexts,
+        forms,
+        v,
+    );
 }
 
 // Closes the value of a level: the rules that it fits, rule N at bit N.

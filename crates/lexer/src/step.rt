@@ -2,12 +2,12 @@
 ghost use mathlib.Core.Path.{_≡_};
 ghost use Rattle.json.specs.Bytes.{isBlank};
 ghost use Rattle.json.specs.Lexer.{stepTo, faultStep, stay, valueStart, atValue, atFirstElement, atFirstKey, atKey, atColon, afterRoot, afterElement, afterPair, afterValue, atFirst, placeStep, keyStep, textStep, endedBefore, numberStep, wordStep, numberMove, wordMove};
+ghost use Rattle.lexer.specs.Table.{classAt};
 ghost use Rattle.lexer.specs.Given.{stepBy};
 use super::number::is_digit_1_9;
 use super::number::number_move;
 use super::string::string_move;
 use super::word::word_move;
-use json::class::Class;
 use json::lexer::Act;
 use json::lexer::Mode;
 use json::lexer::Place;
@@ -288,14 +288,14 @@ fn word_step(w: Word, i: u8, b: u8) -> Step
     }
 }
 
-// What byte b, of class k, does in mode m, with the innermost open value of kind top.
-pub fn step(m: Mode, top: Top, k: Class, b: u8) -> Step
-    ensures { λ r. ⌜ r ≡ stepBy k m top b ⌝ }
+// What byte b does in mode m, with the innermost open value of kind top and the byte's class from a lent table.
+pub fn step(table: &[u8; 256], m: Mode, top: Top, b: u8) -> Step
+    ensures { λ r. ⌜ r ≡ stepBy (classAt (now (table .entry)) b) m top b ⌝ }
 {
     match m {
         Mode::At(p) => place_step(p, top, b),
-        Mode::Key(s) => key_step(string_move(k, s, b)),
-        Mode::Text(s) => text_step(string_move(k, s, b)),
+        Mode::Key(s) => key_step(string_move(table, s, b)),
+        Mode::Text(s) => text_step(string_move(table, s, b)),
         Mode::Number(n) => number_step(n, top, b),
         Mode::Word(w, i) => word_step(w, i, b),
     }

@@ -51,6 +51,7 @@ fn or_exp(b: u8) -> NumberMove
     NumberMove::End
 }
 
+// Behind the minus sign.
 fn after_minus(b: u8) -> NumberMove
     ensures { λ r. ⌜ r ≡ afterMinus b ⌝ }
 {
@@ -63,6 +64,7 @@ fn after_minus(b: u8) -> NumberMove
     NumberMove::Fault
 }
 
+// Behind a leading 0.
 fn after_zero(b: u8) -> NumberMove
     ensures { λ r. ⌜ r ≡ afterZero b ⌝ }
 {
@@ -72,6 +74,7 @@ fn after_zero(b: u8) -> NumberMove
     or_exp(b)
 }
 
+// Behind e or E.
 fn after_e(b: u8) -> NumberMove
     ensures { λ r. ⌜ r ≡ afterE b ⌝ }
 {

@@ -95,6 +95,7 @@ fn value_start(b: u8) -> Step
     fault_step()
 }
 
+// Where a value is awaited.
 fn at_value(b: u8) -> Step
     ensures { λ r. ⌜ r ≡ atValue b ⌝ }
 {
@@ -104,6 +105,7 @@ fn at_value(b: u8) -> Step
     value_start(b)
 }
 
+// Behind the opening byte of an array.
 fn at_first_element(b: u8) -> Step
     ensures { λ r. ⌜ r ≡ atFirstElement b ⌝ }
 {
@@ -116,6 +118,7 @@ fn at_first_element(b: u8) -> Step
     value_start(b)
 }
 
+// Behind the opening byte of an object.
 fn at_first_key(b: u8) -> Step
     ensures { λ r. ⌜ r ≡ atFirstKey b ⌝ }
 {
@@ -131,6 +134,7 @@ fn at_first_key(b: u8) -> Step
     fault_step()
 }
 
+// Behind a comma of an object.
 fn at_key(b: u8) -> Step
     ensures { λ r. ⌜ r ≡ atKey b ⌝ }
 {
@@ -143,6 +147,7 @@ fn at_key(b: u8) -> Step
     fault_step()
 }
 
+// Behind a key.
 fn at_colon(b: u8) -> Step
     ensures { λ r. ⌜ r ≡ atColon b ⌝ }
 {
@@ -155,6 +160,7 @@ fn at_colon(b: u8) -> Step
     fault_step()
 }
 
+// Behind the value of the whole text.
 fn after_root(b: u8) -> Step
     ensures { λ r. ⌜ r ≡ afterRoot b ⌝ }
 {
@@ -164,6 +170,7 @@ fn after_root(b: u8) -> Step
     fault_step()
 }
 
+// Behind an element of an array.
 fn after_element(b: u8) -> Step
     ensures { λ r. ⌜ r ≡ afterElement b ⌝ }
 {
@@ -179,6 +186,7 @@ fn after_element(b: u8) -> Step
     fault_step()
 }
 
+// Behind a pair of an object.
 fn after_pair(b: u8) -> Step
     ensures { λ r. ⌜ r ≡ afterPair b ⌝ }
 {
@@ -205,7 +213,7 @@ fn after_value(top: Top, b: u8) -> Step
     }
 }
 
-// Behind an opening byte.
+// Behind an opening byte, by what it opened.
 fn at_first(top: Top, b: u8) -> Step
     ensures { λ r. ⌜ r ≡ atFirst top b ⌝ }
 {

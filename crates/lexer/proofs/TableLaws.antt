@@ -35,4 +35,5 @@ classFor-classNumber Never = refl
 
 -- the table gives a byte its class
 pub classAt-classTable : (b : ℕ) → b < 256 → classAt classTable b ≡ classOf b
+unfolding classAt
 classAt-classTable b h = ap classFor (getD-classTable b h) ∙ classFor-classNumber (classOf b)

@@ -11,7 +11,6 @@ use Rattle.json.specs.Grammar.{spelling}
 use Rattle.json.specs.Lexer.{letterMove, wordOf, wordMove}
 use Rattle.json.specs.declared.word.Word.{Word}
 use Rattle.json.specs.declared.word.Word.the-variants as W
-use Rattle.json.specs.declared.word.WordMove.{WordMove}
 use Rattle.json.specs.declared.word.WordMove.the-variants as WM
 
 -- a choice that goes on passed the last of its three tests

@@ -34,5 +34,5 @@ classFor n =
     (cond (eqb n 16) LeadF4 Never)))))))))))))))
 
 -- the class that a list of class numbers gives to a byte
-abbrev pub classAt : List ℕ → ℕ → Class
+unfoldable pub classAt : List ℕ → ℕ → Class
 classAt l b = classFor (getD l b 0)

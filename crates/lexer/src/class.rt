@@ -4,7 +4,7 @@ ghost use Rattle.json.specs.Classes.{classOf, classNumber};
 ghost use Rattle.lexer.specs.Table.{classTable, classFor, classAt};
 use json::class::Class;
 
-// The class number of each byte.
+// The class number of each byte, sixteen bytes to a line.
 const CLASSES: [u8; 256] = *b"\
 \x01\x01\x01\x01\x01\x01\x01\x01\x01\x02\x02\x01\x01\x02\x01\x01\
 \x01\x01\x01\x01\x01\x01\x01\x01\x01\x01\x01\x01\x01\x01\x01\x01\
@@ -23,7 +23,7 @@ const CLASSES: [u8; 256] = *b"\
 \x0b\x0c\x0c\x0c\x0c\x0c\x0c\x0c\x0c\x0c\x0c\x0c\x0c\x0d\x0c\x0c\
 \x0e\x0f\x0f\x0f\x10\x00\x00\x00\x00\x00\x00\x00\x00\x00\x00\x00";
 
-// The table, to be copied once and lent to what reads many bytes.
+// The table. A constant is built anew wherever it is used, so a caller with many bytes takes it once and lends it.
 pub fn classes() -> [u8; 256]
     ensures { λ r. ⌜ r ≡ classTable ⌝ }
 {
@@ -38,7 +38,7 @@ pub fn class_number(b: u8) -> u8
     table[b as usize]
 }
 
-// The class with a number; no byte has the class of a number above 16.
+// The class with a number; Never for a number that no class has.
 pub fn class_for(n: u8) -> Class
     ensures { λ r. ⌜ r ≡ classFor n ⌝ }
 {

@@ -1,8 +1,9 @@
 // Numbers: what a byte does behind each part of one.
+ghost use mathlib.Core.Bool.{cond};
 ghost use mathlib.Core.Path.{_≡_};
 ghost use Rattle.json.specs.Bytes.{within};
 ghost use Rattle.json.specs.Numbers.{isDigit, isDigit1-9, isE};
-ghost use Rattle.json.specs.Lexer.{orExp, afterMinus, afterZero, afterInt, afterFrac, afterE, afterExp, digitOnly, numberMove, mayEnd};
+ghost use Rattle.json.specs.Lexer.{orExp, afterMinus, afterZero, afterE, numberMove, mayEnd};
 use json::number::NumberMode;
 use json::number::NumberMove;
 
@@ -50,6 +51,7 @@ fn or_exp(b: u8) -> NumberMove
     NumberMove::End
 }
 
+// Behind the minus sign.
 fn after_minus(b: u8) -> NumberMove
     ensures { λ r. ⌜ r ≡ afterMinus b ⌝ }
 {
@@ -62,6 +64,7 @@ fn after_minus(b: u8) -> NumberMove
     NumberMove::Fault
 }
 
+// Behind a leading 0.
 fn after_zero(b: u8) -> NumberMove
     ensures { λ r. ⌜ r ≡ afterZero b ⌝ }
 {
@@ -71,24 +74,7 @@ fn after_zero(b: u8) -> NumberMove
     or_exp(b)
 }
 
-fn after_int(b: u8) -> NumberMove
-    ensures { λ r. ⌜ r ≡ afterInt b ⌝ }
-{
-    if is_digit(b) {
-        return NumberMove::Go(NumberMode::Int);
-    }
-    after_zero(b)
-}
-
-fn after_frac(b: u8) -> NumberMove
-    ensures { λ r. ⌜ r ≡ afterFrac b ⌝ }
-{
-    if is_digit(b) {
-        return NumberMove::Go(NumberMode::Frac);
-    }
-    or_exp(b)
-}
-
+// Behind e or E.
 fn after_e(b: u8) -> NumberMove
     ensures { λ r. ⌜ r ≡ afterE b ⌝ }
 {
@@ -104,23 +90,14 @@ fn after_e(b: u8) -> NumberMove
     NumberMove::Fault
 }
 
-fn after_exp(b: u8) -> NumberMove
-    ensures { λ r. ⌜ r ≡ afterExp b ⌝ }
-{
-    if is_digit(b) {
-        return NumberMove::Go(NumberMode::Exp);
-    }
-    NumberMove::End
-}
-
-// Where a digit must follow, which leads to n.
-fn digit_only(b: u8, n: NumberMode) -> NumberMove
-    ensures { λ r. ⌜ r ≡ digitOnly b n ⌝ }
+// A digit leads to n; another byte makes the other move.
+fn digit_or(b: u8, n: NumberMode, other: NumberMove) -> NumberMove
+    ensures { λ r. ⌜ r ≡ cond (isDigit b) (NumberMove.Go n) other ⌝ }
 {
     if is_digit(b) {
         return NumberMove::Go(n);
     }
-    NumberMove::Fault
+    other
 }
 
 // What byte b does behind part n of a number.
@@ -130,12 +107,12 @@ pub fn number_move(n: NumberMode, b: u8) -> NumberMove
     match n {
         NumberMode::Minus => after_minus(b),
         NumberMode::Zero => after_zero(b),
-        NumberMode::Int => after_int(b),
-        NumberMode::Dot => digit_only(b, NumberMode::Frac),
-        NumberMode::Frac => after_frac(b),
+        NumberMode::Int => digit_or(b, NumberMode::Int, after_zero(b)),
+        NumberMode::Dot => digit_or(b, NumberMode::Frac, NumberMove::Fault),
+        NumberMode::Frac => digit_or(b, NumberMode::Frac, or_exp(b)),
         NumberMode::E => after_e(b),
-        NumberMode::Sign => digit_only(b, NumberMode::Exp),
-        NumberMode::Exp => after_exp(b),
+        NumberMode::Sign => digit_or(b, NumberMode::Exp, NumberMove::Fault),
+        NumberMode::Exp => digit_or(b, NumberMode::Exp, NumberMove::End),
     }
 }
 

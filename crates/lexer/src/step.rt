@@ -2,12 +2,12 @@
 ghost use mathlib.Core.Path.{_≡_};
 ghost use Rattle.json.specs.Bytes.{isBlank};
 ghost use Rattle.json.specs.Lexer.{stepTo, faultStep, stay, valueStart, atValue, atFirstElement, atFirstKey, atKey, atColon, afterRoot, afterElement, afterPair, afterValue, atFirst, placeStep, keyStep, textStep, endedBefore, numberStep, wordStep, numberMove, wordMove};
+ghost use Rattle.lexer.specs.Table.{classAt};
 ghost use Rattle.lexer.specs.Given.{stepBy};
 use super::number::is_digit_1_9;
 use super::number::number_move;
 use super::string::string_move;
 use super::word::word_move;
-use json::class::Class;
 use json::lexer::Act;
 use json::lexer::Mode;
 use json::lexer::Place;
@@ -95,6 +95,7 @@ fn value_start(b: u8) -> Step
     fault_step()
 }
 
+// Where a value is awaited.
 fn at_value(b: u8) -> Step
     ensures { λ r. ⌜ r ≡ atValue b ⌝ }
 {
@@ -104,6 +105,7 @@ fn at_value(b: u8) -> Step
     value_start(b)
 }
 
+// Behind the opening byte of an array.
 fn at_first_element(b: u8) -> Step
     ensures { λ r. ⌜ r ≡ atFirstElement b ⌝ }
 {
@@ -116,6 +118,7 @@ fn at_first_element(b: u8) -> Step
     value_start(b)
 }
 
+// Behind the opening byte of an object.
 fn at_first_key(b: u8) -> Step
     ensures { λ r. ⌜ r ≡ atFirstKey b ⌝ }
 {
@@ -131,6 +134,7 @@ fn at_first_key(b: u8) -> Step
     fault_step()
 }
 
+// Behind a comma of an object.
 fn at_key(b: u8) -> Step
     ensures { λ r. ⌜ r ≡ atKey b ⌝ }
 {
@@ -143,6 +147,7 @@ fn at_key(b: u8) -> Step
     fault_step()
 }
 
+// Behind a key.
 fn at_colon(b: u8) -> Step
     ensures { λ r. ⌜ r ≡ atColon b ⌝ }
 {
@@ -155,6 +160,7 @@ fn at_colon(b: u8) -> Step
     fault_step()
 }
 
+// Behind the value of the whole text.
 fn after_root(b: u8) -> Step
     ensures { λ r. ⌜ r ≡ afterRoot b ⌝ }
 {
@@ -164,6 +170,7 @@ fn after_root(b: u8) -> Step
     fault_step()
 }
 
+// Behind an element of an array.
 fn after_element(b: u8) -> Step
     ensures { λ r. ⌜ r ≡ afterElement b ⌝ }
 {
@@ -179,6 +186,7 @@ fn after_element(b: u8) -> Step
     fault_step()
 }
 
+// Behind a pair of an object.
 fn after_pair(b: u8) -> Step
     ensures { λ r. ⌜ r ≡ afterPair b ⌝ }
 {
@@ -205,7 +213,7 @@ fn after_value(top: Top, b: u8) -> Step
     }
 }
 
-// Behind an opening byte.
+// Behind an opening byte, by what it opened.
 fn at_first(top: Top, b: u8) -> Step
     ensures { λ r. ⌜ r ≡ atFirst top b ⌝ }
 {
@@ -288,14 +296,14 @@ fn word_step(w: Word, i: u8, b: u8) -> Step
     }
 }
 
-// What byte b, of class k, does in mode m, with the innermost open value of kind top.
-pub fn step(m: Mode, top: Top, k: Class, b: u8) -> Step
-    ensures { λ r. ⌜ r ≡ stepBy k m top b ⌝ }
+// What byte b does in mode m, with the innermost open value of kind top and the byte's class from a lent table.
+pub fn step(table: &[u8; 256], m: Mode, top: Top, b: u8) -> Step
+    ensures { λ r. ⌜ r ≡ stepBy (classAt (now (table .entry)) b) m top b ⌝ }
 {
     match m {
         Mode::At(p) => place_step(p, top, b),
-        Mode::Key(s) => key_step(string_move(k, s, b)),
-        Mode::Text(s) => text_step(string_move(k, s, b)),
+        Mode::Key(s) => key_step(string_move(table, s, b)),
+        Mode::Text(s) => text_step(string_move(table, s, b)),
         Mode::Number(n) => number_step(n, top, b),
         Mode::Word(w, i) => word_step(w, i, b),
     }

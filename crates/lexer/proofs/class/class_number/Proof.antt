@@ -5,4 +5,7 @@ use Rattle.lexer.proofs.class.class_number.Tie as tie
 use borrow.Author.Needs.{needs}
 
 pub class-number-spec : {M : Type 1} → statement M
-class-number-spec = tie.close (tie.spec (λ c κs. search needs) (λ c. search needs) (λ c. simp (c .classes .ensures, getD-classTable (c .before .args .b) (search needs))))
+class-number-spec =
+    tie.close
+    (tie.spec (λ c κs. search needs) (λ c. search needs)
+    (λ c. simp (c .classes .ensures, getD-classTable (c .before .args .b) (search needs))))

@@ -5,4 +5,7 @@ use Rattle.lexer.proofs.class.class_of.Tie as tie
 use borrow.Author.Needs.{needs}
 
 pub class-of-spec : {M : Type 1} → statement M
-class-of-spec = tie.close (tie.spec (λ c κs. search needs) (λ c κs. search needs) (λ c. simp (c .class-for .ensures, c .before .class-number .ensures, classFor-classNumber)))
+class-of-spec =
+    tie.close
+    (tie.spec (λ c κs. search needs) (λ c κs. search needs)
+    (λ c. simp (c .class-for .ensures, c .before .class-number .ensures, classFor-classNumber)))

@@ -8,4 +8,7 @@ use borrow.Author.Needs.{needs}
 
 pub after-e-spec : {M : Type 1} → statement M
 unfolding afterE
-after-e-spec = tie.close (tie.spec (λ c κs. search needs) (λ c. search (tests, choices)) (λ c. search (tests, choices)) (λ c. search (tests, choices)) (λ c. search (tests, choices)))
+after-e-spec =
+    tie.close
+    (tie.spec (λ c κs. search needs) (λ c. search (tests, choices)) (λ c. search (tests, choices)) (λ c. search (tests, choices))
+    (λ c. search (tests, choices)))

@@ -8,4 +8,6 @@ use borrow.Author.Needs.{needs}
 
 pub after-minus-spec : {M : Type 1} → statement M
 unfolding afterMinus
-after-minus-spec = tie.close (tie.spec (λ c κs. search needs) (λ c. search (tests, choices)) (λ c. search (tests, choices)) (λ c. search (tests, choices)))
+after-minus-spec =
+    tie.close
+    (tie.spec (λ c κs. search needs) (λ c. search (tests, choices)) (λ c. search (tests, choices)) (λ c. search (tests, choices)))

@@ -8,4 +8,7 @@ use borrow.Author.Needs.{needs}
 
 pub after-root-spec : {M : Type 1} → statement M
 unfolding afterRoot
-after-root-spec = tie.close (tie.spec (λ c κs. search needs) (λ c κs. search needs) (λ c. search (tests, choices)) (λ c κs. search needs) (λ c. search (tests, choices)))
+after-root-spec =
+    tie.close
+    (tie.spec (λ c κs. search needs) (λ c κs. search needs) (λ c. search (tests, choices)) (λ c κs. search needs)
+    (λ c. search (tests, choices)))

@@ -8,4 +8,7 @@ use borrow.Author.Needs.{needs}
 
 pub at-colon-spec : {M : Type 1} → statement M
 unfolding atColon
-at-colon-spec = tie.close (tie.spec (λ c κs. search needs) (λ c κs. search needs) (λ c. search (tests, choices)) (λ c κs. search needs) (λ c. search (tests, choices)) (λ c κs. search needs) (λ c. search (tests, choices)))
+at-colon-spec =
+    tie.close
+    (tie.spec (λ c κs. search needs) (λ c κs. search needs) (λ c. search (tests, choices)) (λ c κs. search needs)
+    (λ c. search (tests, choices)) (λ c κs. search needs) (λ c. search (tests, choices)))

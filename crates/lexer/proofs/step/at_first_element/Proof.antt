@@ -8,4 +8,7 @@ use borrow.Author.Needs.{needs}
 
 pub at-first-element-spec : {M : Type 1} → statement M
 unfolding atFirstElement
-at-first-element-spec = tie.close (tie.spec (λ c κs. search needs) (λ c κs. search needs) (λ c. search (tests, choices)) (λ c κs. search needs) (λ c. search (tests, choices)) (λ c κs. search needs) (λ c. search (tests, choices)))
+at-first-element-spec =
+    tie.close
+    (tie.spec (λ c κs. search needs) (λ c κs. search needs) (λ c. search (tests, choices)) (λ c κs. search needs)
+    (λ c. search (tests, choices)) (λ c κs. search needs) (λ c. search (tests, choices)))

@@ -8,4 +8,8 @@ use borrow.Author.Needs.{needs}
 
 pub at-first-key-spec : {M : Type 1} → statement M
 unfolding atFirstKey
-at-first-key-spec = tie.close (tie.spec (λ c κs. search needs) (λ c κs. search needs) (λ c. search (tests, choices)) (λ c κs. search needs) (λ c. search (tests, choices)) (λ c κs. search needs) (λ c. search (tests, choices)) (λ c κs. search needs) (λ c. search (tests, choices)))
+at-first-key-spec =
+    tie.close
+    (tie.spec (λ c κs. search needs) (λ c κs. search needs) (λ c. search (tests, choices)) (λ c κs. search needs)
+    (λ c. search (tests, choices)) (λ c κs. search needs) (λ c. search (tests, choices)) (λ c κs. search needs)
+    (λ c. search (tests, choices)))

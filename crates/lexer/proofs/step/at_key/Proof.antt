@@ -8,4 +8,7 @@ use borrow.Author.Needs.{needs}
 
 pub at-key-spec : {M : Type 1} → statement M
 unfolding atKey
-at-key-spec = tie.close (tie.spec (λ c κs. search needs) (λ c κs. search needs) (λ c. search (tests, choices)) (λ c κs. search needs) (λ c. search (tests, choices)) (λ c κs. search needs) (λ c. search (tests, choices)))
+at-key-spec =
+    tie.close
+    (tie.spec (λ c κs. search needs) (λ c κs. search needs) (λ c. search (tests, choices)) (λ c κs. search needs)
+    (λ c. search (tests, choices)) (λ c κs. search needs) (λ c. search (tests, choices)))

@@ -7,4 +7,20 @@ use borrow.Author.Needs.{needs}
 
 pub value-start-spec : {M : Type 1} → statement M
 unfolding valueStart
-value-start-spec = tie.close (tie.spec (λ c κs. search needs) (λ c. search tests) (λ c κs. search needs) (λ c. search tests) (λ c κs. search needs) (λ c. search tests) (λ c κs. search needs) (λ c κs. search needs) (λ c. search (tests, ← c .before .before .is-digit-1-9 .ensures, c .before .if4 .taken)) (λ c κs. search needs) (λ c. search (tests, ← c .before .before .before .is-digit-1-9 .ensures, c .before .before .if4 .left)) (λ c κs. search needs) (λ c. search (tests, ← c .before .before .before .before .is-digit-1-9 .ensures, c .before .before .before .if4 .left)) (λ c κs. search needs) (λ c. search (tests, ← c .before .before .before .before .before .is-digit-1-9 .ensures, c .before .before .before .before .if4 .left)) (λ c κs. search needs) (λ c. search (tests, ← c .before .before .before .before .before .before .is-digit-1-9 .ensures, c .before .before .before .before .before .if4 .left)) (λ c κs. search needs) (λ c. search (tests, ← c .before .before .before .before .before .before .before .is-digit-1-9 .ensures, c .before .before .before .before .before .before .if4 .left)) (λ c κs. search needs) (λ c. search (tests, ← c .before .before .before .before .before .before .before .is-digit-1-9 .ensures, c .before .before .before .before .before .before .if4 .left)))
+value-start-spec =
+    tie.close
+    (tie.spec (λ c κs. search needs) (λ c. search tests) (λ c κs. search needs) (λ c. search tests) (λ c κs. search needs)
+    (λ c. search tests) (λ c κs. search needs) (λ c κs. search needs)
+    (λ c. search (tests, ← c .before .before .is-digit-1-9 .ensures, c .before .if4 .taken))
+    (λ c κs. search needs)
+    (λ c. search (tests, ← c .before .before .before .is-digit-1-9 .ensures, c .before .before .if4 .left))
+    (λ c κs. search needs)
+    (λ c. search (tests, ← c .before .before .before .before .is-digit-1-9 .ensures, c .before .before .before .if4 .left))
+    (λ c κs. search needs)
+    (λ c. search (tests, ← c .before .before .before .before .before .is-digit-1-9 .ensures, c .before .before .before .before .if4 .left))
+    (λ c κs. search needs)
+    (λ c. search (tests, ← c .before .before .before .before .before .before .is-digit-1-9 .ensures, c .before .before .before .before .before .if4 .left))
+    (λ c κs. search needs)
+    (λ c. search (tests, ← c .before .before .before .before .before .before .before .is-digit-1-9 .ensures, c .before .before .before .before .before .before .if4 .left))
+    (λ c κs. search needs)
+    (λ c. search (tests, ← c .before .before .before .before .before .before .before .is-digit-1-9 .ensures, c .before .before .before .before .before .before .if4 .left)))

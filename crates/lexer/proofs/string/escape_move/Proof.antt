@@ -7,4 +7,8 @@ use borrow.Author.Needs.{needs}
 
 pub escape-move-spec : {M : Type 1} → statement M
 unfolding escapeMove
-escape-move-spec = tie.close (tie.spec (λ c. search tests) (λ c κs. search needs) (λ c. search (tests, ← c .before .unescape .ensures)) (λ c. search (tests, ← c .before .unescape .ensures)))
+escape-move-spec =
+    tie.close
+    (tie.spec (λ c. search tests) (λ c κs. search needs)
+    (λ c. search (tests, ← c .before .unescape .ensures))
+    (λ c. search (tests, ← c .before .unescape .ensures)))

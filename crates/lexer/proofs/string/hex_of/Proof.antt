@@ -7,4 +7,7 @@ use borrow.Author.Needs.{needs}
 
 pub hex-of-spec : {M : Type 1} → statement M
 unfolding hexOf
-hex-of-spec = tie.close (tie.spec (λ c. search tests) (λ c. search tests) (λ c. search tests) (λ c. search needs) (λ c. search tests) (λ c. search tests) (λ c. search needs) (λ c. search tests) (λ c. search tests))
+hex-of-spec =
+    tie.close
+    (tie.spec (λ c. search tests) (λ c. search tests) (λ c. search tests) (λ c. search needs) (λ c. search tests) (λ c. search tests)
+    (λ c. search needs) (λ c. search tests) (λ c. search tests))

@@ -6,4 +6,7 @@ use Rattle.lexer.proofs.string.unescape.Tie as tie
 
 pub unescape-spec : {M : Type 1} → statement M
 unfolding unescape
-unescape-spec = tie.close (tie.spec (λ c. search tests) (λ c. search tests) (λ c. search tests) (λ c. search tests) (λ c. search tests) (λ c. search tests) (λ c. search tests) (λ c. search tests) (λ c. search tests))
+unescape-spec =
+    tie.close
+    (tie.spec (λ c. search tests) (λ c. search tests) (λ c. search tests) (λ c. search tests) (λ c. search tests) (λ c. search tests)
+    (λ c. search tests) (λ c. search tests) (λ c. search tests))

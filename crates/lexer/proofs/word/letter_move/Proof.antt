@@ -7,4 +7,6 @@ use borrow.Author.Needs.{needs}
 
 pub letter-move-spec : {M : Type 1} → statement M
 unfolding letterMove
-letter-move-spec = tie.close (tie.spec (λ c. search needs) (λ c. search needs) (λ c. search tests) (λ c. search tests) (λ c. search tests) (λ c. search tests))
+letter-move-spec =
+    tie.close
+    (tie.spec (λ c. search needs) (λ c. search needs) (λ c. search tests) (λ c. search tests) (λ c. search tests) (λ c. search tests))

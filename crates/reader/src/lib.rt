@@ -1,0 +1,2 @@
+// The reader: start, feed and close.
+pub mod lex; // lex.rt: the open record, byte by byte

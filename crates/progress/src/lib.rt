@@ -3,7 +3,7 @@ ghost use mathlib.Core.Path.{_≡_};
 ghost use Prim.Native.Nat.{_-_};
 ghost use Rattle.lexer.specs.Given.{stepBy};
 ghost use Rattle.lexer.specs.Table.{classAt};
-ghost use Rattle.reader.specs.Lex.{bump, counted, faulted, bitsIn, highIn, charIn, moved, opening, keyChar, numberKind, ended, closing, scalarOf, acted, sound, afterHead, advanced, judged, wholeAt, wholeNumber, wholeIn, whole};
+ghost use Rattle.progress.specs.Lex.{bump, counted, faulted, bitsIn, highIn, charIn, moved, opening, keyChar, numberKind, ended, closing, scalarOf, acted, sound, afterHead, advanced, judged, wholeAt, wholeNumber, wholeIn, whole};
 use json::lexer::Act;
 use json::lexer::Mode;
 use json::lexer::Place;

@@ -21,12 +21,12 @@ use Rattle.table.specs.declared.kind.Scalar.the-variants as K
 use Rattle.verdict.specs.Verdict.{longest}
 use Rattle.verdict.specs.declared.Verdict.{Verdict}
 use Rattle.verdict.specs.declared.Verdict.the-variants as Is
-use Rattle.reader.specs.declared.lex.Fault.{Fault}
-use Rattle.reader.specs.declared.lex.Fault.the-variants as F
-use Rattle.reader.specs.declared.lex.Lex.{Lex}
-use Rattle.reader.specs.declared.lex.Task.{Task}
-use Rattle.reader.specs.declared.lex.Task.the-variants as To
-use Rattle.reader.specs.declared.lex.Advanced.{Advanced}
+use Rattle.progress.specs.declared.Fault.{Fault}
+use Rattle.progress.specs.declared.Fault.the-variants as F
+use Rattle.progress.specs.declared.Lex.{Lex}
+use Rattle.progress.specs.declared.Task.{Task}
+use Rattle.progress.specs.declared.Task.the-variants as To
+use Rattle.progress.specs.declared.Advanced.{Advanced}
 
 -- a count of bytes after one more; it stops at the largest number
 unfoldable pub bump : ℕ → ℕ

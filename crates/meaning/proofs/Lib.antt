@@ -1,3 +1,4 @@
 pub mod FormLaws
 pub mod EdgeLaws
 pub mod StateLaws
+pub mod OpenLaws

@@ -1,11 +1,11 @@
 -- What a frame shows of an open value, and a finished value of the kinds that it fits: the frames of 01, "Frames", beside the sets of states, keys
--- and edges of `runs`. Derived, nothing to believe: `KeyLaws`, `ValueLaws` and `CloseLaws` join each step of a frame to that of `runs`.
+-- and edges of `runs`. Derived, nothing to believe: `OpenLaws`, `ValueLaws` and `CloseLaws` join each step of a frame to that of `runs`.
 -- Assumes nothing.
 use mathlib.Core.Bool.{Bool, true, false, cond}
 use mathlib.Core.List.{List, []}
 use mathlib.Core.Path.{_≡_}
 use Prim.Native.Nat.{ℕ, _+_, _*_, _<_, _≤_}
-use lib.Dec.{T, ltb}
+use lib.Dec.{ltb}
 use lib.ListN.{length}
 use Rattle.table.specs.Kind.{codeOf, fitsKind}
 use Rattle.table.specs.declared.Table.{Table}
@@ -16,6 +16,8 @@ use Rattle.book.specs.Load.{ruleOf, formIn}
 use Rattle.book.specs.Holds.{Holds}
 use Rattle.runs.specs.Runs.{_∈_}
 use Rattle.runs.specs.Walk.{States, OpenObject, keyCount, numberIn}
+use Rattle.runs.proofs.StepLaws.{InKeys}
+use Rattle.frame.specs.Edges.{Edges, edgesOf}
 use Rattle.frame.specs.Frame.{isObject, currentKey, marked, seenIn, heldIn}
 
 -- ---- what is asked of a table that was loaded
@@ -42,6 +44,10 @@ pub record Kept (t : Table) (es : List Entry) : Type 0 where
   -- there are not too many edges and keys
   pub edges-le : t .edges ≤ 512
   pub keys-le : t .keys ≤ 128
+
+-- its edges, lent as the frames take them
+abbrev pub lentEdges : Table → Edges
+lentEdges t = edgesOf (t .edges) (t .«edge_rule») (t .«edge_state») (t .«edge_key») (t .«edge_next»)
 
 -- ---- finished values
 
@@ -77,5 +83,5 @@ pub record ShowsObject (es : List Entry) (f : List ℕ) (o : OpenObject) : Type 
   pub current : currentKey f ≡ cond (ltb (o .current) (keyCount es)) (o .current) 255
   pub seen : (k : ℕ) → k < 128 → seenIn f k ≡ o .seen k
   pub held : (e : ℕ) → e < 512 → heldIn f e ≡ o .fitting e
-  -- what was seen are keys of the book
-  pub seen-lt : (k : ℕ) → T (o .seen k) → k < keyCount es
+  -- the numbers are those of keys of the book
+  pub in-keys : InKeys es o

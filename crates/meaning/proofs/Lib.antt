@@ -2,3 +2,5 @@ pub mod FormLaws
 pub mod EdgeLaws
 pub mod StateLaws
 pub mod OpenLaws
+pub mod ValueLaws
+pub mod CloseLaws

@@ -1,0 +1,138 @@
+-- A finished value shows the kinds that it fits: a closed frame those that `runs` finds of the open value, a scalar its own. Assumes nothing.
+use mathlib.Core.Bool.{Bool, true, false, not, cond, _&&_}
+use mathlib.Core.List.{List}
+use mathlib.Core.Logic.{_↔_}
+use mathlib.Core.Path.{_≡_, refl, sym, ap, subst, _∙_}
+use Prim.Native.Nat.{ℕ, zero, suc, _+_, _-_, _*_, _<_, _≤_}
+use native.Mathlib.Nat.{zero-add}
+use native.Mathlib.Omega.{arith}
+use lib.Dec.{T, not-T, lit<}
+use lib.ListN.{getD, drop}
+use borrow.Author.Tests.{not-true}
+use Rattle.laws.specs.Bits.{bitAt}
+use Rattle.laws.proofs.TestLaws.{true-of-T, T-and, T-and-left, T-and-right}
+use Rattle.table.specs.Kind.{codeOf, ruleFits, fitsKind}
+use Rattle.table.specs.declared.Table.{Table}
+use Rattle.table.specs.declared.kind.Scalar.{Scalar}
+use Rattle.table.specs.declared.kind.ValueKind.{ValueKind}
+use Rattle.table.specs.declared.kind.ValueKind.the-variants.{Plain, Rule}
+use Rattle.table.specs.declared.kind.Finished.the-variants as Done
+use Rattle.book.specs.Entry.{obj, arr, Entry, keysOf}
+use Rattle.book.specs.Holds.{formCode}
+use Rattle.runs.specs.Walk.{ofScalar, ofRules, hasKey, States, OpenObject, startOf, moved, ended, keyCount, useKey, walk, objectFits}
+use Rattle.runs.proofs.EdgeLaws.{EdgeFrom}
+use Rattle.runs.proofs.StepLaws.{walk-last, useKey-unseen, walk-more}
+use Rattle.frame.specs.Frame.{isObject, marked, seenIn, heldIn}
+use Rattle.frame.specs.Ops.{startStates, keyStates, walked, accepting, closed}
+use Rattle.frame.proofs.OpenLaws.{bitAt-startStates}
+use Rattle.frame.proofs.PartLaws.{heldIn-of-drop}
+use Rattle.frame.proofs.WalkLaws.{bitAt-keyStates, walked-seen, walked-unseen}
+use Rattle.frame.proofs.CloseLaws.{ruleFits-closed-marked, ruleFits-closed-object, ruleFits-closed-array}
+use Rattle.meaning.specs.Shows.{Kept, lentEdges, ShowsValue, ShowsStates, ShowsArray, ShowsObject}
+use Rattle.meaning.proofs.EdgeLaws.{keyCount-le, below-of-edge, hasKey-iff}
+use Rattle.meaning.proofs.StateLaws.{shows-start, shows-moved, accepting-ended}
+
+-- ---- scalars
+
+-- a scalar fits plain kinds only
+pub shows-scalar : (s : Scalar) → ShowsValue (Done.Scalar s) (ofScalar s)
+unfolding ofScalar
+shows-scalar s (Plain k) l = refl
+shows-scalar s (Rule n) l = refl
+
+-- ---- sets of rules
+
+-- a set of rules that are those of a test below 32
+shows-rules : (rules : ℕ) (fits : ℕ → Bool) → ((r : ℕ) → r < 32 → ruleFits rules r ≡ fits r) → ShowsValue (Done.Rules rules) (ofRules fits)
+unfolding ofRules codeOf
+shows-rules rules fits h (Plain k) l = refl
+shows-rules rules fits h (Rule r) l = h r (omega arith)
+
+-- a value at the root is judged by rule 0
+pub ruleFits-root : (rules : ℕ) (fits : ℕ → Bool) → ShowsValue (Done.Rules rules) (ofRules fits) → ruleFits rules 0 ≡ fits 0
+unfolding ofRules codeOf
+ruleFits-root rules fits h = h (Rule 0) (lit< tt)
+
+module _ {t : Table} {es : List Entry} (kept : Kept t es) where
+  -- ---- arrays
+
+  -- a closed array fits the `arr` rules that have an end state among its states
+  pub shows-array : {f : List ℕ} {S : States} → ShowsArray f S → ShowsValue (Done.Rules (closed (lentEdges t) (t .forms) (t .ends) f)) (ofRules (ended es arr S))
+  unfolding formCode
+  shows-array {f} {S} h =
+      shows-rules (closed (lentEdges t) (t .forms) (t .ends) f) (ended es arr S)
+      (λ r l.
+        ruleFits-closed-array (lentEdges t) (t .forms) (t .ends) f (h .array) r
+        ∙ accepting-ended kept arr (drop 32 f) S (λ n q a b. sym (heldIn-of-drop f (16 * n + q)) ∙ h .states n q a b) r l)
+
+  -- ---- objects
+
+  module _ {f : List ℕ} {o : OpenObject} (h : ShowsObject es f o) where
+    -- the frame's states after the keys below n
+    states : ℕ → List ℕ
+    states n = walked (lentEdges t) f 0 (startStates (t .forms) 1) n
+
+    -- the states after key c, which was seen
+    shows-keyStates : (s : List ℕ) (S : States) (c : ℕ) → c < 128 → o .seen c ≡ true → ShowsStates (bitAt s) S
+        → ShowsStates (bitAt (keyStates (lentEdges t) f s c)) (useKey es o c S)
+    unfolding useKey
+    shows-keyStates s S c l e shows =
+        rw e
+        (shows-moved kept (bitAt s) (bitAt (keyStates (lentEdges t) f s c)) S Uses (λ (e : ℕ) (x : Entry). o .fitting e && hasKey (keysOf es) c x) shows same
+        (λ j b.
+          let law = bitAt-keyStates (lentEdges t) f s c j b in
+          ((λ p. let (e, d, a, k, g, q) = law .0 p in (e, d, (a, k), g, q)), (λ p. law .1 (p .0, p .1, p .2 .0, p .2 .1, p .3, p .4)))))
+      where
+        Uses : ℕ → Type 0
+        Uses e = (getD (t .«edge_key») e 0 ≡ c) × T (heldIn f e)
+
+        same : (e : ℕ) (x : Entry) → EdgeFrom 0 es e x → Uses e ↔ T (o .fitting e && hasKey (keysOf es) c x)
+        same e x i =
+            let d : heldIn f e ≡ o .fitting e = h .held e (omega (arith, below-of-edge kept i, kept .edges-le)) in
+            ((λ p. T-and (o .fitting e) (hasKey (keysOf es) c x) (rw d at (p .1)) (hasKey-iff kept i c l .0 (p .0))),
+            (λ b. (hasKey-iff kept i c l .1 (T-and-right (o .fitting e) (hasKey (keysOf es) c x) b), rw d (T-and-left (o .fitting e) (hasKey (keysOf es) c x) b))))
+
+    -- the walk over the keys seen below n
+    shows-walk : (n : ℕ) → n ≤ 128 → ShowsStates (bitAt (states n)) (walk es o 0 n (startOf es obj))
+    unfolding states walked walk formCode
+    shows-walk zero l = shows-start kept obj (bitAt (startStates (t .forms) 1)) (bitAt-startStates (t .forms) 1)
+    shows-walk (suc n) l = go (o .seen n) refl (shows-walk n (omega arith))
+      where
+        next : walk es o 0 (suc n) (startOf es obj) ≡ useKey es o n (walk es o 0 n (startOf es obj))
+        next = walk-last es o 0 n (startOf es obj) ∙ ap (λ (c : ℕ). useKey es o c (walk es o 0 n (startOf es obj))) (zero-add n)
+
+        go : (b : Bool) → o .seen n ≡ b → ShowsStates (bitAt (states n)) (walk es o 0 n (startOf es obj))
+            → ShowsStates (bitAt (states (suc n))) (walk es o 0 (suc n) (startOf es obj))
+        go true e ih =
+            subst (λ (s : List ℕ). ShowsStates (bitAt s) (walk es o 0 (suc n) (startOf es obj))) (sym (walked-seen (lentEdges t) f (startStates (t .forms) 1) n (h .seen n l ∙ e)))
+            (subst (λ (S : States). ShowsStates (bitAt (keyStates (lentEdges t) f (states n) n)) S) (sym next)
+            (shows-keyStates (states n) (walk es o 0 n (startOf es obj)) n l e ih))
+        go false e ih =
+            subst (λ (s : List ℕ). ShowsStates (bitAt s) (walk es o 0 (suc n) (startOf es obj))) (sym (walked-unseen (lentEdges t) f (startStates (t .forms) 1) n (h .seen n l ∙ e)))
+            (subst (λ (S : States). ShowsStates (bitAt (states n)) S) (sym (next ∙ useKey-unseen es o n (walk es o 0 n (startOf es obj)) e)) ih)
+
+    -- a walk over 128 keys is one over the keys of the book
+    walk-128 : walk es o 0 128 (startOf es obj) ≡ walk es o 0 (keyCount es) (startOf es obj)
+    walk-128 =
+        let m = keyCount-le kept in
+        let e : 128 ≡ keyCount es + (128 - keyCount es) = omega arith in
+        ap (λ (n : ℕ). walk es o 0 n (startOf es obj)) e ∙ walk-more es o 0 (keyCount es) (128 - keyCount es) (startOf es obj) unseen
+      where
+        unseen : (c : ℕ) → 0 + keyCount es ≤ c → o .seen c ≡ false
+        unseen c l = not-true (o .seen c) (true-of-T (not (o .seen c)) (not-T (o .seen c) (λ s. omega (arith, h .in-keys .seen-lt c s))))
+
+    -- the rules that a closed object fits
+    ruleFits-object : (r : ℕ) → r < 32 → ruleFits (closed (lentEdges t) (t .forms) (t .ends) f) r ≡ objectFits es o r
+    unfolding objectFits states formCode
+    ruleFits-object r l = go (o .marked) refl
+      where
+        go : (b : Bool) → o .marked ≡ b → ruleFits (closed (lentEdges t) (t .forms) (t .ends) f) r ≡ (not b && ended es obj (walk es o 0 (keyCount es) (startOf es obj)) r)
+        go true e = ruleFits-closed-marked (lentEdges t) (t .forms) (t .ends) f (h .object) (h .mark ∙ e) r
+        go false e =
+            ruleFits-closed-object (lentEdges t) (t .forms) (t .ends) f (h .object) (h .mark ∙ e) r
+            ∙ accepting-ended kept obj (states 128) (walk es o 0 128 (startOf es obj)) (shows-walk 128 (omega arith)) r l
+            ∙ ap (λ (S : States). ended es obj S r) walk-128
+
+    -- a closed object fits the `obj` rules that have an end state after the walk over its keys, and none with the mark
+    pub shows-object : ShowsValue (Done.Rules (closed (lentEdges t) (t .forms) (t .ends) f)) (ofRules (objectFits es o))
+    shows-object = shows-rules (closed (lentEdges t) (t .forms) (t .ends) f) (objectFits es o) ruleFits-object

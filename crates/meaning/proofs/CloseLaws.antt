@@ -1,5 +1,5 @@
 -- A finished value shows the kinds that it fits: a closed frame those that `runs` finds of the open value, a scalar its own. Assumes nothing.
-use mathlib.Core.Bool.{Bool, true, false, not, cond, _&&_}
+use mathlib.Core.Bool.{Bool, true, false, not, _&&_}
 use mathlib.Core.List.{List}
 use mathlib.Core.Logic.{_↔_}
 use mathlib.Core.Path.{_≡_, refl, sym, ap, subst, _∙_}
@@ -11,24 +11,23 @@ use lib.ListN.{getD, drop}
 use borrow.Author.Tests.{not-true}
 use Rattle.laws.specs.Bits.{bitAt}
 use Rattle.laws.proofs.TestLaws.{true-of-T, T-and, T-and-left, T-and-right}
-use Rattle.table.specs.Kind.{codeOf, ruleFits, fitsKind}
+use Rattle.table.specs.Kind.{codeOf, ruleFits}
 use Rattle.table.specs.declared.Table.{Table}
 use Rattle.table.specs.declared.kind.Scalar.{Scalar}
-use Rattle.table.specs.declared.kind.ValueKind.{ValueKind}
 use Rattle.table.specs.declared.kind.ValueKind.the-variants.{Plain, Rule}
 use Rattle.table.specs.declared.kind.Finished.the-variants as Done
 use Rattle.book.specs.Entry.{obj, arr, Entry, keysOf}
 use Rattle.book.specs.Holds.{formCode}
-use Rattle.runs.specs.Walk.{ofScalar, ofRules, hasKey, States, OpenObject, startOf, moved, ended, keyCount, useKey, walk, objectFits}
+use Rattle.runs.specs.Walk.{ofScalar, ofRules, hasKey, States, OpenObject, startOf, ended, keyCount, useKey, walk, objectFits}
 use Rattle.runs.proofs.EdgeLaws.{EdgeFrom}
 use Rattle.runs.proofs.StepLaws.{walk-last, useKey-unseen, walk-more}
-use Rattle.frame.specs.Frame.{isObject, marked, seenIn, heldIn}
-use Rattle.frame.specs.Ops.{startStates, keyStates, walked, accepting, closed}
+use Rattle.frame.specs.Frame.{heldIn}
+use Rattle.frame.specs.Ops.{startStates, keyStates, walked}
 use Rattle.frame.proofs.OpenLaws.{bitAt-startStates}
 use Rattle.frame.proofs.PartLaws.{heldIn-of-drop}
 use Rattle.frame.proofs.WalkLaws.{bitAt-keyStates, walked-seen, walked-unseen}
 use Rattle.frame.proofs.CloseLaws.{ruleFits-closed-marked, ruleFits-closed-object, ruleFits-closed-array}
-use Rattle.meaning.specs.Shows.{Kept, lentEdges, ShowsValue, ShowsStates, ShowsArray, ShowsObject}
+use Rattle.meaning.specs.Shows.{Kept, lentEdges, closedBy, ShowsValue, stateBit, ShowsStates, ShowsArray, ShowsObject}
 use Rattle.meaning.proofs.EdgeLaws.{keyCount-le, below-of-edge, hasKey-iff}
 use Rattle.meaning.proofs.StateLaws.{shows-start, shows-moved, accepting-ended}
 
@@ -57,13 +56,13 @@ module _ {t : Table} {es : List Entry} (kept : Kept t es) where
   -- ---- arrays
 
   -- a closed array fits the `arr` rules that have an end state among its states
-  pub shows-array : {f : List ℕ} {S : States} → ShowsArray f S → ShowsValue (Done.Rules (closed (lentEdges t) (t .forms) (t .ends) f)) (ofRules (ended es arr S))
+  pub shows-array : {f : List ℕ} {S : States} → ShowsArray f S → ShowsValue (Done.Rules (closedBy t f)) (ofRules (ended es arr S))
   unfolding formCode
   shows-array {f} {S} h =
-      shows-rules (closed (lentEdges t) (t .forms) (t .ends) f) (ended es arr S)
+      shows-rules (closedBy t f) (ended es arr S)
       (λ r l.
-        ruleFits-closed-array (lentEdges t) (t .forms) (t .ends) f (h .array) r
-        ∙ accepting-ended kept arr (drop 32 f) S (λ n q a b. sym (heldIn-of-drop f (16 * n + q)) ∙ h .states n q a b) r l)
+      ruleFits-closed-array (lentEdges t) (t .forms) (t .ends) f (h .array) r
+      ∙ accepting-ended kept arr (drop 32 f) S (λ n q a b. sym (heldIn-of-drop f (stateBit n q)) ∙ h .states n q a b) r l)
 
   -- ---- objects
 
@@ -80,17 +79,18 @@ module _ {t : Table} {es : List Entry} (kept : Kept t es) where
         rw e
         (shows-moved kept (bitAt s) (bitAt (keyStates (lentEdges t) f s c)) S Uses (λ (e : ℕ) (x : Entry). o .fitting e && hasKey (keysOf es) c x) shows same
         (λ j b.
-          let law = bitAt-keyStates (lentEdges t) f s c j b in
-          ((λ p. let (e, d, a, k, g, q) = law .0 p in (e, d, (a, k), g, q)), (λ p. law .1 (p .0, p .1, p .2 .0, p .2 .1, p .3, p .4)))))
+        let law = bitAt-keyStates (lentEdges t) f s c j b in
+        ((λ p. let (e, d, a, k, g, q) = law .0 p in (e, d, (a, k), g, q)), (λ p. law .1 (p .0, p .1, p .2 .0, p .2 .1, p .3, p .4)))))
       where
         Uses : ℕ → Type 0
         Uses e = (getD (t .«edge_key») e 0 ≡ c) × T (heldIn f e)
 
         same : (e : ℕ) (x : Entry) → EdgeFrom 0 es e x → Uses e ↔ T (o .fitting e && hasKey (keysOf es) c x)
         same e x i =
-            let d : heldIn f e ≡ o .fitting e = h .held e (omega (arith, below-of-edge kept i, kept .edges-le)) in
-            ((λ p. T-and (o .fitting e) (hasKey (keysOf es) c x) (rw d at (p .1)) (hasKey-iff kept i c l .0 (p .0))),
-            (λ b. (hasKey-iff kept i c l .1 (T-and-right (o .fitting e) (hasKey (keysOf es) c x) b), rw d (T-and-left (o .fitting e) (hasKey (keysOf es) c x) b))))
+            let d : heldIn f e ≡ o .fitting e = h .held e (omega (arith, below-of-edge kept i, kept .edges-le)) in (
+              (λ p. T-and (o .fitting e) (hasKey (keysOf es) c x) (rw d at (p .1)) (hasKey-iff kept i c l .0 (p .0))),
+              (λ b. (hasKey-iff kept i c l .1 (T-and-right (o .fitting e) (hasKey (keysOf es) c x) b), rw d (T-and-left (o .fitting e) (hasKey (keysOf es) c x) b))),
+            )
 
     -- the walk over the keys seen below n
     shows-walk : (n : ℕ) → n ≤ 128 → ShowsStates (bitAt (states n)) (walk es o 0 n (startOf es obj))
@@ -122,11 +122,11 @@ module _ {t : Table} {es : List Entry} (kept : Kept t es) where
         unseen c l = not-true (o .seen c) (true-of-T (not (o .seen c)) (not-T (o .seen c) (λ s. omega (arith, h .in-keys .seen-lt c s))))
 
     -- the rules that a closed object fits
-    ruleFits-object : (r : ℕ) → r < 32 → ruleFits (closed (lentEdges t) (t .forms) (t .ends) f) r ≡ objectFits es o r
+    ruleFits-object : (r : ℕ) → r < 32 → ruleFits (closedBy t f) r ≡ objectFits es o r
     unfolding objectFits states formCode
     ruleFits-object r l = go (o .marked) refl
       where
-        go : (b : Bool) → o .marked ≡ b → ruleFits (closed (lentEdges t) (t .forms) (t .ends) f) r ≡ (not b && ended es obj (walk es o 0 (keyCount es) (startOf es obj)) r)
+        go : (b : Bool) → o .marked ≡ b → ruleFits (closedBy t f) r ≡ (not b && ended es obj (walk es o 0 (keyCount es) (startOf es obj)) r)
         go true e = ruleFits-closed-marked (lentEdges t) (t .forms) (t .ends) f (h .object) (h .mark ∙ e) r
         go false e =
             ruleFits-closed-object (lentEdges t) (t .forms) (t .ends) f (h .object) (h .mark ∙ e) r
@@ -134,5 +134,5 @@ module _ {t : Table} {es : List Entry} (kept : Kept t es) where
             ∙ ap (λ (S : States). ended es obj S r) walk-128
 
     -- a closed object fits the `obj` rules that have an end state after the walk over its keys, and none with the mark
-    pub shows-object : ShowsValue (Done.Rules (closed (lentEdges t) (t .forms) (t .ends) f)) (ofRules (objectFits es o))
-    shows-object = shows-rules (closed (lentEdges t) (t .forms) (t .ends) f) (objectFits es o) ruleFits-object
+    pub shows-object : ShowsValue (Done.Rules (closedBy t f)) (ofRules (objectFits es o))
+    shows-object = shows-rules (closedBy t f) (objectFits es o) ruleFits-object

@@ -1,5 +1,5 @@
 -- Edge e of a table that keeps a book is edge e of the book: its numbers, and the tests of it. Assumes nothing.
-use mathlib.Core.Bool.{Bool, true, false, _&&_}
+use mathlib.Core.Bool.{Bool}
 use mathlib.Core.List.{List, [], _∷_}
 use mathlib.Core.Logic.{_↔_}
 use mathlib.Core.Path.{_≡_, refl, sym, ap, subst, _∙_}
@@ -19,12 +19,11 @@ use Rattle.table.proofs.KindLaws.{kindOf-codeOf}
 use Rattle.book.specs.Entry.{Form, obj, arr, Entry, edge, end-state, keysOf, numberOf}
 use Rattle.book.specs.Load.{ruleOf, formIn}
 use Rattle.book.specs.Holds.{Edge, edgeAt, tableEdges, keyAt, tableKeys, keyNumber, edgesFrom, edgesOf, formCode}
-use Rattle.runs.specs.Runs.{_∈_}
 use Rattle.runs.specs.Walk.{asks, ofArray, hasKey, keyCount}
 use Rattle.runs.proofs.EdgeLaws.{EdgeFrom, this-edge, past-edge, past-end, le-of-edge, member-of-edge}
 use Rattle.frame.specs.Edges.{hasForm, fitsCode}
 use Rattle.meaning.specs.Shows.{Kept, ShowsValue}
-use Rattle.meaning.proofs.FormLaws.{OfRule, of-rule, hasForm-iff, form-eq-of-ofRule}
+use Rattle.meaning.proofs.FormLaws.{of-rule, hasForm-iff, form-eq-of-ofRule}
 
 -- ---- the numbers of an edge
 
@@ -49,9 +48,11 @@ noEdge = record { rule = 0; state = 0; key = 0; kind = 0; next = 0; line = 0 }
 numbers-of-edgesFrom : (ks : List (List ℕ)) (n : ℕ) {i e : ℕ} {es : List Entry} {x : Entry} (j : ℕ) → e ≡ i + j → EdgeFrom i es e x
     → (j < length (edgesFrom ks n es)) × NumbersOf ks (getD (edgesFrom ks n es) j noEdge) x
 unfolding edgesFrom
-numbers-of-edgesFrom ks n zero h (this-edge {r} {q} {m} {f} {k} {t} {es} a b) =
-    (omega arith, subst (NumbersOf ks (record { rule = r; state = q; key = keyNumber ks k; kind = codeOf t; next = m; line = n })) (sym b)
-    (record { rule = refl; state = refl; key = refl; kind = refl; next = refl }))
+numbers-of-edgesFrom ks n zero h (this-edge {r} {q} {m} {f} {k} {t} {es} a b) = (
+  omega arith,
+  subst (NumbersOf ks (record { rule = r; state = q; key = keyNumber ks k; kind = codeOf t; next = m; line = n })) (sym b)
+      (record { rule = refl; state = refl; key = refl; kind = refl; next = refl }),
+)
 numbers-of-edgesFrom ks n (suc j) h (this-edge a b) = absurd (omega arith)
 numbers-of-edgesFrom ks n zero h (past-edge g) = let l = le-of-edge g in absurd (omega arith)
 numbers-of-edgesFrom ks n (suc j) h (past-edge g) = let p = numbers-of-edgesFrom ks (suc n) j (omega arith) g in (omega arith, p .1)
@@ -148,9 +149,10 @@ module _ {t : Table} {es : List Entry} (kept : Kept t es) where
     where
       go : (x : Entry) → EdgeFrom 0 es e x → NumbersOf (keysOf es) (edgeAt t e) x → T (hasForm (t .forms) 2 (getD (t .«edge_rule») e 0)) ↔ T (ofArray x)
       go (edge r arr q k u m) i n = ((λ h. tt), (λ h. hasForm-iff kept arr (getD (t .«edge_rule») e 0) .1 (of-rule (member-of-edge i) (sym (n .rule)) refl)))
-      go (edge r obj q k u m) i n =
-          ((λ h.
+      go (edge r obj q k u m) i n = (
+        (λ h.
             let p : obj ≡ arr = form-eq-of-ofRule kept (hasForm-iff kept arr (getD (t .«edge_rule») e 0) .0 h) (member-of-edge i) (sym (n .rule)) in
             let z : _≡_ {A = ℕ} 0 1 = cc in absurd (omega arith)),
-          (λ h. absurd h))
+        (λ h. absurd h),
+      )
       go (end-state r f q) i n = absurd n

@@ -9,9 +9,8 @@ use lib.Dec.{T, eqb, eqb→eq}
 use lib.ListN.{getD}
 use borrow.Author.Tests.{eq-eqb, eqb-true, eqb-false}
 use Rattle.laws.specs.Lists.{any}
-use Rattle.laws.proofs.TestLaws.{T-of-true, T-and-left, T-and-right}
+use Rattle.laws.proofs.TestLaws.{T-of-true, T-and-right}
 use Rattle.table.specs.declared.Table.{Table}
-use Rattle.table.specs.declared.kind.ValueKind.{ValueKind}
 use Rattle.book.specs.Entry.{Form, obj, arr, Entry, edge, end-state}
 use Rattle.book.specs.Load.{ruleOf, formIn}
 use Rattle.book.specs.Holds.{formCode, ruleForm}

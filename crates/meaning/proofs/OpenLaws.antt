@@ -1,7 +1,7 @@
 -- An opened frame, and one after a finished key, show what `runs` keeps of the open value. Assumes nothing.
 use mathlib.Core.Bool.{Bool, true, false, not, cond, _&&_, _||_, or-comm, or-true}
 use mathlib.Core.List.{List}
-use mathlib.Core.Path.{_≡_, refl, sym, ap, _∙_}
+use mathlib.Core.Path.{_≡_, sym, ap, _∙_}
 use Prim.Native.Nat.{ℕ, _<_, _≤_}
 use native.Mathlib.Decide.{decLt}
 use native.Mathlib.Omega.{arith}
@@ -13,7 +13,7 @@ use Rattle.book.specs.Entry.{arr, Entry}
 use Rattle.book.specs.Holds.{formCode}
 use Rattle.runs.specs.Walk.{OpenObject, startOf, keyCount, numberIn, atOpening, afterKey}
 use Rattle.runs.proofs.StepLaws.{inKeys-atOpening, inKeys-afterKey}
-use Rattle.frame.specs.Frame.{isObject, currentKey, marked, seenIn, heldIn}
+use Rattle.frame.specs.Frame.{currentKey, marked, seenIn, heldIn}
 use Rattle.frame.specs.Ops.{opened, keyed}
 use Rattle.frame.proofs.OpenLaws.{length-opened, isObject-opened, currentKey-opened, marked-opened, seenIn-opened, heldIn-opened-object, heldIn-opened-array}
 use Rattle.frame.proofs.KeyLaws.{length-keyed, isObject-keyed, heldIn-keyed, currentKey-keyed, marked-keyed-known, marked-keyed-unknown, seenIn-keyed}

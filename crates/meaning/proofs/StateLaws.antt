@@ -1,20 +1,18 @@
 -- Bits that are a set of states: where they start, where edges lead, where they end. Assumes nothing.
-use mathlib.Core.Bool.{Bool, true, false, _&&_}
+use mathlib.Core.Bool.{Bool, true, false}
 use mathlib.Core.List.{List}
 use mathlib.Core.Logic.{_↔_}
-use mathlib.Core.Path.{_≡_, refl, sym, ap, subst, _∙_}
+use mathlib.Core.Path.{_≡_, refl}
 use Prim.Native.Nat.{ℕ, _+_, _*_, _<_}
 use native.Mathlib.Omega.{arith}
 use lib.Dec.{T, eqb, eqb→eq, eqb-refl}
 use lib.ListN.{getD}
 use Rattle.laws.specs.Bits.{bitAt}
-use Rattle.laws.specs.Lists.{any}
 use Rattle.laws.proofs.TestLaws.{T-and, T-and-left, T-and-right}
 use Rattle.table.specs.declared.Table.{Table}
-use Rattle.table.specs.declared.kind.ValueKind.{ValueKind}
-use Rattle.book.specs.Entry.{Form, Entry, edge, end-state, keysOf}
+use Rattle.book.specs.Entry.{Form, Entry, edge, end-state}
 use Rattle.book.specs.Load.{ruleOf, formIn}
-use Rattle.book.specs.Holds.{edgeAt, formCode, endsAt}
+use Rattle.book.specs.Holds.{formCode, endsAt}
 use Rattle.runs.specs.Runs.{_∈_}
 use Rattle.runs.specs.Walk.{States, startOf, moved, ended}
 use Rattle.runs.proofs.AnyLaws.{any-of-member, member-of-any}
@@ -23,7 +21,7 @@ use Rattle.runs.proofs.StateLaws.{EndIn, end-in, ended-of-end, end-of-ended, Mo
 use Rattle.frame.specs.Edges.{edgeCount, hasForm, stateNumber}
 use Rattle.frame.specs.Ops.{accepting}
 use Rattle.frame.proofs.RuleLaws.{accepting-iff}
-use Rattle.meaning.specs.Shows.{Kept, ShowsStates}
+use Rattle.meaning.specs.Shows.{Kept, stateBit, ShowsStates}
 use Rattle.meaning.proofs.FormLaws.{OfRule, of-rule, startOf-iff, hasForm-iff, form-eq-of-ofRule}
 use Rattle.meaning.proofs.EdgeLaws.{EdgeAt, edge-at, edge-of-below, below-of-edge, numbers-of-edge}
 
@@ -47,16 +45,16 @@ module _ {t : Table} {es : List Entry} (kept : Kept t es) where
   -- state 0 of each rule of a form
   pub shows-start : (f : Form) (bits : ℕ → Bool) → ((j : ℕ) → T (bits j) ↔ ((r : ℕ) × T (hasForm (t .forms) (formCode f) r) × (16 * r ≡ j)))
       → ShowsStates bits (startOf es f)
-  shows-start f bits h r q l g = eq-of-iff (bits (16 * r + q)) (startOf es f r q) (starts, bit)
+  shows-start f bits h r q l g = eq-of-iff (bits (stateBit r q)) (startOf es f r q) (starts, bit)
     where
-      starts : T (bits (16 * r + q)) → T (startOf es f r q)
+      starts : T (bits (stateBit r q)) → T (startOf es f r q)
       starts b =
-          let (n, p, e) = h (16 * r + q) .0 b in
+          let (n, p, e) = h (stateBit r q) .0 b in
           let d : n ≡ r = omega arith in
           startOf-iff es f r q .1 (omega arith, hasForm-iff kept f r .0 (rw d at p))
 
-      bit : T (startOf es f r q) → T (bits (16 * r + q))
-      bit s = let (z, o) = startOf-iff es f r q .0 s in h (16 * r + q) .1 (r, hasForm-iff kept f r .1 o, omega arith)
+      bit : T (startOf es f r q) → T (bits (stateBit r q))
+      bit s = let (z, o) = startOf-iff es f r q .0 s in h (stateBit r q) .1 (r, hasForm-iff kept f r .1 o, omega arith)
 
   -- ---- moved
 
@@ -64,10 +62,10 @@ module _ {t : Table} {es : List Entry} (kept : Kept t es) where
   pub shows-moved : (bits next : ℕ → Bool) (S : States) (P : ℕ → Type 0) (p : ℕ → Entry → Bool) → ShowsStates bits S
       → ((e : ℕ) (x : Entry) → EdgeFrom 0 es e x → P e ↔ T (p e x)) → Reached t bits P next → ShowsStates next (moved es p S)
   unfolding stateNumber
-  shows-moved bits next S P p shows same h r m l g = eq-of-iff (next (16 * r + m)) (moved es p S r m) (moves, bit)
+  shows-moved bits next S P p shows same h r m l g = eq-of-iff (next (stateBit r m)) (moved es p S r m) (moves, bit)
     where
       from : (e : ℕ) → P e → T (bits (16 * getD (t .«edge_rule») e 0 + getD (t .«edge_state») e 0))
-          → 16 * getD (t .«edge_rule») e 0 + getD (t .«edge_next») e 0 ≡ 16 * r + m → EdgeAt kept e → T (moved es p S r m)
+          → 16 * getD (t .«edge_rule») e 0 + getD (t .«edge_next») e 0 ≡ stateBit r m → EdgeAt kept e → T (moved es p S r m)
       from e a b c (edge-at {r = r′} {q = q′} {m = m′} {f} {k} {v} i) =
           let n = numbers-of-edge kept i in
           let lim = kept .edge-limits (member-of-edge i) in
@@ -76,17 +74,17 @@ module _ {t : Table} {es : List Entry} (kept : Kept t es) where
           let s : T (S r′ q′) = rw (n .rule, n .state, shows r′ q′ (lim .rule) (lim .state)) at b in
           rw (er, em) at (moved-of-edge es p S i s (same e (edge r′ f q′ k v m′) i .0 a))
 
-      moves : T (next (16 * r + m)) → T (moved es p S r m)
-      moves b = let (e, d, a, c, j) = h (16 * r + m) (omega arith) .0 b in from e a c j (edge-of-below kept e (omega (arith, kept .edges-le)))
+      moves : T (next (stateBit r m)) → T (moved es p S r m)
+      moves b = let (e, d, a, c, j) = h (stateBit r m) (omega arith) .0 b in from e a c j (edge-of-below kept e (omega (arith, kept .edges-le)))
 
-      to : MoveTo es p S r m → T (next (16 * r + m))
+      to : MoveTo es p S r m → T (next (stateBit r m))
       to (move-to {e} {q} {f} {k} {t = v} i s a) =
           let n = numbers-of-edge kept i in
           let lim = kept .edge-limits (member-of-edge i) in
-          h (16 * r + m) (omega arith) .1
+          h (stateBit r m) (omega arith) .1
           (e, omega (arith, kept .edges-le, below-of-edge kept i), same e (edge r f q k v m) i .1 a, rw (n .rule, n .state, shows r q l (lim .state)) s, omega arith)
 
-      bit : T (moved es p S r m) → T (next (16 * r + m))
+      bit : T (moved es p S r m) → T (next (stateBit r m))
       bit s = to (edge-of-moved es p S r m s)
 
   -- ---- ended
@@ -114,10 +112,15 @@ module _ {t : Table} {es : List Entry} (kept : Kept t es) where
       accept : EndIn es f S r → T (accepting (t .forms) (t .ends) (formCode f) s r)
       accept (end-in {q} i b) =
           let g = kept .end-limits i .1 in
-          accepting-iff (t .forms) (t .ends) (formCode f) s r .1
-          (hasForm-iff kept f r .1 (of-rule i refl refl),
-          (q, g, rw (shows r q l g) b,
-          rw (kept .holds .ended r q l g) (any-of-member (endsAt r q) i (T-and (eqb r r) (eqb q q) (eqb-refl r) (eqb-refl q)))))
+          accepting-iff (t .forms) (t .ends) (formCode f) s r .1 (
+            hasForm-iff kept f r .1 (of-rule i refl refl),
+            (
+              q,
+              g,
+              rw (shows r q l g) b,
+              rw (kept .holds .ended r q l g) (any-of-member (endsAt r q) i (T-and (eqb r r) (eqb q q) (eqb-refl r) (eqb-refl q))),
+            ),
+          )
 
       accepts : T (ended es f S r) → T (accepting (t .forms) (t .ends) (formCode f) s r)
       accepts h = accept (end-of-ended es f S r h)

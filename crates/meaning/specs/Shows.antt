@@ -19,6 +19,7 @@ use Rattle.runs.specs.Walk.{States, OpenObject, keyCount, numberIn}
 use Rattle.runs.proofs.StepLaws.{InKeys}
 use Rattle.frame.specs.Edges.{Edges, edgesOf}
 use Rattle.frame.specs.Frame.{isObject, currentKey, marked, seenIn, heldIn}
+use Rattle.frame.specs.Ops.{valued, closed}
 
 -- ---- what is asked of a table that was loaded
 
@@ -45,9 +46,19 @@ pub record Kept (t : Table) (es : List Entry) : Type 0 where
   pub edges-le : t .edges ≤ 512
   pub keys-le : t .keys ≤ 128
 
--- its edges, lent as the frames take them
+-- ---- the steps of a frame over a table's arrays
+
+-- the edges of a table, lent as the frames take them
 abbrev pub lentEdges : Table → Edges
 lentEdges t = edgesOf (t .edges) (t .«edge_rule») (t .«edge_state») (t .«edge_key») (t .«edge_next»)
+
+-- a frame after a finished value
+abbrev pub valuedBy : Table → Finished → List ℕ → List ℕ
+valuedBy t v f = valued (lentEdges t) (t .«edge_kind») (t .forms) v f
+
+-- the rules that the value of a frame fits
+abbrev pub closedBy : Table → List ℕ → ℕ
+closedBy t f = closed (lentEdges t) (t .forms) (t .ends) f
 
 -- ---- finished values
 
@@ -57,9 +68,13 @@ ShowsValue v w = (k : ValueKind) → codeOf k < 38 → fitsKind k v ≡ w k
 
 -- ---- open arrays
 
--- bits by number are a set of states: state q of rule r is bit 16 × r + q
+-- the bit of state q of rule r
+abbrev pub stateBit : ℕ → ℕ → ℕ
+stateBit r q = 16 * r + q
+
+-- bits are a set of states
 abbrev pub ShowsStates : (ℕ → Bool) → States → Type 0
-ShowsStates bits S = (r q : ℕ) → r < 32 → q < 16 → bits (16 * r + q) ≡ S r q
+ShowsStates bits S = (r q : ℕ) → r < 32 → q < 16 → bits (stateBit r q) ≡ S r q
 
 -- a frame is that of an array with a set of states
 pub record ShowsArray (f : List ℕ) (S : States) : Type 0 where

@@ -4,3 +4,4 @@ pub mod StateLaws
 pub mod OpenLaws
 pub mod ValueLaws
 pub mod CloseLaws
+pub mod Examples

@@ -2,8 +2,8 @@
 use mathlib.Core.Bool.{Bool, true, false, not, _&&_}
 use mathlib.Core.List.{List}
 use mathlib.Core.Logic.{_↔_}
-use mathlib.Core.Path.{_≡_, refl, sym, ap, subst, _∙_}
-use Prim.Native.Nat.{ℕ, zero, suc, _+_, _-_, _*_, _<_, _≤_}
+use mathlib.Core.Path.{_≡_, refl, sym, ap, subst₂, _∙_}
+use Prim.Native.Nat.{ℕ, zero, suc, _+_, _-_, _<_, _≤_}
 use native.Mathlib.Nat.{zero-add}
 use native.Mathlib.Omega.{arith}
 use lib.Dec.{T, not-T, lit<}
@@ -67,9 +67,12 @@ module _ {t : Table} {es : List Entry} (kept : Kept t es) where
   -- ---- objects
 
   module _ {f : List ℕ} {o : OpenObject} (h : ShowsObject es f o) where
-    -- the frame's states after the keys below n
-    states : ℕ → List ℕ
-    states n = walked (lentEdges t) f 0 (startStates (t .forms) 1) n
+    -- the states after the keys below n, in the frame and in the open object
+    bits : ℕ → List ℕ
+    bits n = walked (lentEdges t) f 0 (startStates (t .forms) 1) n
+
+    after : ℕ → States
+    after n = walk es o 0 n (startOf es obj)
 
     -- the states after key c, which was seen
     shows-keyStates : (s : List ℕ) (S : States) (c : ℕ) → c < 128 → o .seen c ≡ true → ShowsStates (bitAt s) S
@@ -77,61 +80,60 @@ module _ {t : Table} {es : List Entry} (kept : Kept t es) where
     unfolding useKey
     shows-keyStates s S c l e shows =
         rw e
-        (shows-moved kept (bitAt s) (bitAt (keyStates (lentEdges t) f s c)) S Uses (λ (e : ℕ) (x : Entry). o .fitting e && hasKey (keysOf es) c x) shows same
-        (λ j b.
-        let law = bitAt-keyStates (lentEdges t) f s c j b in
-        ((λ p. let (e, d, a, k, g, q) = law .0 p in (e, d, (a, k), g, q)), (λ p. law .1 (p .0, p .1, p .2 .0, p .2 .1, p .3, p .4)))))
+        (shows-moved kept (bitAt s) (bitAt (keyStates (lentEdges t) f s c)) S HasKey Held (λ (e : ℕ) (x : Entry). o .fitting e && hasKey (keysOf es) c x) shows same
+        (bitAt-keyStates (lentEdges t) f s c))
       where
-        Uses : ℕ → Type 0
-        Uses e = (getD (t .«edge_key») e 0 ≡ c) × T (heldIn f e)
+        HasKey : ℕ → Type 0
+        HasKey e = getD (t .«edge_key») e 0 ≡ c
 
-        same : (e : ℕ) (x : Entry) → EdgeFrom 0 es e x → Uses e ↔ T (o .fitting e && hasKey (keysOf es) c x)
+        Held : ℕ → Type 0
+        Held e = T (heldIn f e)
+
+        same : (e : ℕ) (x : Entry) → EdgeFrom 0 es e x → (HasKey e × Held e) ↔ T (o .fitting e && hasKey (keysOf es) c x)
         same e x i =
             let d : heldIn f e ≡ o .fitting e = h .held e (omega (arith, below-of-edge kept i, kept .edges-le)) in (
               (λ p. T-and (o .fitting e) (hasKey (keysOf es) c x) (rw d at (p .1)) (hasKey-iff kept i c l .0 (p .0))),
               (λ b. (hasKey-iff kept i c l .1 (T-and-right (o .fitting e) (hasKey (keysOf es) c x) b), rw d (T-and-left (o .fitting e) (hasKey (keysOf es) c x) b))),
             )
 
-    -- the walk over the keys seen below n
-    shows-walk : (n : ℕ) → n ≤ 128 → ShowsStates (bitAt (states n)) (walk es o 0 n (startOf es obj))
-    unfolding states walked walk formCode
+    -- they are the same
+    shows-walk : (n : ℕ) → n ≤ 128 → ShowsStates (bitAt (bits n)) (after n)
+    unfolding bits after walked walk formCode
     shows-walk zero l = shows-start kept obj (bitAt (startStates (t .forms) 1)) (bitAt-startStates (t .forms) 1)
     shows-walk (suc n) l = go (o .seen n) refl (shows-walk n (omega arith))
       where
-        next : walk es o 0 (suc n) (startOf es obj) ≡ useKey es o n (walk es o 0 n (startOf es obj))
-        next = walk-last es o 0 n (startOf es obj) ∙ ap (λ (c : ℕ). useKey es o c (walk es o 0 n (startOf es obj))) (zero-add n)
+        next : after (suc n) ≡ useKey es o n (after n)
+        next = walk-last es o 0 n (startOf es obj) ∙ ap (λ (c : ℕ). useKey es o c (after n)) (zero-add n)
 
-        go : (b : Bool) → o .seen n ≡ b → ShowsStates (bitAt (states n)) (walk es o 0 n (startOf es obj))
-            → ShowsStates (bitAt (states (suc n))) (walk es o 0 (suc n) (startOf es obj))
+        go : (b : Bool) → o .seen n ≡ b → ShowsStates (bitAt (bits n)) (after n) → ShowsStates (bitAt (bits (suc n))) (after (suc n))
         go true e ih =
-            subst (λ (s : List ℕ). ShowsStates (bitAt s) (walk es o 0 (suc n) (startOf es obj))) (sym (walked-seen (lentEdges t) f (startStates (t .forms) 1) n (h .seen n l ∙ e)))
-            (subst (λ (S : States). ShowsStates (bitAt (keyStates (lentEdges t) f (states n) n)) S) (sym next)
-            (shows-keyStates (states n) (walk es o 0 n (startOf es obj)) n l e ih))
+            let s : bits (suc n) ≡ keyStates (lentEdges t) f (bits n) n = walked-seen (lentEdges t) f (startStates (t .forms) 1) n (h .seen n l ∙ e) in
+            subst₂ (λ (x : List ℕ) (S : States). ShowsStates (bitAt x) S) (sym s) (sym next) (shows-keyStates (bits n) (after n) n l e ih)
         go false e ih =
-            subst (λ (s : List ℕ). ShowsStates (bitAt s) (walk es o 0 (suc n) (startOf es obj))) (sym (walked-unseen (lentEdges t) f (startStates (t .forms) 1) n (h .seen n l ∙ e)))
-            (subst (λ (S : States). ShowsStates (bitAt (states n)) S) (sym (next ∙ useKey-unseen es o n (walk es o 0 n (startOf es obj)) e)) ih)
+            let s : bits (suc n) ≡ bits n = walked-unseen (lentEdges t) f (startStates (t .forms) 1) n (h .seen n l ∙ e) in
+            subst₂ (λ (x : List ℕ) (S : States). ShowsStates (bitAt x) S) (sym s) (sym (next ∙ useKey-unseen es o n (after n) e)) ih
 
-    -- a walk over 128 keys is one over the keys of the book
-    walk-128 : walk es o 0 128 (startOf es obj) ≡ walk es o 0 (keyCount es) (startOf es obj)
-    walk-128 =
-        let m = keyCount-le kept in
-        let e : 128 ≡ keyCount es + (128 - keyCount es) = omega arith in
-        ap (λ (n : ℕ). walk es o 0 n (startOf es obj)) e ∙ walk-more es o 0 (keyCount es) (128 - keyCount es) (startOf es obj) unseen
+    -- 128 keys are walked as the keys of the book are
+    after-128 : after 128 ≡ after (keyCount es)
+    unfolding after
+    after-128 =
+        let e : 128 ≡ keyCount es + (128 - keyCount es) = omega (arith, keyCount-le kept) in
+        ap after e ∙ walk-more es o 0 (keyCount es) (128 - keyCount es) (startOf es obj) unseen
       where
         unseen : (c : ℕ) → 0 + keyCount es ≤ c → o .seen c ≡ false
         unseen c l = not-true (o .seen c) (true-of-T (not (o .seen c)) (not-T (o .seen c) (λ s. omega (arith, h .in-keys .seen-lt c s))))
 
     -- the rules that a closed object fits
     ruleFits-object : (r : ℕ) → r < 32 → ruleFits (closedBy t f) r ≡ objectFits es o r
-    unfolding objectFits states formCode
+    unfolding objectFits bits after formCode
     ruleFits-object r l = go (o .marked) refl
       where
-        go : (b : Bool) → o .marked ≡ b → ruleFits (closedBy t f) r ≡ (not b && ended es obj (walk es o 0 (keyCount es) (startOf es obj)) r)
+        go : (b : Bool) → o .marked ≡ b → ruleFits (closedBy t f) r ≡ (not b && ended es obj (after (keyCount es)) r)
         go true e = ruleFits-closed-marked (lentEdges t) (t .forms) (t .ends) f (h .object) (h .mark ∙ e) r
         go false e =
             ruleFits-closed-object (lentEdges t) (t .forms) (t .ends) f (h .object) (h .mark ∙ e) r
-            ∙ accepting-ended kept obj (states 128) (walk es o 0 128 (startOf es obj)) (shows-walk 128 (omega arith)) r l
-            ∙ ap (λ (S : States). ended es obj S r) walk-128
+            ∙ accepting-ended kept obj (bits 128) (after 128) (shows-walk 128 (omega arith)) r l
+            ∙ ap (λ (S : States). ended es obj S r) after-128
 
     -- a closed object fits the `obj` rules that have an end state after the walk over its keys, and none with the mark
     pub shows-object : ShowsValue (Done.Rules (closedBy t f)) (ofRules (objectFits es o))

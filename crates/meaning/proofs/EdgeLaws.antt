@@ -71,6 +71,10 @@ edge-of-edgesFrom ks n i (end-state r f q ∷ es) j h = let (x, g) = edge-of-edg
 
 -- ---- the edges of a table
 
+-- edge e of a book
+pub data EdgeAt (es : List Entry) (e : ℕ) : Type 0 where
+  edge-at : {r q m : ℕ} {f : Form} {k : List ℕ} {v : ValueKind} → EdgeFrom 0 es e (edge r f q k v m) → EdgeAt es e
+
 module _ {t : Table} {es : List Entry} (kept : Kept t es) where
   -- there are at most 128 keys
   pub keyCount-le : keyCount es ≤ 128
@@ -86,26 +90,24 @@ module _ {t : Table} {es : List Entry} (kept : Kept t es) where
       let l′ : e < t .edges = omega (arith, ap length edged, length-tab (edgeAt t) 0 (t .edges)) in
       (l′, subst (λ (a : Edge). NumbersOf (keysOf es) a x) (ap (λ (l : List Edge). getD l e noEdge) (sym edged) ∙ getD-tab (edgeAt t) noEdge (t .edges) e l′) n)
 
+  -- the first of the two
   pub below-of-edge : {e : ℕ} {x : Entry} → EdgeFrom 0 es e x → e < t .edges
   below-of-edge i = numbers-at i .0
 
+  -- the second, of an entry that is seen to be an edge
   pub numbers-of-edge : {e r q m : ℕ} {f : Form} {k : List ℕ} {v : ValueKind} → EdgeFrom 0 es e (edge r f q k v m)
       → Numbers (keysOf es) (edgeAt t e) r q k v m
   numbers-of-edge i = numbers-at i .1
 
-  -- edge e of the book
-  pub data EdgeAt (e : ℕ) : Type 0 where
-    edge-at : {r q m : ℕ} {f : Form} {k : List ℕ} {v : ValueKind} → EdgeFrom 0 es e (edge r f q k v m) → EdgeAt e
-
   -- each number below the number of edges is that of an edge of the book
-  pub edge-of-below : (e : ℕ) → e < t .edges → EdgeAt e
+  pub edge-of-below : (e : ℕ) → e < t .edges → EdgeAt es e
   unfolding tableEdges edgesOf
   edge-of-below e l =
       let edged : tableEdges t ≡ edgesFrom (keysOf es) 2 es = kept .holds .edged in
       let (x, i) = edge-of-edgesFrom (keysOf es) 2 0 es e (omega (arith, ap length edged, length-tab (edgeAt t) 0 (t .edges))) in
       go x (subst (λ (d : ℕ). EdgeFrom 0 es d x) (zero-add e) i)
     where
-      go : (x : Entry) → EdgeFrom 0 es e x → EdgeAt e
+      go : (x : Entry) → EdgeFrom 0 es e x → EdgeAt es e
       go (edge r f q k v m) i = edge-at i
       go (end-state r f q) i = absurd (numbers-at i .1)
 

@@ -5,11 +5,11 @@ use mathlib.Core.Logic.{_↔_}
 use mathlib.Core.Path.{_≡_, refl, sym, ap, subst, _∙_}
 use Prim.Native.Nat.{ℕ, _<_}
 use native.Mathlib.Omega.{arith}
-use lib.Dec.{T, eqb, eqb→eq}
+use lib.Dec.{T, eqb, eqb→eq, eqb-refl}
 use lib.ListN.{getD}
-use borrow.Author.Tests.{eq-eqb, eqb-true, eqb-false}
+use borrow.Author.Tests.{eqb-true, eqb-false}
 use Rattle.laws.specs.Lists.{any}
-use Rattle.laws.proofs.TestLaws.{T-of-true, T-and-right}
+use Rattle.laws.proofs.TestLaws.{T-and-right}
 use Rattle.table.specs.declared.Table.{Table}
 use Rattle.book.specs.Entry.{Form, obj, arr, Entry, edge, end-state}
 use Rattle.book.specs.Load.{ruleOf, formIn}
@@ -88,7 +88,10 @@ eq-of-isOf f n (end-state r g q) h = eq-of-form-and-rule f g r n h
 -- the states to start in are state 0 of the rules that have an entry of the form
 pub startOf-iff : (es : List Entry) (f : Form) (n q : ℕ) → T (startOf es f n q) ↔ ((q ≡ 0) × OfRule es f n)
 unfolding startOf ruleOf formIn
-startOf-iff es f n q = ((λ h. (zero-of-start es f n q h, found (member-of-any (isOf f n) es (T-and-right (eqb q 0) (any (isOf f n) es) h)))), (λ p. start (p .0) (p .1)))
+startOf-iff es f n q = (
+  (λ h. (zero-of-start es f n q h, found (member-of-any (isOf f n) es (T-and-right (eqb q 0) (any (isOf f n) es) h)))),
+  (λ p. start (p .0) (p .1)),
+)
   where
     found : (x : Entry) × (x ∈ es) × T (isOf f n x) → OfRule es f n
     found (x, i, h) = let (a, b) = eq-of-isOf f n x h in of-rule i a b
@@ -109,6 +112,10 @@ module _ {t : Table} {es : List Entry} (kept : Kept t es) where
   rule-lt (edge r f q k v m) i = kept .edge-limits i .rule
   rule-lt (end-state r f q) i = kept .end-limits i .0
 
+  -- the entries of a rule that has one of a form are of that form
+  pub form-eq-of-ofRule : {f : Form} {n : ℕ} {x : Entry} → OfRule es f n → x ∈ es → ruleOf x ≡ n → formIn x ≡ f
+  form-eq-of-ofRule (of-rule i a b) j c = kept .one-form j i (c ∙ sym a) ∙ b
+
   -- a rule has a form in the table where it has an entry of the form in the book
   pub hasForm-iff : (f : Form) (n : ℕ) → T (hasForm (t .forms) (formCode f) n) ↔ OfRule es f n
   hasForm-iff f n = (found, has)
@@ -116,14 +123,11 @@ module _ {t : Table} {es : List Entry} (kept : Kept t es) where
       found : T (hasForm (t .forms) (formCode f) n) → OfRule es f n
       found h =
           let l = below-of-hasForm (t .forms) (formCode f) n h in
-          entry-of-ruleForm es f n (sym (kept .holds .formed n l) ∙ eqb→eq (getD (t .forms) n 0) (formCode f) (subst T (hasForm-below (t .forms) (formCode f) n l) h))
+          let e : getD (t .forms) n 0 ≡ formCode f = eqb→eq (getD (t .forms) n 0) (formCode f) (rw (hasForm-below (t .forms) (formCode f) n l) at h) in
+          entry-of-ruleForm es f n (sym (kept .holds .formed n l) ∙ e)
 
       has : OfRule es f n → T (hasForm (t .forms) (formCode f) n)
       has (of-rule {x} i a b) =
           let l : n < 32 = rw a at (rule-lt x i) in
-          let e : ruleForm es n ≡ formCode f = ruleForm-of-entry es f n (λ y j c. kept .one-form j i (c ∙ sym a) ∙ b) i a in
-          subst T (sym (hasForm-below (t .forms) (formCode f) n l)) (T-of-true (eqb (getD (t .forms) n 0) (formCode f)) (eq-eqb (getD (t .forms) n 0) (formCode f) (kept .holds .formed n l ∙ e)))
-
-  -- the entries of a rule that has a form have it
-  pub form-eq-of-ofRule : {f : Form} {n : ℕ} {x : Entry} → OfRule es f n → x ∈ es → ruleOf x ≡ n → formIn x ≡ f
-  form-eq-of-ofRule (of-rule i a b) j c = kept .one-form j i (c ∙ sym a) ∙ b
+          let e : ruleForm es n ≡ formCode f = ruleForm-of-entry es f n (λ y j c. form-eq-of-ofRule (of-rule i a b) j c) i a in
+          rw (hasForm-below (t .forms) (formCode f) n l, kept .holds .formed n l, e) (eqb-refl (formCode f))

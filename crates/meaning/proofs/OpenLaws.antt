@@ -5,7 +5,7 @@ use mathlib.Core.Path.{_≡_, sym, ap, _∙_}
 use Prim.Native.Nat.{ℕ, _<_, _≤_}
 use native.Mathlib.Decide.{decLt}
 use native.Mathlib.Omega.{arith}
-use lib.Dec.{T, eqb, eqb→eq, ltb, ltb→lt}
+use lib.Dec.{T, eqb, eqb→eq, ltb, ltb→lt, lt→ltb}
 use borrow.Author.Tests.{lt-ltb, le-ltb, eq-eqb}
 use Rattle.laws.proofs.TestLaws.{T-of-true, T-and, T-and-left, T-and-right}
 use Rattle.table.specs.declared.Table.{Table}
@@ -56,7 +56,7 @@ module _ {t : Table} {es : List Entry} (kept : Kept t es) where
     object = isObject-keyed f n ∙ h .object;
     mark = mark (decLt c (keyCount es));
     current = current (decLt c (keyCount es));
-    seen = λ j l. seenIn-keyed f n (h .long) j l ∙ ap (λ (b : Bool). b || seenIn f j) (same j l) ∙ ap (λ (b : Bool). (eqb j c && ltb j (keyCount es)) || b) (h .seen j l) ∙ or-comm (eqb j c && ltb j (keyCount es)) (o .seen j);
+    seen = seen;
     held = λ e l. heldIn-keyed f n e ∙ h .held e l;
     in-keys = inKeys-afterKey es k (h .in-keys);
   }
@@ -67,10 +67,12 @@ module _ {t : Table} {es : List Entry} (kept : Kept t es) where
       mark : Dec (c < keyCount es) → marked (keyed n f) ≡ (o .marked || (not (ltb c (keyCount es)) || o .seen c))
       mark (yes l) =
           let e = key .known l in
-          let m = keyCount-le kept in
-          let b : n < 128 = omega arith in
+          let b : n < 128 = omega (arith, keyCount-le kept) in
           rw (lt-ltb c (keyCount es) l)
-          (marked-keyed-known f n (h .long) b ∙ ap (λ (s : Bool). s || marked f) (h .seen n b ∙ ap (o .seen) e) ∙ ap (λ (s : Bool). o .seen c || s) (h .mark) ∙ or-comm (o .seen c) (o .marked))
+          (marked-keyed-known f n (h .long) b
+          ∙ ap (λ (s : Bool). s || marked f) (h .seen n b ∙ ap (o .seen) e)
+          ∙ ap (λ (s : Bool). o .seen c || s) (h .mark)
+          ∙ or-comm (o .seen c) (o .marked))
       mark (no l) =
           let g : keyCount es ≤ c = omega arith in
           rw (le-ltb c (keyCount es) g) (marked-keyed-unknown f n (h .long) (key .unknown g) ∙ sym (or-true (o .marked)))
@@ -78,25 +80,28 @@ module _ {t : Table} {es : List Entry} (kept : Kept t es) where
       current : Dec (c < keyCount es) → currentKey (keyed n f) ≡ cond (ltb c (keyCount es)) c 255
       current (yes l) =
           let e = key .known l in
-          let m = keyCount-le kept in
-          let b : n < 128 = omega arith in
+          let b : n < 128 = omega (arith, keyCount-le kept) in
           rw (lt-ltb c (keyCount es) l) (currentKey-keyed f n (h .long) ∙ rw (lt-ltb n 128 b) e)
       current (no l) =
           let g : keyCount es ≤ c = omega arith in
           rw (le-ltb c (keyCount es) g) (currentKey-keyed f n (h .long) ∙ rw (le-ltb n 128 (key .unknown g)))
 
-      same : (j : ℕ) → j < 128 → eqb n j ≡ (eqb j c && ltb j (keyCount es))
-      same j l = eq-of-iff (eqb n j) (eqb j c && ltb j (keyCount es)) ((λ q. number (decLt c (keyCount es)) (eqb→eq n j q)), (λ q. back q))
-        where
-          number : Dec (c < keyCount es) → n ≡ j → T (eqb j c && ltb j (keyCount es))
-          number (yes d) e =
-              let a = key .known d in
-              T-and (eqb j c) (ltb j (keyCount es)) (T-of-true (eqb j c) (eq-eqb j c (omega arith))) (T-of-true (ltb j (keyCount es)) (lt-ltb j (keyCount es) (omega arith)))
-          number (no d) e = let a = key .unknown (omega arith) in absurd (omega arith)
+      -- the key finished is key j of the frame where it is key j of the book
+      is-key : (j : ℕ) → j < 128 → Dec (c < keyCount es) → n ≡ j → T (eqb j c && ltb j (keyCount es))
+      is-key j l (yes d) e =
+          let a = key .known d in
+          T-and (eqb j c) (ltb j (keyCount es)) (T-of-true (eqb j c) (eq-eqb j c (omega arith))) (lt→ltb j (keyCount es) (omega arith))
+      is-key j l (no d) e = let a = key .unknown (omega arith) in absurd (omega arith)
 
-          back : T (eqb j c && ltb j (keyCount es)) → T (eqb n j)
-          back q =
-              let e : j ≡ c = eqb→eq j c (T-and-left (eqb j c) (ltb j (keyCount es)) q) in
-              let d : j < keyCount es = ltb→lt j (keyCount es) (T-and-right (eqb j c) (ltb j (keyCount es)) q) in
-              let a = key .known (omega arith) in
-              T-of-true (eqb n j) (eq-eqb n j (omega arith))
+      number : (j : ℕ) → T (eqb j c && ltb j (keyCount es)) → n ≡ j
+      number j b =
+          let e : j ≡ c = eqb→eq j c (T-and-left (eqb j c) (ltb j (keyCount es)) b) in
+          let l : j < keyCount es = ltb→lt j (keyCount es) (T-and-right (eqb j c) (ltb j (keyCount es)) b) in
+          key .known (omega arith) ∙ sym e
+
+      seen : (j : ℕ) → j < 128 → seenIn (keyed n f) j ≡ (o .seen j || (eqb j c && ltb j (keyCount es)))
+      seen j l =
+          let this = eqb j c && ltb j (keyCount es) in
+          let e : eqb n j ≡ this =
+          eq-of-iff (eqb n j) this ((λ b. is-key j l (decLt c (keyCount es)) (eqb→eq n j b)), (λ b. T-of-true (eqb n j) (eq-eqb n j (number j b)))) in
+          seenIn-keyed f n (h .long) j l ∙ ap (λ (b : Bool). b || seenIn f j) e ∙ ap (λ (b : Bool). this || b) (h .seen j l) ∙ or-comm this (o .seen j)

@@ -32,11 +32,11 @@ eq-of-iff true false h = absurd (h .0 tt)
 eq-of-iff false true h = absurd (h .1 tt)
 eq-of-iff false false h = refl
 
--- edges with a property lead to the bits `next` from the bits `bits`
-abbrev pub Reached : Table → (ℕ → Bool) → (ℕ → Type 0) → (ℕ → Bool) → Type 0
-Reached t bits P next =
+-- the bits `next` are those of the states that edges with two properties lead to, from states whose bits are among `bits`
+abbrev pub Reached : Table → (ℕ → Bool) → (ℕ → Type 0) → (ℕ → Type 0) → (ℕ → Bool) → Type 0
+Reached t bits P Q next =
     (j : ℕ) → j < 512 → T (next j)
-    ↔ ((e : ℕ) × (e < edgeCount (t .edges)) × P e × T (bits (stateNumber (t .«edge_rule») (t .«edge_state») e))
+    ↔ ((e : ℕ) × (e < edgeCount (t .edges)) × P e × Q e × T (bits (stateNumber (t .«edge_rule») (t .«edge_state») e))
     × (stateNumber (t .«edge_rule») (t .«edge_next») e ≡ j))
 
 module _ {t : Table} {es : List Entry} (kept : Kept t es) where
@@ -58,14 +58,14 @@ module _ {t : Table} {es : List Entry} (kept : Kept t es) where
 
   -- ---- moved
 
-  -- edges with a property lead from states to the states that edges of the book which pass the test for it lead to
-  pub shows-moved : (bits next : ℕ → Bool) (S : States) (P : ℕ → Type 0) (p : ℕ → Entry → Bool) → ShowsStates bits S
-      → ((e : ℕ) (x : Entry) → EdgeFrom 0 es e x → P e ↔ T (p e x)) → Reached t bits P next → ShowsStates next (moved es p S)
+  -- where a test of the book's edges says the same as the properties, they are the states after a move by the edges that pass it
+  pub shows-moved : (bits next : ℕ → Bool) (S : States) (P Q : ℕ → Type 0) (p : ℕ → Entry → Bool) → ShowsStates bits S
+      → ((e : ℕ) (x : Entry) → EdgeFrom 0 es e x → (P e × Q e) ↔ T (p e x)) → Reached t bits P Q next → ShowsStates next (moved es p S)
   unfolding stateNumber
-  shows-moved bits next S P p shows same h r m l g = eq-of-iff (next (stateBit r m)) (moved es p S r m) (moves, bit)
+  shows-moved bits next S P Q p shows same h r m l g = eq-of-iff (next (stateBit r m)) (moved es p S r m) (moves, bit)
     where
-      from : (e : ℕ) → P e → T (bits (16 * getD (t .«edge_rule») e 0 + getD (t .«edge_state») e 0))
-          → 16 * getD (t .«edge_rule») e 0 + getD (t .«edge_next») e 0 ≡ stateBit r m → EdgeAt kept e → T (moved es p S r m)
+      from : (e : ℕ) → P e × Q e → T (bits (16 * getD (t .«edge_rule») e 0 + getD (t .«edge_state») e 0))
+          → 16 * getD (t .«edge_rule») e 0 + getD (t .«edge_next») e 0 ≡ stateBit r m → EdgeAt es e → T (moved es p S r m)
       from e a b c (edge-at {r = r′} {q = q′} {m = m′} {f} {k} {v} i) =
           let n = numbers-of-edge kept i in
           let lim = kept .edge-limits (member-of-edge i) in
@@ -75,14 +75,15 @@ module _ {t : Table} {es : List Entry} (kept : Kept t es) where
           rw (er, em) at (moved-of-edge es p S i s (same e (edge r′ f q′ k v m′) i .0 a))
 
       moves : T (next (stateBit r m)) → T (moved es p S r m)
-      moves b = let (e, d, a, c, j) = h (stateBit r m) (omega arith) .0 b in from e a c j (edge-of-below kept e (omega (arith, kept .edges-le)))
+      moves b = let (e, d, x, y, c, j) = h (stateBit r m) (omega arith) .0 b in from e (x, y) c j (edge-of-below kept e (omega (arith, kept .edges-le)))
 
       to : MoveTo es p S r m → T (next (stateBit r m))
       to (move-to {e} {q} {f} {k} {t = v} i s a) =
           let n = numbers-of-edge kept i in
           let lim = kept .edge-limits (member-of-edge i) in
+          let p = same e (edge r f q k v m) i .1 a in
           h (stateBit r m) (omega arith) .1
-          (e, omega (arith, kept .edges-le, below-of-edge kept i), same e (edge r f q k v m) i .1 a, rw (n .rule, n .state, shows r q l (lim .state)) s, omega arith)
+          (e, omega (arith, kept .edges-le, below-of-edge kept i), p .0, p .1, rw (n .rule, n .state, shows r q l (lim .state)) s, omega arith)
 
       bit : T (moved es p S r m) → T (next (stateBit r m))
       bit s = to (edge-of-moved es p S r m s)

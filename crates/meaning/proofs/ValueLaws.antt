@@ -52,7 +52,7 @@ module _ {t : Table} {es : List Entry} (kept : Kept t es) where
     added-iff : (e : ℕ) → Added t v f e ↔ T (ltb (o .current) (keyCount es) && fitsEdge es (o .current) w e)
     added-iff e = (fits, added)
       where
-        at : o .current < keyCount es → getD (t .«edge_key») e 0 ≡ currentKey f → T (fitsCode v (getD (t .«edge_kind») e 0)) → EdgeAt kept e
+        at : o .current < keyCount es → getD (t .«edge_key») e 0 ≡ currentKey f → T (fitsCode v (getD (t .«edge_kind») e 0)) → EdgeAt es e
             → T (fitsEdge es (o .current) w e)
         at l k c (edge-at i) =
             fitsEdge-of-edge es (o .current) w i (hasKey-iff kept i (o .current) (omega (arith, keyCount-le kept)) .0 (k ∙ currentKey-of-known h l))
@@ -107,16 +107,17 @@ module _ {t : Table} {es : List Entry} (kept : Kept t es) where
     long = length-valued (lentEdges t) (t .«edge_kind») (t .forms) v f (h .long);
     array = isObject-valued (lentEdges t) (t .«edge_kind») (t .forms) v f (h .long) ∙ h .array;
     states =
-        shows-moved kept (heldIn f) (heldIn (valuedBy t v f)) S Steps (λ (e : ℕ) (x : Entry). ofArray x && asks w x) (h .states) same
-        (λ j l.
-        let law = heldIn-valued-array (lentEdges t) (t .«edge_kind») (t .forms) v f (h .long) (h .array) j l in
-        ((λ b. let (e, d, a, c, g, q) = law .0 b in (e, d, (a, c), g, q)), (λ p. law .1 (p .0, p .1, p .2 .0, p .2 .1, p .3, p .4))));
+        shows-moved kept (heldIn f) (heldIn (valuedBy t v f)) S Fits InArr (λ (e : ℕ) (x : Entry). ofArray x && asks w x) (h .states) same
+        (heldIn-valued-array (lentEdges t) (t .«edge_kind») (t .forms) v f (h .long) (h .array));
   }
     where
-      Steps : ℕ → Type 0
-      Steps e = T (fitsCode v (getD (t .«edge_kind») e 0)) × T (hasForm (t .forms) 2 (getD (t .«edge_rule») e 0))
+      Fits : ℕ → Type 0
+      Fits e = T (fitsCode v (getD (t .«edge_kind») e 0))
 
-      same : (e : ℕ) (x : Entry) → EdgeFrom 0 es e x → Steps e ↔ T (ofArray x && asks w x)
+      InArr : ℕ → Type 0
+      InArr e = T (hasForm (t .forms) 2 (getD (t .«edge_rule») e 0))
+
+      same : (e : ℕ) (x : Entry) → EdgeFrom 0 es e x → (Fits e × InArr e) ↔ T (ofArray x && asks w x)
       same e x i = (
         (λ p. T-and (ofArray x) (asks w x) (arr-iff kept i .0 (p .1)) (rw (fitsCode-asks kept s i) at (p .0))),
         (λ b. (rw (fitsCode-asks kept s i) (T-and-right (ofArray x) (asks w x) b), arr-iff kept i .1 (T-and-left (ofArray x) (asks w x) b))),

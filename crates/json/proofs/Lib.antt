@@ -7,4 +7,6 @@ pub mod Phrases
 pub mod Proper
 pub mod Sound
 pub mod Faults
+pub mod TreeLaws
 pub mod LevelLaws
+pub mod Examples

@@ -61,13 +61,13 @@ unfolding afterMinus afterZero afterInt afterFrac afterE afterExp digitOnly orEx
 move-of-goes (minus-int {b} h) = cond-yes (λ x. x ≡ NM.Go N.Int) (isDigit1-9 b) _ h refl
 move-of-goes minus-zero = refl
 move-of-goes zero-dot = refl
-move-of-goes (zero-e {b} h) = e-elim (λ (x : ℕ). afterZero x ≡ NM.Go N.E) refl refl b h
+move-of-goes (zero-e {b} h) = e-elim (λ (x : ℕ). numberMove N.Zero x ≡ NM.Go N.E) refl refl b h
 move-of-goes (int-digit {b} h) = cond-yes (λ x. x ≡ NM.Go N.Int) (isDigit b) _ h refl
 move-of-goes int-dot = refl
-move-of-goes (int-e {b} h) = e-elim (λ (x : ℕ). afterInt x ≡ NM.Go N.E) refl refl b h
+move-of-goes (int-e {b} h) = e-elim (λ (x : ℕ). numberMove N.Int x ≡ NM.Go N.E) refl refl b h
 move-of-goes (dot-digit {b} h) = cond-yes (λ x. x ≡ NM.Go N.Frac) (isDigit b) _ h refl
 move-of-goes (frac-digit {b} h) = cond-yes (λ x. x ≡ NM.Go N.Frac) (isDigit b) _ h refl
-move-of-goes (frac-e {b} h) = e-elim (λ (x : ℕ). afterFrac x ≡ NM.Go N.E) refl refl b h
+move-of-goes (frac-e {b} h) = e-elim (λ (x : ℕ). numberMove N.Frac x ≡ NM.Go N.E) refl refl b h
 move-of-goes (e-digit {b} h) = cond-yes (λ x. x ≡ NM.Go N.Exp) (isDigit b) _ h refl
 move-of-goes e-plus = refl
 move-of-goes e-minus = refl
@@ -105,17 +105,16 @@ pub record Separates (b : ℕ) : Type 0 where
   pub no-dot : T (not (eqb b 0x2E))
   pub no-e : T (not (isE b))
 
+end-after-zero : (b : ℕ) → Separates b → afterZero b ≡ NM.End
+unfolding afterZero orExp
+end-after-zero b x = cond-no (λ m. m ≡ NM.End) (eqb b 0x2E) _ (x .no-dot) (cond-no (λ m. m ≡ NM.End) (isE b) _ (x .no-e) refl)
+
 -- a number that may end does so before such a byte
 pub end-of-separates : (n : NumberMode) (b : ℕ) → T (mayEnd n) → Separates b → numberMove n b ≡ NM.End
-unfolding afterZero afterInt afterFrac afterExp orExp
+unfolding afterInt afterFrac afterExp orExp
 end-of-separates N.Minus b h x = absurd h
-end-of-separates N.Zero b h x = no-dot-no-e b x
-  where
-    no-dot-no-e : (b : ℕ) → Separates b → afterZero b ≡ NM.End
-    no-dot-no-e b x = cond-no (λ m. m ≡ NM.End) (eqb b 0x2E) _ (x .no-dot) (cond-no (λ m. m ≡ NM.End) (isE b) _ (x .no-e) refl)
-end-of-separates N.Int b h x =
-    cond-no (λ m. m ≡ NM.End) (isDigit b) _ (x .no-digit)
-    (cond-no (λ m. m ≡ NM.End) (eqb b 0x2E) _ (x .no-dot) (cond-no (λ m. m ≡ NM.End) (isE b) _ (x .no-e) refl))
+end-of-separates N.Zero b h x = end-after-zero b x
+end-of-separates N.Int b h x = cond-no (λ m. m ≡ NM.End) (isDigit b) _ (x .no-digit) (end-after-zero b x)
 end-of-separates N.Dot b h x = absurd h
 end-of-separates N.Frac b h x = cond-no (λ m. m ≡ NM.End) (isDigit b) _ (x .no-digit) (cond-no (λ m. m ≡ NM.End) (isE b) _ (x .no-e) refl)
 end-of-separates N.E b h x = absurd h

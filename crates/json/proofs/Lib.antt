@@ -1,3 +1,4 @@
+pub mod MeaningLaws
 pub mod ByteLaws
 pub mod NumberLaws
 pub mod StringLaws

@@ -5,16 +5,15 @@ use mathlib.Core.Logic.{_⊎_, inl, inr}
 use mathlib.Core.Path.{_≡_, sym, ap}
 use Prim.Native.Nat.{ℕ, _<_}
 use lib.Dec.{T, T-not, not-T, eqb, eqb→eq, eqb-refl, ltb, ltb→lt, lt→ltb}
-use Rattle.laws.proofs.TestLaws.{T-and, T-and-left, T-and-right, T-or-elim}
+use Rattle.laws.proofs.TestLaws.{T-and, T-and-left, T-and-right, T-or-elim, T-or-left, T-or-right, T-nor, T-nor-left, T-nor-right, T-of-not-not, T-not-not}
 use Rattle.json.specs.Tree.{Json, Pairs, no-pairs, pairs}
 use Rattle.json.specs.Meaning.{meaning, members}
+use Rattle.json.proofs.MeaningLaws.{fold-snoc}
 use Rattle.table.specs.declared.kind.ValueKind.{ValueKind}
 use Rattle.book.specs.Entry.{Entry, keysOf}
+use Rattle.book.proofs.EntryLaws.{key-eq-of-number-eq}
 use Rattle.runs.specs.Runs.{Among, first, later, KeyTwice, first-again, later-twice}
 use Rattle.runs.specs.Walk.{asks, hasKey, OpenObject, keyCount, numberIn, atOpening, afterKey, fitsEdge, afterValue, judging}
-use Rattle.runs.proofs.AnyLaws.{T-or-left, T-or-right, T-nor, T-nor-left, T-nor-right, T-of-not-not, T-not-not}
-use Rattle.runs.proofs.FoldLaws.{fold-snoc}
-use Rattle.runs.proofs.KeyLaws.{key-eq-of-number-eq}
 use Rattle.runs.proofs.EdgeLaws.{EdgeFrom, anyEdge-of-edge, edge-of-anyEdge}
 
 module _ (es : List Entry) where

@@ -8,11 +8,9 @@ use lib.Dec.{T}
 use lib.ListN.{length}
 use Rattle.laws.specs.Lists.{any, same}
 use Rattle.laws.proofs.TestLaws.{T-of-true, cond-elim, cond-yes}
-use Rattle.laws.proofs.ListLaws.{same-refl, eq-of-same}
+use Rattle.laws.proofs.ListLaws.{same-refl, eq-of-same, member-of-any}
 use Rattle.book.specs.Entry.{Form, Entry, edge, end-state, withKey, keysFrom, keysOf, numberOf}
 use Rattle.table.specs.declared.kind.ValueKind.{ValueKind}
-use Rattle.runs.specs.Runs.{_∈_}
-use Rattle.runs.proofs.AnyLaws.{member-of-any}
 
 -- ---- numberOf
 
@@ -72,7 +70,7 @@ member-keysFrom ks [] i = i
 member-keysFrom ks (edge r f q l t m ∷ es) i = member-keysFrom (withKey ks l) es (member-withKey ks l i)
 member-keysFrom ks (end-state r f q ∷ es) i = member-keysFrom ks es i
 
-key-member-from : (ks : List (List ℕ)) (es : List Entry) {r q m b : ℕ} {f : Form} {l : List ℕ} {t : ValueKind} → edge r f q (b ∷ l) t m ∈ es
+key-member-from : (ks : List (List ℕ)) (es : List Entry) {r q m b : ℕ} {f : Form} {l : List ℕ} {t : ValueKind} → List·Memᴰ (edge r f q (b ∷ l) t m) es
     → List·Memᴰ (b ∷ l) (keysFrom ks es)
 unfolding keysFrom
 key-member-from ks (edge r f q k t m ∷ es) {b} {l} (List·Memᴰ·head e) =
@@ -82,6 +80,6 @@ key-member-from ks (end-state r f q ∷ es) (List·Memᴰ·head e) = let z : _�
 key-member-from ks (end-state r f q ∷ es) (List·Memᴰ·tail i) = key-member-from ks es i
 
 -- the key of an edge is one of the book's keys
-pub key-member : (es : List Entry) {r q m b : ℕ} {f : Form} {l : List ℕ} {t : ValueKind} → edge r f q (b ∷ l) t m ∈ es → List·Memᴰ (b ∷ l) (keysOf es)
+pub key-member : (es : List Entry) {r q m b : ℕ} {f : Form} {l : List ℕ} {t : ValueKind} → List·Memᴰ (edge r f q (b ∷ l) t m) es → List·Memᴰ (b ∷ l) (keysOf es)
 unfolding keysOf
 key-member es i = key-member-from [] es i

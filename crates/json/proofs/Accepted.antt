@@ -1,28 +1,24 @@
 -- The machine accepts every text of the grammar, with its meaning: `accepted-of-text`. By induction on the grammar: from the place where a
 -- phrase begins, the machine comes to the place behind it, the phrase's meaning joined to the innermost open value. Assumes nothing.
-use mathlib.Core.Bool.{Bool, true, false, not, cond}
-use mathlib.Core.List.{List, [], _∷_, _++_}
-use mathlib.Core.Option.{Option, none, some}
-use mathlib.Core.Path.{_≡_, refl, sym, _∙_, ap}
+use mathlib.Core.Bool.{Bool, true, false, not}
+use mathlib.Core.List.{List, [], _∷_}
+use mathlib.Core.Path.{_≡_, refl}
 use Prim.Native.Nat.{ℕ, _≤_}
 use native.Mathlib.Omega.{arith}
-use lib.Dec.{T, eqb, not-T, eqb→eq}
+use lib.Dec.{T, eqb, not-T}
 use borrow.Author.Tests.{ne-eqb, eqb-true}
-use Rattle.laws.proofs.TestLaws.{cond-yes, cond-no, cond-elim, cond-byte, true-of-T}
+use Rattle.laws.proofs.TestLaws.{cond-no, cond-elim, cond-byte, true-of-T, none-neq-some}
 use Rattle.json.specs.Bytes.{within, isBlank, Follow, follow-none, follow}
 use Rattle.json.specs.Numbers.{isDigit, isDigit1-9, isE}
-use Rattle.json.specs.Tree.{Word, null-word, true-word, false-word, Json, Values, Pairs, word, string, number, array, object, no-values, values, no-pairs, pairs}
+use Rattle.json.specs.Tree.{Word, null-word, true-word, false-word, Json, Values, Pairs, string, number}
 use Rattle.json.specs.Meaning.{Meaning, fold, meaning, elements, members}
 use Rattle.json.specs.Grammar.{spelling, Blanks, no-blanks, blanks, Value, is-word, is-string, is-number, is-empty-array, is-array, is-empty-object, is-object, Element, element, Elements, last-element, more-elements, Member, member, Members, last-member, more-members, Text}
 use Rattle.json.specs.Classes.{classOf, isBreak, isStructure}
-use Rattle.json.specs.Lexer.{stringMove, numberMove, mayEnd, letterMove, valueStart, atValue, atFirstElement, atFirstKey, atKey, atColon, afterRoot, afterElement, afterPair, afterValue, atFirst, stepTo, stay, keyStep, textStep, numberStep}
-use Rattle.json.specs.Machine.{Stack, bare, whole, in-array, in-object, topOf, finish, name, Token, State, fault, at, start, withString, withNumber, take, step, run, result, wholeOf, Accepts}
+use Rattle.json.specs.Lexer.{mayEnd, letterMove, valueStart, atValue, atFirstElement, atFirstKey, atKey, atColon, afterRoot, afterElement, afterPair, afterValue, stepTo}
+use Rattle.json.specs.Machine.{Stack, bare, whole, in-array, in-object, topOf, finish, name, Token, fault, at, start, step, run, Accepts}
 use Rattle.json.specs.declared.string.StringMode.{StringMode}
-use Rattle.json.specs.declared.string.StringMode.the-variants as S
-use Rattle.json.specs.declared.string.StringMove.the-variants as SM
 use Rattle.json.specs.declared.number.NumberMode.{NumberMode}
 use Rattle.json.specs.declared.number.NumberMode.the-variants as N
-use Rattle.json.specs.declared.number.NumberMove.the-variants as NM
 use Rattle.json.specs.declared.lexer.Place.{Place}
 use Rattle.json.specs.declared.lexer.Place.the-variants as P
 use Rattle.json.specs.declared.lexer.Mode.the-variants as M
@@ -30,7 +26,7 @@ use Rattle.json.specs.declared.lexer.Top.{Top}
 use Rattle.json.specs.declared.lexer.Top.the-variants as T
 use Rattle.json.specs.declared.lexer.Act.the-variants as A
 use Rattle.json.specs.declared.lexer.Step.{Step}
-use Rattle.json.proofs.ByteLaws.{low-of-within, high-of-within, outside-of-not-within, blank-elim}
+use Rattle.json.proofs.ByteLaws.{low-of-within, high-of-within, blank-elim}
 use Rattle.json.proofs.NumberLaws.{NumberFrom, ends-here, goes-on, Starts, starts-minus, starts-zero, starts-int, Begun, begun, move-of-goes, Separates, end-of-separates, from-of-number}
 use Rattle.json.proofs.StringLaws.{move-of-goes as string-move-of-goes, move-of-ends as string-move-of-ends}
 use Rattle.json.proofs.CharLaws.{Continues, closes, goes, ends, continues-of-chars}
@@ -90,10 +86,6 @@ number-start-step starts-minus = refl
 number-start-step starts-zero = refl
 number-start-step (starts-int {b} h) = int-start b h
 
--- a result that a fault has none of
-pub no-result : {X A : Type 0} {w : A} → none ≡ some w → X
-no-result e = let z : _≡_ {A = ℕ} 0 1 = cc in absurd (omega arith)
-
 module _ (𝕄 : Meaning) where
   open Meaning 𝕄 using (Result, InString, InNumber, InArray, InObject, of-word, string-start, string-char, of-string, number-start, number-byte, of-number, array-start, array-element, of-array, object-start, object-key, object-value, of-object)
 
@@ -104,7 +96,7 @@ module _ (𝕄 : Meaning) where
   fault-runs (b ∷ s) = fault-runs s
 
   pub fault-accepts-none : (s : List ℕ) {w : Result} {X : Type 0} → Accepts 𝕄 fault s w → X
-  fault-accepts-none s e = no-result (rw (fault-runs s) at e)
+  fault-accepts-none s e = none-neq-some (rw (fault-runs s) at e)
 
   -- behind a value, whatever the token before it left
   abbrev pub Behind : Stack 𝕄 → List ℕ → Result → Type 0
@@ -191,7 +183,7 @@ module _ (𝕄 : Meaning) where
   -- what may stand where a value is awaited may stand first in an array
   first-element : (g : Token 𝕄) (a : InArray) (k : Stack 𝕄) (s : List ℕ) {w : Result} → Accepts 𝕄 (at (M.At P.Value) g (in-array a k)) s w → Accepts 𝕄 (at (M.At P.First) g (in-array a k)) s w
   unfolding step atValue atFirstElement valueStart isBlank isDigit1-9 within
-  first-element g a k [] x = no-result x
+  first-element g a k [] x = none-neq-some x
   first-element g a k (b ∷ s) {w} x = go (λ y. first-element g a k s y) (isBlank b) refl (eqb b 0x5D) refl
     where
       go : (Accepts 𝕄 (at (M.At P.Value) g (in-array a k)) s w → Accepts 𝕄 (at (M.At P.First) g (in-array a k)) s w)
@@ -205,7 +197,7 @@ module _ (𝕄 : Meaning) where
   -- what may stand where a key is awaited may stand first in an object
   first-key : (g : Token 𝕄) (o : InObject) (k : Stack 𝕄) (s : List ℕ) {w : Result} → Accepts 𝕄 (at (M.At P.Key) g (in-object o k)) s w → Accepts 𝕄 (at (M.At P.First) g (in-object o k)) s w
   unfolding step atKey atFirstKey isBlank
-  first-key g o k [] x = no-result x
+  first-key g o k [] x = none-neq-some x
   first-key g o k (b ∷ s) {w} x = go (λ y. first-key g o k s y) (isBlank b) refl (eqb b 0x7D) refl
     where
       go : (Accepts 𝕄 (at (M.At P.Key) g (in-object o k)) s w → Accepts 𝕄 (at (M.At P.First) g (in-object o k)) s w)

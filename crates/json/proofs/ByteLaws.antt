@@ -1,7 +1,7 @@
 -- Laws of bytes and rows of bytes. Assumes nothing.
-use mathlib.Core.Bool.{Bool, not, _&&_, _||_}
+use mathlib.Core.Bool.{not, _||_}
 use mathlib.Core.List.{List, [], _∷_, _++_}
-use mathlib.Core.Path.{_≡_, sym, subst}
+use mathlib.Core.Path.{sym, subst}
 use Prim.Native.Nat.{ℕ, _≤_}
 use lib.Dec.{T, eqb, leb, leb→le, le→leb, not-T, eqb→eq}
 use Rattle.laws.proofs.TestLaws.{T-and, T-and-left, T-and-right, T-or-elim}

@@ -2,15 +2,15 @@
 -- numbers of the RFCs. Assumes nothing.
 use mathlib.Core.Bool.{Bool, true, false, not}
 use mathlib.Core.List.{List, [], _∷_}
-use mathlib.Core.Path.{_≡_, refl, sym, _∙_}
+use mathlib.Core.Path.{_≡_, refl}
 use Prim.Native.Nat.{ℕ, _+_, _-_, _*_, _%_, _≤_, _<_}
 use native.Mathlib.Nat.{lt-of-not-le}
 use native.Mathlib.Omega.{arith}
-use lib.Dec.{T, eqb, eqb→eq, T-not}
+use lib.Dec.{T, eqb, T-not}
 use borrow.Author.Tests.{lt-ltb, le-ltb, eqb-true, eqb-false}
 use Rattle.json.specs.Bytes.{within}
 use Rattle.json.specs.Utf8.{isTail, sixMore, Utf8, row-C2-DF, row-E0, row-E1-EC, row-ED, row-EE-EF, row-F0, row-F1-F3, row-F4}
-use Rattle.json.specs.Strings.{Escaped, quotation-mark, reverse-solidus, solidus, backspace, form-feed, line-feed, carriage-return, tab, Hex, hexMore, CodeUnit, code-unit, paired, Char, unescaped, multibyte, escaped, unit, surrogates, Chars, closing-quote, chars}
+use Rattle.json.specs.Strings.{Escaped, quotation-mark, reverse-solidus, solidus, backspace, form-feed, line-feed, carriage-return, tab, hexMore, CodeUnit, code-unit, paired, Char, unescaped, multibyte, escaped, unit, surrogates, Chars, closing-quote, chars}
 use Rattle.json.specs.Lexer.{unescape, hexOf, leadBits, tailBits, hexBits, pairOf, bitsAfter, highAfter, charOf}
 use Rattle.json.specs.declared.string.StringMode.{StringMode}
 use Rattle.json.specs.declared.string.StringMode.the-variants as S

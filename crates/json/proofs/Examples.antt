@@ -3,6 +3,7 @@ use mathlib.Core.List.{List, map, List·Memᴰ}
 use mathlib.Core.Option.{Option, none, some}
 use mathlib.Core.Path.{_≡_, refl, sym, _∙_}
 use Prim.Native.Nat.{ℕ}
+use Rattle.laws.proofs.TestLaws.{none-neq-some}
 use Rattle.laws.proofs.ListLaws.{eq-of-map}
 use Rattle.json.specs.Bytes.{within, isBlank}
 use Rattle.json.specs.Numbers.{isDigit, isDigit1-9, isE}
@@ -13,7 +14,6 @@ use Rattle.json.specs.Classes.{classOf, highClass, isBreak, isStructure}
 use Rattle.json.specs.Lexer.{unescape, escapeMove, hexOf, anyHex, unit1, unitD, low1, low2, only, ranged, leadBits, tailBits, hexBits, pairOf, orExp, afterMinus, afterZero, afterInt, afterFrac, afterE, afterExp, digitOnly, letterMove, valueStart, atValue, atFirstElement, atFirstKey, atKey, atColon, afterRoot, afterElement, afterPair}
 use Rattle.json.specs.Machine.{start, step, run, result, placeFrom}
 use Rattle.json.specs.Examples.{Row, faults, unfinished, tells, rows}
-use Rattle.json.proofs.Accepted.{no-result}
 use Rattle.json.proofs.Faults.{faultAt-of-place, begins-of-no-place}
 use Rattle.json.proofs.TreeLaws.{tree-of-text, text-of-tree, text-unique}
 
@@ -59,7 +59,7 @@ trees = refl
 -- what holds of the machine holds of the grammar
 says-of-found : (x : Row) → placeFound x ≡ placeSaid x → treeFound x ≡ treeSaid x → Says x
 says-of-found (faults p i) e f = faultAt-of-place treeMeaning p i e
-says-of-found (unfinished p) e f = (begins-of-no-place treeMeaning p e, λ v t. no-result (sym f ∙ tree-of-text t))
+says-of-found (unfinished p) e f = (begins-of-no-place treeMeaning p e, λ v t. none-neq-some (sym f ∙ tree-of-text t))
 says-of-found (tells p v) e f = let t = text-of-tree p v f in (t, λ w u. text-unique t u)
 
 -- each row of the table is as it says, for the grammar and for the machine

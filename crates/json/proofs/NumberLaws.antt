@@ -1,10 +1,9 @@
 -- Numbers by the lexer's modes are the grammar's numbers: `number-of-from`, `from-of-number`. Assumes nothing.
-use mathlib.Core.Bool.{Bool, not, cond, _||_}
+use mathlib.Core.Bool.{not}
 use mathlib.Core.List.{List, [], _∷_, _++_}
 use mathlib.Core.Path.{_≡_, refl}
-use Prim.Native.Nat.{ℕ, _≤_}
-use native.Mathlib.Omega.{arith}
-use lib.Dec.{T, eqb, not-T, eqb→eq}
+use Prim.Native.Nat.{ℕ}
+use lib.Dec.{T, eqb, eqb→eq}
 use Rattle.laws.proofs.TestLaws.{T-or-elim, cond-elim, cond-yes, cond-no, cond-byte}
 use Rattle.json.specs.Bytes.{within}
 use Rattle.json.specs.Numbers.{isDigit, isDigit1-9, isE, Digits, no-digits, digits, SomeDigits, some-digits, Minus, no-minus, minus, Int, zero, int, Frac, no-frac, frac, Sign, no-sign, minus-sign, plus-sign, Exp, no-exp, exp, Number, number}
@@ -13,7 +12,6 @@ use Rattle.json.specs.declared.number.NumberMode.{NumberMode}
 use Rattle.json.specs.declared.number.NumberMode.the-variants as N
 use Rattle.json.specs.declared.number.NumberMove.{NumberMove}
 use Rattle.json.specs.declared.number.NumberMove.the-variants as NM
-use Rattle.json.proofs.ByteLaws.{high-of-within}
 
 -- ---- the moves that stay in a number
 

@@ -1,14 +1,13 @@
 -- What the lexer's string modes do, as relations: hexadecimal digits, the moves inside a character, and the bytes that finish one.
 -- `moved` and `move-of-goes`, `move-of-ends` join them to `stringMove`. Assumes nothing.
-use mathlib.Core.Bool.{Bool, true, false, not, cond, _||_}
-use mathlib.Core.List.{List, [], _∷_}
-use mathlib.Core.Path.{_≡_, refl, sym, subst}
+use mathlib.Core.Bool.{Bool, true, false, not, _||_}
+use mathlib.Core.Path.{_≡_, refl}
 use Prim.Native.Nat.{ℕ, _+_, _-_, _≤_, _<_}
 use native.Mathlib.Omega.{arith}
-use lib.Dec.{T, eqb, leb, ltb, eqb→eq, leb→le, ltb→lt, nltb→le, nleb→lt, T-not, not-T}
+use lib.Dec.{T, eqb, leb, ltb, eqb→eq, leb→le, ltb→lt, nltb→le, T-not}
 use borrow.Author.Tests.{lt-ltb, le-ltb, le-leb, lt-leb, eq-eqb, ne-eqb}
 use Rattle.laws.specs.Tab.{every}
-use Rattle.laws.proofs.TestLaws.{T-or-elim, cond-elim, cond-yes, cond-no, cond-byte, true-of-T}
+use Rattle.laws.proofs.TestLaws.{T-or-elim, cond-elim, cond-byte}
 use Rattle.laws.proofs.TabLaws.{T-of-every}
 use Rattle.json.specs.Bytes.{within}
 use Rattle.json.specs.Utf8.{isTail}

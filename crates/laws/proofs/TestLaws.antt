@@ -1,5 +1,6 @@
--- Laws of boolean tests and of `cond`, the choice by a test. Assumes nothing.
-use mathlib.Core.Bool.{Bool, true, false, not, cond, _&&_, _||_, Bool·beq}
+-- Laws of boolean tests and of `cond`, the choice by a test; what no test and no result is. Assumes nothing.
+use mathlib.Core.Bool.{Bool, true, false, not, cond, _&&_, _||_, Bool·beq, true≢false}
+use mathlib.Core.Option.{none, some, Option·none-ne-some}
 use mathlib.Core.Path.{_≡_, refl, subst, sym}
 use Prim.Native.Nat.{ℕ}
 use lib.Dec.{T, eqb}
@@ -13,6 +14,14 @@ true-of-T false h = absurd h
 -- a test that is true holds
 pub T-of-true : (b : Bool) → b ≡ true → T b
 T-of-true b e = subst T (sym e) tt
+
+-- from a test that is both true and false anything follows
+pub true-neq-false : {X : Type 0} → true ≡ false → X
+true-neq-false e = absurd (true≢false e)
+
+-- from a result that is both there and not there anything follows
+pub none-neq-some : {X A : Type 0} {x : A} → none ≡ some x → X
+none-neq-some {x} e = absurd (Option·none-ne-some x e)
 
 -- two tests that are computed to be the same are equal
 pub eq-of-beq : (a b : Bool) → T (Bool·beq a b) → a ≡ b

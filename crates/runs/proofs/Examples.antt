@@ -1,7 +1,7 @@
 -- The examples hold, by computation of what is judged. Assumes nothing.
 use mathlib.Core.Bool.{Bool, true, false, _&&_, Bool·beq}
 use mathlib.Core.List.{List·Memᴰ}
-use mathlib.Core.Path.{_≡_, refl}
+use mathlib.Core.Path.{_≡_}
 use lib.Dec.{T}
 use Rattle.laws.specs.Lists.{same, all, any}
 use Rattle.laws.proofs.TestLaws.{T-and-left, T-and-right, eq-of-beq}

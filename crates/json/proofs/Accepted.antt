@@ -62,15 +62,18 @@ unfolding afterRoot afterElement afterPair
 ends-none T.Bare b = cond-elim (λ (st : Step). st .ends ≡ false) (isBlank b) (λ _. refl) (λ _. refl)
 ends-none T.Array b =
     cond-elim (λ (st : Step). st .ends ≡ false) (isBlank b) (λ _. refl) (λ _.
-    cond-elim (λ (st : Step). st .ends ≡ false) (eqb b 0x2C) (λ _. refl) (λ _. cond-elim (λ (st : Step). st .ends ≡ false) (eqb b 0x5D) (λ _. refl) (λ _. refl)))
+    cond-elim (λ (st : Step). st .ends ≡ false) (eqb b 0x2C) (λ _. refl) (λ _.
+    cond-elim (λ (st : Step). st .ends ≡ false) (eqb b 0x5D) (λ _. refl) (λ _. refl)))
 ends-none T.Object b =
     cond-elim (λ (st : Step). st .ends ≡ false) (isBlank b) (λ _. refl) (λ _.
-    cond-elim (λ (st : Step). st .ends ≡ false) (eqb b 0x2C) (λ _. refl) (λ _. cond-elim (λ (st : Step). st .ends ≡ false) (eqb b 0x7D) (λ _. refl) (λ _. refl)))
+    cond-elim (λ (st : Step). st .ends ≡ false) (eqb b 0x2C) (λ _. refl) (λ _.
+    cond-elim (λ (st : Step). st .ends ≡ false) (eqb b 0x7D) (λ _. refl) (λ _. refl)))
 
 -- ---- the first byte of a number is no blank, and begins a number
 
 no-blank : (b : ℕ) → 0x2D ≤ b → T (not (isBlank b))
-no-blank b h = not-T (isBlank b) (λ g. blank-elim (λ (x : ℕ). 0x2D ≤ x → ⊥) (λ l. omega arith) (λ l. omega arith) (λ l. omega arith) (λ l. omega arith) b g h)
+no-blank b h =
+    not-T (isBlank b) (λ g. blank-elim (λ (x : ℕ). 0x2D ≤ x → ⊥) (λ l. omega arith) (λ l. omega arith) (λ l. omega arith) (λ l. omega arith) b g h)
 
 int-start : (b : ℕ) → T (isDigit1-9 b) → atValue b ≡ stepTo (M.Number N.Int) A.NumberStart
 unfolding atValue valueStart isDigit1-9
@@ -87,7 +90,7 @@ number-start-step starts-zero = refl
 number-start-step (starts-int {b} h) = int-start b h
 
 module _ (𝕄 : Meaning) where
-  open Meaning 𝕄 using (Result, InString, InNumber, InArray, InObject, of-word, string-start, string-char, of-string, number-start, number-byte, of-number, array-start, array-element, of-array, object-start, object-key, object-value, of-object)
+  open Meaning 𝕄 using (Result, InArray, InObject, of-word, string-start, string-char, of-string, number-start, number-byte, of-number, array-start, array-element, object-start, object-key, object-value)
 
   -- a fault is the end
   fault-runs : (s : List ℕ) → run 𝕄 fault s ≡ fault
@@ -118,7 +121,8 @@ module _ (𝕄 : Meaning) where
   blank-stays P.After g (in-array a k) b h = rw (true-of-T (isBlank b) h)
   blank-stays P.After g (in-object o k) b h = rw (true-of-T (isBlank b) h)
 
-  over-blanks : (p : Place) (g : Token 𝕄) (k : Stack 𝕄) {s r : List ℕ} {w : Result} → Blanks s r → Accepts 𝕄 (at (M.At p) g k) r w → Accepts 𝕄 (at (M.At p) g k) s w
+  over-blanks : (p : Place) (g : Token 𝕄) (k : Stack 𝕄) {s r : List ℕ} {w : Result} → Blanks s r → Accepts 𝕄 (at (M.At p) g k) r w
+      → Accepts 𝕄 (at (M.At p) g k) s w
   over-blanks p g k no-blanks x = x
   over-blanks p g k (blanks {b} h c) x = rw (blank-stays p g k b h) (over-blanks p g k c x)
 
@@ -153,7 +157,8 @@ module _ (𝕄 : Meaning) where
   number-ends n g k [] h x = rw (true-of-T (mayEnd n) h) (x g)
   number-ends n g k (b ∷ r) {w} h x = go (behaved (topOf 𝕄 k) b) (x g)
     where
-      go : Behaved b (afterValue (topOf 𝕄 k) b) → Accepts 𝕄 (at (M.At P.After) g (finish 𝕄 (of-number (g .number)) k)) (b ∷ r) w → Accepts 𝕄 (at (M.Number n) g k) (b ∷ r) w
+      go : Behaved b (afterValue (topOf 𝕄 k) b) → Accepts 𝕄 (at (M.At P.After) g (finish 𝕄 (of-number (g .number)) k)) (b ∷ r) w
+          → Accepts 𝕄 (at (M.Number n) g k) (b ∷ r) w
       go (is-fault e) y =
           let z : Accepts 𝕄 fault r w = unfold step in rw (topOf-finish (of-number (g .number)) k, e) at y in
           fault-accepts-none r z
@@ -172,7 +177,8 @@ module _ (𝕄 : Meaning) where
 
   -- ---- words
 
-  word-run : (x : Word) (g : Token 𝕄) (k : Stack 𝕄) {s r : List ℕ} {w : Result} → Follow (spelling x) s r → Behind (finish 𝕄 (of-word x) k) r w → Accepts 𝕄 (at (M.At P.Value) g k) s w
+  word-run : (x : Word) (g : Token 𝕄) (k : Stack 𝕄) {s r : List ℕ} {w : Result} → Follow (spelling x) s r
+      → Behind (finish 𝕄 (of-word x) k) r w → Accepts 𝕄 (at (M.At P.Value) g k) s w
   unfolding spelling step atValue isBlank valueStart isDigit1-9 within letterMove
   word-run null-word g k (follow (follow (follow (follow follow-none)))) x = x g
   word-run true-word g k (follow (follow (follow (follow follow-none)))) x = x g
@@ -181,7 +187,8 @@ module _ (𝕄 : Meaning) where
   -- ---- arrays and objects
 
   -- what may stand where a value is awaited may stand first in an array
-  first-element : (g : Token 𝕄) (a : InArray) (k : Stack 𝕄) (s : List ℕ) {w : Result} → Accepts 𝕄 (at (M.At P.Value) g (in-array a k)) s w → Accepts 𝕄 (at (M.At P.First) g (in-array a k)) s w
+  first-element : (g : Token 𝕄) (a : InArray) (k : Stack 𝕄) (s : List ℕ) {w : Result} → Accepts 𝕄 (at (M.At P.Value) g (in-array a k)) s w
+      → Accepts 𝕄 (at (M.At P.First) g (in-array a k)) s w
   unfolding step atValue atFirstElement valueStart isBlank isDigit1-9 within
   first-element g a k [] x = none-neq-some x
   first-element g a k (b ∷ s) {w} x = go (λ y. first-element g a k s y) (isBlank b) refl (eqb b 0x5D) refl
@@ -195,7 +202,8 @@ module _ (𝕄 : Meaning) where
       go more false e false f = rw (e, f) (rw e at x)
 
   -- what may stand where a key is awaited may stand first in an object
-  first-key : (g : Token 𝕄) (o : InObject) (k : Stack 𝕄) (s : List ℕ) {w : Result} → Accepts 𝕄 (at (M.At P.Key) g (in-object o k)) s w → Accepts 𝕄 (at (M.At P.First) g (in-object o k)) s w
+  first-key : (g : Token 𝕄) (o : InObject) (k : Stack 𝕄) (s : List ℕ) {w : Result} → Accepts 𝕄 (at (M.At P.Key) g (in-object o k)) s w
+      → Accepts 𝕄 (at (M.At P.First) g (in-object o k)) s w
   unfolding step atKey atFirstKey isBlank
   first-key g o k [] x = none-neq-some x
   first-key g o k (b ∷ s) {w} x = go (λ y. first-key g o k s y) (isBlank b) refl (eqb b 0x7D) refl
@@ -211,7 +219,8 @@ module _ (𝕄 : Meaning) where
   mutual
     unfolding step atValue isBlank valueStart isDigit1-9 within atFirstElement atFirstKey atKey atColon afterElement afterPair
 
-    value-run : {s r : List ℕ} {v : Json} {w : Result} → Value s v r → (g : Token 𝕄) (k : Stack 𝕄) → Behind (finish 𝕄 (meaning 𝕄 v) k) r w → Accepts 𝕄 (at (M.At P.Value) g k) s w
+    value-run : {s r : List ℕ} {v : Json} {w : Result} → Value s v r → (g : Token 𝕄) (k : Stack 𝕄) → Behind (finish 𝕄 (meaning 𝕄 v) k) r w
+        → Accepts 𝕄 (at (M.At P.Value) g k) s w
     value-run (is-word {x} f) g k y = word-run x g k f y
     value-run (is-string c) g k y = text-run k _ (continues-of-chars c _ _) y
     value-run (is-number n f) g k y = begun-run (from-of-number n) f g k y
@@ -220,8 +229,10 @@ module _ (𝕄 : Meaning) where
     value-run (is-empty-object c) g k y = over-blanks P.First g (in-object object-start k) c (y g)
     value-run (is-object {s} e) g k y = first-key g object-start k s (members-run e g object-start k y)
 
-    element-run : {s r : List ℕ} {v : Json} {w : Result} → Element s v r → (g : Token 𝕄) (k : Stack 𝕄) → Behind (finish 𝕄 (meaning 𝕄 v) k) r w → Accepts 𝕄 (at (M.At P.Value) g k) s w
-    element-run {v} (element b e c) g k y = over-blanks P.Value g k b (value-run e g k (λ h. over-blanks P.After h (finish 𝕄 (meaning 𝕄 v) k) c (y h)))
+    element-run : {s r : List ℕ} {v : Json} {w : Result} → Element s v r → (g : Token 𝕄) (k : Stack 𝕄)
+        → Behind (finish 𝕄 (meaning 𝕄 v) k) r w → Accepts 𝕄 (at (M.At P.Value) g k) s w
+    element-run {v} (element b e c) g k y =
+        over-blanks P.Value g k b (value-run e g k (λ h. over-blanks P.After h (finish 𝕄 (meaning 𝕄 v) k) c (y h)))
 
     elements-run : {s r : List ℕ} {vs : Values} {w : Result} → Elements s vs r → (g : Token 𝕄) (a : InArray) (k : Stack 𝕄)
         → Behind (in-array (elements 𝕄 vs a) k) r w → Accepts 𝕄 (at (M.At P.Value) g (in-array a k)) s w
@@ -229,15 +240,18 @@ module _ (𝕄 : Meaning) where
     elements-run (more-elements {v} e f) g a k y = element-run e g (in-array a k) (λ h. elements-run f h (array-element a (meaning 𝕄 v)) k y)
 
     member-run : {s r n : List ℕ} {v : Json} {w : Result} → Member s n v r → (g : Token 𝕄) (o : InObject) (k : Stack 𝕄)
-        → Behind (in-object (object-value (object-key o (fold string-char string-start n)) (meaning 𝕄 v)) k) r w → Accepts 𝕄 (at (M.At P.Key) g (in-object o k)) s w
+        → Behind (in-object (object-value (object-key o (fold string-char string-start n)) (meaning 𝕄 v)) k) r w
+        → Accepts 𝕄 (at (M.At P.Key) g (in-object o k)) s w
     member-run (member {k = n} b c d e) g o k y =
         over-blanks P.Key g (in-object o k) b (key-run (in-object o k) _ (continues-of-chars c _ _)
-        (λ h. over-blanks P.Colon h (in-object (object-key o (fold string-char string-start n)) k) d (element-run e h (in-object (object-key o (fold string-char string-start n)) k) y)))
+        (λ h. over-blanks P.Colon h (in-object (object-key o (fold string-char string-start n)) k) d
+        (element-run e h (in-object (object-key o (fold string-char string-start n)) k) y)))
 
     members-run : {s r : List ℕ} {ps : Pairs} {w : Result} → Members s ps r → (g : Token 𝕄) (o : InObject) (k : Stack 𝕄)
         → Behind (in-object (members 𝕄 ps o) k) r w → Accepts 𝕄 (at (M.At P.Key) g (in-object o k)) s w
     members-run (last-member e) g o k y = member-run e g o k y
-    members-run (more-members {k = n} {v} e f) g o k y = member-run e g o k (λ h. members-run f h (object-value (object-key o (fold string-char string-start n)) (meaning 𝕄 v)) k y)
+    members-run (more-members {k = n} {v} e f) g o k y =
+        member-run e g o k (λ h. members-run f h (object-value (object-key o (fold string-char string-start n)) (meaning 𝕄 v)) k y)
 
   -- the machine accepts each text, with its meaning
   pub accepted-of-text : {s : List ℕ} {v : Json} → Text s v → Accepts 𝕄 (start 𝕄) s (meaning 𝕄 v)

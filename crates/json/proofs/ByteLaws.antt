@@ -36,7 +36,8 @@ pub blank-elim : (P : ℕ → Type 0) → P 0x20 → P 0x09 → P 0x0A → P 0x0
 unfolding isBlank
 blank-elim P p q r s b =
     T-or-elim (eqb b 0x20 || eqb b 0x09 || eqb b 0x0A) (eqb b 0x0D)
-    (T-or-elim (eqb b 0x20 || eqb b 0x09) (eqb b 0x0A) (T-or-elim (eqb b 0x20) (eqb b 0x09) (at-byte P b 0x20 p) (at-byte P b 0x09 q)) (at-byte P b 0x0A r))
+    (T-or-elim (eqb b 0x20 || eqb b 0x09) (eqb b 0x0A)
+    (T-or-elim (eqb b 0x20) (eqb b 0x09) (at-byte P b 0x20 p) (at-byte P b 0x09 q)) (at-byte P b 0x0A r))
     (at-byte P b 0x0D s)
 
 -- ---- Follow

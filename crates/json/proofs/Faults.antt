@@ -126,7 +126,7 @@ module _ (r : List ℕ) where
   complete-string S.SecondF4 = more {b = 0x80} (second-F4 tt) from-tail2
 
 module _ (𝕄 : Meaning) where
-  open Meaning 𝕄 using (Result, InString, InObject, of-word, string-char, of-string, number-byte, of-number, array-element, of-array, object-key, object-value, of-object)
+  open Meaning 𝕄 using (Result, InObject, of-word, string-char, of-string, number-byte, of-number, array-element, of-array, object-key, object-value, of-object)
 
   -- ---- every open value can be closed
 
@@ -221,7 +221,8 @@ module _ (𝕄 : Meaning) where
     unfolding FromMode
     hope-text m k = go (complete-string (closing k) m (g .bits) (g .high))
       where
-        ended : {s cs : List ℕ} → Continues m (g .bits) (g .high) s cs (closing k) → Closes (finish 𝕄 (of-string (fold string-char (g .string) cs)) k) (closing k) → Hope (at (M.Text m) g k)
+        ended : {s cs : List ℕ} → Continues m (g .bits) (g .high) s cs (closing k)
+            → Closes (finish 𝕄 (of-string (fold string-char (g .string) cs)) k) (closing k) → Hope (at (M.Text m) g k)
         ended {s} c (closes-with w x) = hope s w (text-run 𝕄 k g c x)
 
         go : CompletedString m (g .bits) (g .high) (closing k) → Hope (at (M.Text m) g k)
@@ -230,7 +231,8 @@ module _ (𝕄 : Meaning) where
     hope-number : (n : NumberMode) (k : Stack 𝕄) → Hope (at (M.Number n) g k)
     hope-number n k = go (complete-number n)
       where
-        ended : {ds : List ℕ} → NumberFrom n ds → Closes (finish 𝕄 (of-number (fold number-byte (g .number) ds)) k) (closing k) → Hope (at (M.Number n) g k)
+        ended : {ds : List ℕ} → NumberFrom n ds → Closes (finish 𝕄 (of-number (fold number-byte (g .number) ds)) k) (closing k)
+            → Hope (at (M.Number n) g k)
         ended {ds} d (closes-with w x) = hope (ds ++ closing k) w (number-run 𝕄 k g d (follow-append ds (closing k)) x)
 
         go : Completed n → Hope (at (M.Number n) g k)

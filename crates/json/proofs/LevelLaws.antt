@@ -263,7 +263,8 @@ module _ (𝕄 : Meaning) where
     after-kept : (k : Stack 𝕄) (b : ℕ) → Kept (outside (depth 𝕄 k)) b (take 𝕄 (afterValue (topOf 𝕄 k) b) 0 b g g k)
     unfolding afterRoot afterElement afterPair scanOf scanAt scanByte isOpening isClosing
     after-kept bare b = cond-elim (λ st. Kept (outside 0) b (take 𝕄 st 0 b g g bare)) (isBlank b) (λ h _. blank-outside 0 b h) (λ _. true-neq-false)
-    after-kept (whole w) b = cond-elim (λ st. Kept (outside 0) b (take 𝕄 st 0 b g g (whole w))) (isBlank b) (λ h _. blank-outside 0 b h) (λ _. true-neq-false)
+    after-kept (whole w) b =
+        cond-elim (λ st. Kept (outside 0) b (take 𝕄 st 0 b g g (whole w))) (isBlank b) (λ h _. blank-outside 0 b h) (λ _. true-neq-false)
     after-kept (in-array a k) b =
         let Q : ℕ → Step → Type 0 = λ b st. Kept (outside (suc (depth 𝕄 k))) b (take 𝕄 st 0 b g g (in-array a k)) in
         cond-elim (Q b) (isBlank b) (λ h _. blank-outside (suc (depth 𝕄 k)) b h) (λ _.
@@ -324,12 +325,14 @@ module _ (𝕄 : Meaning) where
         let x = after-kept (finish 𝕄 v k) b in
         (rw (topOf-finish 𝕄 v k, ends-none (topOf 𝕄 k) b, depth-finish v k) at x) f
 
-    word-kept : (w : Word) (i : ℕ) (k : Stack 𝕄) (b : ℕ) → Kept (outside (depth 𝕄 k)) b (take 𝕄 (wordStep (letterMove (spelling (wordOf w)) i b) w i) 0 b g g k)
+    word-kept : (w : Word) (i : ℕ) (k : Stack 𝕄) (b : ℕ)
+        → Kept (outside (depth 𝕄 k)) b (take 𝕄 (wordStep (letterMove (spelling (wordOf w)) i b) w i) 0 b g g k)
     unfolding letterMove scanOf scanAt
     word-kept w i k b =
         let Q : WordMove → Type 0 = λ m. Kept (outside (depth 𝕄 k)) b (take 𝕄 (wordStep m w i) 0 b g g k) in
         cond-elim Q (ltb i (length l)) (λ h. cond-elim Q (eqb b (getD l i 0))
-        (λ e. cond-elim Q (ltb (i + 1) (length l)) (λ _ _. letter h e) (λ _ _. letter h e ∙ ap outside (sym (depth-finish _ k)))) (λ _. true-neq-false)) (λ _. true-neq-false)
+        (λ e. cond-elim Q (ltb (i + 1) (length l)) (λ _ _. letter h e) (λ _ _. letter h e ∙ ap outside (sym (depth-finish _ k))))
+        (λ _. true-neq-false)) (λ _. true-neq-false)
       where
         l : List ℕ
         l = spelling (wordOf w)
@@ -357,7 +360,8 @@ module _ (𝕄 : Meaning) where
   scan-run [] q h e f = refl
   scan-run (b ∷ p) q h e f = go (isFault 𝕄 (step 𝕄 q b)) refl (scan-run p (step 𝕄 q b) (proper-step 𝕄 q b h))
     where
-      go : (v : Bool) → isFault 𝕄 (step 𝕄 q b) ≡ v → (isFault 𝕄 (step 𝕄 q b) ≡ false → isFault 𝕄 (run 𝕄 (step 𝕄 q b) p) ≡ false → scan (scanOf (step 𝕄 q b)) p ≡ scanOf (run 𝕄 (step 𝕄 q b) p))
+      go : (v : Bool) → isFault 𝕄 (step 𝕄 q b) ≡ v
+          → (isFault 𝕄 (step 𝕄 q b) ≡ false → isFault 𝕄 (run 𝕄 (step 𝕄 q b) p) ≡ false → scan (scanOf (step 𝕄 q b)) p ≡ scanOf (run 𝕄 (step 𝕄 q b) p))
           → scan (scanByte (scanOf q) b) p ≡ scanOf (run 𝕄 (step 𝕄 q b) p)
       go true v ih = true-neq-false (sym (fault-stays p (step 𝕄 q b) v) ∙ f)
       go false v ih = rw (step-kept q b h e v) (ih v f)

@@ -84,7 +84,8 @@ or-exp-moved n b h g = cond-elim (Moved n b) (isE b) (λ e. moved-go (g e)) (λ 
 
 pub moved : (n : NumberMode) (b : ℕ) → Moved n b (numberMove n b)
 unfolding afterMinus afterZero afterInt afterFrac afterE afterExp digitOnly
-moved N.Minus b = cond-elim (Moved _ b) (isDigit1-9 b) (λ h. moved-go (minus-int h)) (λ _. cond-byte (Moved N.Minus) b 0x30 (moved-go minus-zero) moved-fault)
+moved N.Minus b =
+    cond-elim (Moved _ b) (isDigit1-9 b) (λ h. moved-go (minus-int h)) (λ _. cond-byte (Moved N.Minus) b 0x30 (moved-go minus-zero) moved-fault)
 moved N.Zero b = cond-byte (Moved N.Zero) b 0x2E (moved-go zero-dot) (or-exp-moved N.Zero b tt zero-e)
 moved N.Int b =
     cond-elim (Moved _ b) (isDigit b) (λ h. moved-go (int-digit h)) (λ _.

@@ -45,7 +45,7 @@ drop-all zero (b ∷ l) h = absurd (omega arith)
 drop-all (suc n) (b ∷ l) h = drop-all n l (omega arith)
 
 module _ (𝕄 : Meaning) where
-  open Meaning 𝕄 using (Result, InString, InNumber, InArray, InObject, of-word, string-start, string-char, of-string, number-start, number-byte, of-number, array-start, array-element, of-array, object-start, object-key, object-value, of-object)
+  open Meaning 𝕄 using (Result, InArray, InObject, of-word, string-start, string-char, of-string, number-start, number-byte, of-number, array-start, array-element, of-array, object-start, object-key, object-value, of-object)
 
   -- behind a value that has joined the stack: the bytes finish the open values, and the whole value is the last
   data After : Stack 𝕄 → List ℕ → Result → Type 0 where
@@ -87,37 +87,48 @@ module _ (𝕄 : Meaning) where
 
   -- ---- phrases one byte longer
 
-  whole-blank : {g : Token 𝕄} {v : Result} {b : ℕ} {s : List ℕ} {w : Result} → T (isBlank b) → Rest (at (M.At P.After) g (whole v)) s w → After (whole v) (b ∷ s) w
+  whole-blank : {g : Token 𝕄} {v : Result} {b : ℕ} {s : List ℕ} {w : Result} → T (isBlank b) → Rest (at (M.At P.After) g (whole v)) s w
+      → After (whole v) (b ∷ s) w
   whole-blank h (rest-after (after-whole e)) = after-whole (blank-ending h e)
 
-  element-blank : {g : Token 𝕄} {a : InArray} {k : Stack 𝕄} {b : ℕ} {s : List ℕ} {w : Result} → T (isBlank b) → Rest (at (M.At P.After) g (in-array a k)) s w → After (in-array a k) (b ∷ s) w
+  element-blank : {g : Token 𝕄} {a : InArray} {k : Stack 𝕄} {b : ℕ} {s : List ℕ} {w : Result} → T (isBlank b)
+      → Rest (at (M.At P.After) g (in-array a k)) s w → After (in-array a k) (b ∷ s) w
   element-blank h (rest-after (after-element e x)) = after-element (blank-element h e) x
 
-  comma-after : {a : InArray} {k : Stack 𝕄} {s r : List ℕ} {v : Json} {w : Result} → AtValue s v r → After (in-array (array-element a (meaning 𝕄 v)) k) r w → After (in-array a k) (0x2C ∷ s) w
+  comma-after : {a : InArray} {k : Stack 𝕄} {s r : List ℕ} {v : Json} {w : Result} → AtValue s v r
+      → After (in-array (array-element a (meaning 𝕄 v)) k) r w → After (in-array a k) (0x2C ∷ s) w
   comma-after e (after-element f x) = after-element (comma-element e f) x
 
-  element-comma : {g : Token 𝕄} {a : InArray} {k : Stack 𝕄} {s : List ℕ} {w : Result} → Rest (at (M.At P.Value) g (in-array a k)) s w → After (in-array a k) (0x2C ∷ s) w
+  element-comma : {g : Token 𝕄} {a : InArray} {k : Stack 𝕄} {s : List ℕ} {w : Result} → Rest (at (M.At P.Value) g (in-array a k)) s w
+      → After (in-array a k) (0x2C ∷ s) w
   element-comma (rest-value e x) = comma-after e x
 
-  element-close : {g : Token 𝕄} (a : InArray) (k : Stack 𝕄) {s : List ℕ} {w : Result} → Rest (at (M.At P.After) g (finish 𝕄 (of-array a) k)) s w → After (in-array a k) (0x5D ∷ s) w
+  element-close : {g : Token 𝕄} (a : InArray) (k : Stack 𝕄) {s : List ℕ} {w : Result}
+      → Rest (at (M.At P.After) g (finish 𝕄 (of-array a) k)) s w → After (in-array a k) (0x5D ∷ s) w
   element-close a k (rest-after x) = after-element close-array x
 
-  pair-blank : {g : Token 𝕄} {o : InObject} {k : Stack 𝕄} {b : ℕ} {s : List ℕ} {w : Result} → T (isBlank b) → Rest (at (M.At P.After) g (in-object o k)) s w → After (in-object o k) (b ∷ s) w
+  pair-blank : {g : Token 𝕄} {o : InObject} {k : Stack 𝕄} {b : ℕ} {s : List ℕ} {w : Result} → T (isBlank b)
+      → Rest (at (M.At P.After) g (in-object o k)) s w → After (in-object o k) (b ∷ s) w
   pair-blank h (rest-after (after-pair e x)) = after-pair (blank-pair h e) x
 
-  pair-comma : {g : Token 𝕄} {o : InObject} {k : Stack 𝕄} {s : List ℕ} {w : Result} → Rest (at (M.At P.Key) g (in-object o k)) s w → After (in-object o k) (0x2C ∷ s) w
+  pair-comma : {g : Token 𝕄} {o : InObject} {k : Stack 𝕄} {s : List ℕ} {w : Result} → Rest (at (M.At P.Key) g (in-object o k)) s w
+      → After (in-object o k) (0x2C ∷ s) w
   pair-comma (rest-key e x) = after-pair (comma-pair e) x
 
-  pair-close : {g : Token 𝕄} (o : InObject) (k : Stack 𝕄) {s : List ℕ} {w : Result} → Rest (at (M.At P.After) g (finish 𝕄 (of-object o) k)) s w → After (in-object o k) (0x7D ∷ s) w
+  pair-close : {g : Token 𝕄} (o : InObject) (k : Stack 𝕄) {s : List ℕ} {w : Result}
+      → Rest (at (M.At P.After) g (finish 𝕄 (of-object o) k)) s w → After (in-object o k) (0x7D ∷ s) w
   pair-close o k (rest-after x) = after-pair close-object x
 
-  colon-blank : {g : Token 𝕄} {o : InObject} {k : Stack 𝕄} {b : ℕ} {s : List ℕ} {w : Result} → T (isBlank b) → Rest (at (M.At P.Colon) g (in-object o k)) s w → Rest (at (M.At P.Colon) g (in-object o k)) (b ∷ s) w
+  colon-blank : {g : Token 𝕄} {o : InObject} {k : Stack 𝕄} {b : ℕ} {s : List ℕ} {w : Result} → T (isBlank b)
+      → Rest (at (M.At P.Colon) g (in-object o k)) s w → Rest (at (M.At P.Colon) g (in-object o k)) (b ∷ s) w
   colon-blank h (rest-colon e x) = rest-colon (blank-colon h e) x
 
-  colon-after : {g : Token 𝕄} {o : InObject} {k : Stack 𝕄} {s r : List ℕ} {v : Json} {w : Result} → AtValue s v r → After (in-object (object-value o (meaning 𝕄 v)) k) r w → Rest (at (M.At P.Colon) g (in-object o k)) (0x3A ∷ s) w
+  colon-after : {g : Token 𝕄} {o : InObject} {k : Stack 𝕄} {s r : List ℕ} {v : Json} {w : Result} → AtValue s v r
+      → After (in-object (object-value o (meaning 𝕄 v)) k) r w → Rest (at (M.At P.Colon) g (in-object o k)) (0x3A ∷ s) w
   colon-after e (after-pair f x) = rest-colon (here-colon e f) x
 
-  colon-value : {g : Token 𝕄} {o : InObject} {k : Stack 𝕄} {s : List ℕ} {w : Result} → Rest (at (M.At P.Value) g (in-object o k)) s w → Rest (at (M.At P.Colon) g (in-object o k)) (0x3A ∷ s) w
+  colon-value : {g : Token 𝕄} {o : InObject} {k : Stack 𝕄} {s : List ℕ} {w : Result} → Rest (at (M.At P.Value) g (in-object o k)) s w
+      → Rest (at (M.At P.Colon) g (in-object o k)) (0x3A ∷ s) w
   colon-value (rest-value e x) = colon-after e x
 
   -- ---- a step back, place by place
@@ -128,7 +139,8 @@ module _ (𝕄 : Meaning) where
 
   -- a key goes on with these bytes, behind its opening quotation mark
   data Quoted (o : InObject) (k : Stack 𝕄) (s : List ℕ) (w : Result) : Type 0 where
-    quoted : {n t r : List ℕ} {v : Json} {ps : Pairs} → Chars s n t → AtColon t v ps r → After (finish 𝕄 (of-object (members 𝕄 (pairs n v ps) o)) k) r w → Quoted o k s w
+    quoted : {n t r : List ℕ} {v : Json} {ps : Pairs} → Chars s n t → AtColon t v ps r
+        → After (finish 𝕄 (of-object (members 𝕄 (pairs n v ps) o)) k) r w → Quoted o k s w
 
   module _ (g : Token 𝕄) (s : List ℕ) (w : Result) where
     text-held : (k : Stack 𝕄) → Rest (at (M.Text S.Char) (withString 𝕄 g string-start) k) s w → Held k (0x22 ∷ s) w
@@ -144,7 +156,8 @@ module _ (𝕄 : Meaning) where
         → Rest (at (M.Number n) (withNumber 𝕄 g (number-byte number-start b)) k) s w → Held k (b ∷ s) w
     number-held b n k z (rest-number d e a) = held (from-number (number-of-from (begun z d)) (follow e)) a
 
-    word-held : (b : ℕ) (x : LexWord) (k : Stack 𝕄) → spelling (wordOf x) ≡ b ∷ drop 1 (spelling (wordOf x)) → Rest (at (M.Word x 1) g k) s w → Held k (b ∷ s) w
+    word-held : (b : ℕ) (x : LexWord) (k : Stack 𝕄) → spelling (wordOf x) ≡ b ∷ drop 1 (spelling (wordOf x))
+        → Rest (at (M.Word x 1) g k) s w → Held k (b ∷ s) w
     word-held b x k e (rest-word {r} f a) = held (from-word {x = wordOf x} (subst (λ (l : List ℕ). Follow l (b ∷ s) r) (sym e) (follow f))) a
 
     start-held : (b : ℕ) (k : Stack 𝕄) → Rest (take 𝕄 (valueStart b) 0 b g g k) s w → Held k (b ∷ s) w
@@ -163,7 +176,9 @@ module _ (𝕄 : Meaning) where
 
     value-back : (b : ℕ) (k : Stack 𝕄) → Rest (take 𝕄 (atValue b) 0 b g g k) s w → Rest (at (M.At P.Value) g k) (b ∷ s) w
     unfolding atValue
-    value-back b k = cond-elim (λ st. Rest (take 𝕄 st 0 b g g k) s w → Rest (at (M.At P.Value) g k) (b ∷ s) w) (isBlank b) on-blank (λ _ x. begins (start-held b k x))
+    value-back b k =
+        cond-elim (λ st. Rest (take 𝕄 st 0 b g g k) s w → Rest (at (M.At P.Value) g k) (b ∷ s) w) (isBlank b) on-blank
+        (λ _ x. begins (start-held b k x))
       where
         on-blank : T (isBlank b) → Rest (at (M.At P.Value) g k) s w → Rest (at (M.At P.Value) g k) (b ∷ s) w
         on-blank h (rest-value e a) = rest-value (blank-value h e) a
@@ -171,7 +186,8 @@ module _ (𝕄 : Meaning) where
         begins : Held k (b ∷ s) w → Rest (at (M.At P.Value) g k) (b ∷ s) w
         begins (held e a) = rest-value (here-value e) a
 
-    first-element-back : (b : ℕ) (a : InArray) (k : Stack 𝕄) → Rest (take 𝕄 (atFirstElement b) 0 b g g (in-array a k)) s w → Rest (at (M.At P.First) g (in-array a k)) (b ∷ s) w
+    first-element-back : (b : ℕ) (a : InArray) (k : Stack 𝕄) → Rest (take 𝕄 (atFirstElement b) 0 b g g (in-array a k)) s w
+        → Rest (at (M.At P.First) g (in-array a k)) (b ∷ s) w
     unfolding atFirstElement
     first-element-back b a k =
         let P : ℕ → Step → Type 0 = λ b st. Rest (take 𝕄 st 0 b g g (in-array a k)) s w → Rest (at (M.At P.First) g (in-array a k)) (b ∷ s) w in
@@ -190,7 +206,8 @@ module _ (𝕄 : Meaning) where
         → Rest (at (M.Key S.Char) (withString 𝕄 g string-start) (in-object o k)) s w → Quoted o k s w
     quoted-back o k (rest-in-key c e x) = quoted (chars-of-continues c) e x
 
-    first-key-back : (b : ℕ) (o : InObject) (k : Stack 𝕄) → Rest (take 𝕄 (atFirstKey b) 0 b g g (in-object o k)) s w → Rest (at (M.At P.First) g (in-object o k)) (b ∷ s) w
+    first-key-back : (b : ℕ) (o : InObject) (k : Stack 𝕄) → Rest (take 𝕄 (atFirstKey b) 0 b g g (in-object o k)) s w
+        → Rest (at (M.At P.First) g (in-object o k)) (b ∷ s) w
     unfolding atFirstKey
     first-key-back b o k =
         let P : ℕ → Step → Type 0 = λ b st. Rest (take 𝕄 st 0 b g g (in-object o k)) s w → Rest (at (M.At P.First) g (in-object o k)) (b ∷ s) w in
@@ -224,7 +241,8 @@ module _ (𝕄 : Meaning) where
         on-quote : {k : Stack 𝕄} → Rest (at (M.Key S.Char) (withString 𝕄 g string-start) k) s w → Rest (at (M.At P.Key) g k) (0x22 ∷ s) w
         on-quote (rest-in-key c e x) = rest-key (quote-key (chars-of-continues c) e) x
 
-    colon-back : (b : ℕ) (o : InObject) (k : Stack 𝕄) → Rest (take 𝕄 (atColon b) 0 b g g (in-object o k)) s w → Rest (at (M.At P.Colon) g (in-object o k)) (b ∷ s) w
+    colon-back : (b : ℕ) (o : InObject) (k : Stack 𝕄) → Rest (take 𝕄 (atColon b) 0 b g g (in-object o k)) s w
+        → Rest (at (M.At P.Colon) g (in-object o k)) (b ∷ s) w
     unfolding atColon
     colon-back b o k =
         let P : ℕ → Step → Type 0 = λ b st. Rest (take 𝕄 st 0 b g g (in-object o k)) s w → Rest (at (M.At P.Colon) g (in-object o k)) (b ∷ s) w in
@@ -236,7 +254,8 @@ module _ (𝕄 : Meaning) where
       where
         on-blank : Rest (at (M.At P.After) g bare) s w → After bare (b ∷ s) w
         on-blank (rest-after x) = no-after x
-    after-back b (whole v) = cond-elim (λ st. Rest (take 𝕄 st 0 b g g (whole v)) s w → After (whole v) (b ∷ s) w) (isBlank b) whole-blank (λ _. no-rest)
+    after-back b (whole v) =
+        cond-elim (λ st. Rest (take 𝕄 st 0 b g g (whole v)) s w → After (whole v) (b ∷ s) w) (isBlank b) whole-blank (λ _. no-rest)
     after-back b (in-array a k) =
         let P : ℕ → Step → Type 0 = λ b st. Rest (take 𝕄 st 0 b g g (in-array a k)) s w → After (in-array a k) (b ∷ s) w in
         cond-elim (P b) (isBlank b) element-blank (λ _. cond-byte P b 0x2C element-comma (cond-byte P b 0x5D (element-close a k) no-rest))
@@ -265,7 +284,8 @@ module _ (𝕄 : Meaning) where
     text-back k (moved-char z) (rest-text c x) = rest-text (ends z c) x
 
     in-key-back : {m : StringMode} {b : ℕ} {y : StringMove} (o : InObject) (k : Stack 𝕄) → StringMoved m b y
-        → Rest (take 𝕄 (keyStep y) (charIn 𝕄 (M.Key m) g b) b g (gather 𝕄 (M.Key m) g b) (in-object o k)) s w → Rest (at (M.Key m) g (in-object o k)) (b ∷ s) w
+        → Rest (take 𝕄 (keyStep y) (charIn 𝕄 (M.Key m) g b) b g (gather 𝕄 (M.Key m) g b) (in-object o k)) s w
+        → Rest (at (M.Key m) g (in-object o k)) (b ∷ s) w
     in-key-back o k string-fault x = no-rest x
     in-key-back o k moved-close (rest-colon e x) = rest-in-key closes e x
     in-key-back o k (string-go z) (rest-in-key c e x) = rest-in-key (goes z c) e x
@@ -285,7 +305,8 @@ module _ (𝕄 : Meaning) where
     word-back b y i k =
         let Q : WordMove → Type 0 = λ m. Rest (take 𝕄 (wordStep m y i) 0 b g g k) s w → Rest (at (M.Word y i) g k) (b ∷ s) w in
         cond-elim Q (ltb i (length l)) (λ h. cond-elim Q (eqb b (getD l i 0))
-        (λ e. cond-elim Q (ltb (i + 1) (length l)) (λ _. on-letter (letters h e)) (λ n. on-last (letters h e ∙ ap (λ (t : List ℕ). b ∷ t) (none-left n)))) (λ _. no-rest)) (λ _. no-rest)
+        (λ e. cond-elim Q (ltb (i + 1) (length l)) (λ _. on-letter (letters h e))
+        (λ n. on-last (letters h e ∙ ap (λ (t : List ℕ). b ∷ t) (none-left n)))) (λ _. no-rest)) (λ _. no-rest)
       where
         l : List ℕ
         l = spelling (wordOf y)

@@ -39,7 +39,14 @@ value-of-hex (hex-lower {b} h) =
     let lo = low-of-within 0x61 0x66 b h in
     let hi = high-of-within 0x61 0x66 b h in
     let e : b - 0x57 ≡ b - 0x61 + 10 = omega arith in
-    simp (le-ltb b 0x30 (omega arith), lt-leb b 0x39 (omega arith), le-ltb b 0x41 (omega arith), lt-leb b 0x46 (omega arith), le-ltb b 0x61 lo, le-leb b 0x66 hi) e
+    simp (
+      le-ltb b 0x30 (omega arith),
+      lt-leb b 0x39 (omega arith),
+      le-ltb b 0x41 (omega arith),
+      lt-leb b 0x46 (omega arith),
+      le-ltb b 0x61 lo,
+      le-leb b 0x66 hi,
+    ) e
 
 pub lt-of-hex : {b w : ℕ} → Hex b w → w < 16
 lt-of-hex (hex-digit {b} h) = let hi = high-of-within 0x30 0x39 b h in omega arith
@@ -263,7 +270,8 @@ lt-of-unescaped : (b : ℕ) → T (isUnescaped b) → b < 128
 unfolding isUnescaped
 lt-of-unescaped b =
     T-or-elim (within 0x20 0x21 b || within 0x23 0x5B b) (within 0x5D 0x7F b)
-    (T-or-elim (within 0x20 0x21 b) (within 0x23 0x5B b) (λ h. omega (arith, high-of-within 0x20 0x21 b h)) (λ h. omega (arith, high-of-within 0x23 0x5B b h)))
+    (T-or-elim (within 0x20 0x21 b) (within 0x23 0x5B b)
+    (λ h. omega (arith, high-of-within 0x20 0x21 b h)) (λ h. omega (arith, high-of-within 0x23 0x5B b h)))
     (λ h. omega (arith, high-of-within 0x5D 0x7F b h))
 
 -- computed for each byte below 80: unescaped bytes are characters

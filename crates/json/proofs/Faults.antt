@@ -191,31 +191,26 @@ module _ (𝕄 : Meaning) where
     hope-by : (q : State 𝕄) (b : ℕ) → Hope (step 𝕄 q b) → Hope q
     hope-by q b (hope s w x) = hope (b ∷ s) w x
 
+    -- behind a finished value
+    hope-behind : (k : Stack 𝕄) (v : Result) → Hope (at (M.At P.After) g (finish 𝕄 v k))
+    hope-behind k v = go (close-all k v)
+      where
+        go : Closes (finish 𝕄 v k) (closing k) → Hope (at (M.At P.After) g (finish 𝕄 v k))
+        go (closes-with w x) = hope (closing k) w (x g)
+
     hope-first : (k : Stack 𝕄) → Opened 𝕄 k → Hope (at (M.At P.First) g k)
     unfolding step atFirstElement atFirstKey isBlank
     hope-first bare h = absurd h
     hope-first (whole w) h = absurd h
-    hope-first (in-array a k) h = go (close-all k (of-array a))
-      where
-        go : Closes (finish 𝕄 (of-array a) k) (closing k) → Hope (at (M.At P.First) g (in-array a k))
-        go (closes-with w x) = hope (0x5D ∷ closing k) w (x g)
-    hope-first (in-object o k) h = go (close-all k (of-object o))
-      where
-        go : Closes (finish 𝕄 (of-object o) k) (closing k) → Hope (at (M.At P.First) g (in-object o k))
-        go (closes-with w x) = hope (0x7D ∷ closing k) w (x g)
+    hope-first (in-array a k) h = hope-by (at (M.At P.First) g (in-array a k)) 0x5D (hope-behind k (of-array a))
+    hope-first (in-object o k) h = hope-by (at (M.At P.First) g (in-object o k)) 0x7D (hope-behind k (of-object o))
 
     hope-after : (k : Stack 𝕄) → Begun 𝕄 k → Hope (at (M.At P.After) g k)
     unfolding step afterElement afterPair isBlank
     hope-after bare h = absurd h
     hope-after (whole w) h = hope [] w refl
-    hope-after (in-array a k) h = go (close-all k (of-array a))
-      where
-        go : Closes (finish 𝕄 (of-array a) k) (closing k) → Hope (at (M.At P.After) g (in-array a k))
-        go (closes-with w x) = hope (0x5D ∷ closing k) w (x g)
-    hope-after (in-object o k) h = go (close-all k (of-object o))
-      where
-        go : Closes (finish 𝕄 (of-object o) k) (closing k) → Hope (at (M.At P.After) g (in-object o k))
-        go (closes-with w x) = hope (0x7D ∷ closing k) w (x g)
+    hope-after (in-array a k) h = hope-by (at (M.At P.After) g (in-array a k)) 0x5D (hope-behind k (of-array a))
+    hope-after (in-object o k) h = hope-by (at (M.At P.After) g (in-object o k)) 0x7D (hope-behind k (of-object o))
 
     hope-text : (m : StringMode) (k : Stack 𝕄) → Hope (at (M.Text m) g k)
     unfolding FromMode

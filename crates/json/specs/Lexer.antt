@@ -1,4 +1,4 @@
--- What a byte does, mode by mode. Derived: `Accepts` and `Faults` in proofs/ join the machine made of it to the grammar. Assumes nothing.
+-- What a byte does, mode by mode. Derived: `Accepted`, `Sound` and `Faults` in proofs/ join the machine made of it to the grammar. Assumes nothing.
 use mathlib.Core.Bool.{Bool, true, false, cond}
 use mathlib.Core.List.{List}
 use Prim.Native.Nat.{ℕ, _+_, _-_, _*_, _%_}

@@ -1,4 +1,4 @@
--- Laws of boolean tests and of `cond`, the choice by a test; what no test and no result is. Assumes nothing.
+-- Laws of boolean tests and of `cond`, the choice by a test; what follows from a test or a result that cannot be. Assumes nothing.
 use mathlib.Core.Bool.{Bool, true, false, not, cond, _&&_, _||_, Bool·beq, true≢false}
 use mathlib.Core.Option.{none, some, Option·none-ne-some}
 use mathlib.Core.Path.{_≡_, refl, subst, sym}

@@ -1,7 +1,7 @@
 -- What is kept of an open object after some pairs: the keys seen, the fitting edges, the mark. Assumes nothing.
 use mathlib.Core.Bool.{Bool, not, _&&_, _||_}
 use mathlib.Core.List.{List}
-use mathlib.Core.Logic.{_⊎_, inl, inr}
+use mathlib.Core.Logic.{_⊎_, inl, inr, ⊎-elim}
 use mathlib.Core.Path.{_≡_, sym, ap}
 use Prim.Native.Nat.{ℕ, _<_}
 use lib.Dec.{T, T-not, not-T, eqb, eqb→eq, eqb-refl, ltb, ltb→lt, lt→ltb}
@@ -97,11 +97,7 @@ module _ (es : List Entry) where
   -- a key seen was met
   pub among-of-seen : (ps : Pairs) (c : ℕ) → T ((members (judging es) ps (atOpening es)) .seen c) → SeenBy c ps
   unfolding atOpening
-  among-of-seen ps c h = go (among-of-seen-from ps (atOpening es) c h)
-    where
-      go : T ((atOpening es) .seen c) ⊎ SeenBy c ps → SeenBy c ps
-      go (inl g) = absurd g
-      go (inr s) = s
+  among-of-seen ps c h = ⊎-elim (λ (g : ⊥). absurd g) (λ (s : SeenBy c ps). s) (among-of-seen-from ps (atOpening es) c h)
 
   -- ---- the fitting edges
 
@@ -151,11 +147,7 @@ module _ (es : List Entry) where
   -- a fitting edge has the key of a pair whose value it asks for
   pub among-of-fitting : (ps : Pairs) (e : ℕ) → T ((members (judging es) ps (atOpening es)) .fitting e) → FittingBy e ps
   unfolding atOpening
-  among-of-fitting ps e h = go (among-of-fitting-from ps (atOpening es) e h)
-    where
-      go : T ((atOpening es) .fitting e) ⊎ FittingBy e ps → FittingBy e ps
-      go (inl g) = absurd g
-      go (inr s) = s
+  among-of-fitting ps e h = ⊎-elim (λ (g : ⊥). absurd g) (λ (s : FittingBy e ps). s) (among-of-fitting-from ps (atOpening es) e h)
 
   -- ---- the mark
 

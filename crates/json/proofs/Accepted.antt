@@ -38,36 +38,40 @@ data Behaved (b : ℕ) (st : Step) : Type 0 where
   is-fault : st .act ≡ A.Fault → Behaved b st
   separates : Separates b → Behaved b st
 
+separates-of : {b : ℕ} → T (not (isDigit b)) → T (not (eqb b 0x2E)) → T (not (isE b)) → Separates b
+separates-of h g e = record { no-digit = h; no-dot = g; no-e = e }
+
 separates-blank : (b : ℕ) → T (isBlank b) → Separates b
 unfolding isDigit within isE
 separates-blank b h =
-    blank-elim Separates (record { no-digit = tt; no-dot = tt; no-e = tt }) (record { no-digit = tt; no-dot = tt; no-e = tt })
-    (record { no-digit = tt; no-dot = tt; no-e = tt }) (record { no-digit = tt; no-dot = tt; no-e = tt }) b h
+    blank-elim Separates (separates-of tt tt tt) (separates-of tt tt tt) (separates-of tt tt tt) (separates-of tt tt tt) b h
 
 behaved : (top : Top) (b : ℕ) → Behaved b (afterValue top b)
 unfolding afterRoot afterElement afterPair isDigit within isE
 behaved T.Bare b = cond-elim (Behaved b) (isBlank b) (λ h. separates (separates-blank b h)) (λ _. is-fault refl)
 behaved T.Array b =
     cond-elim (Behaved b) (isBlank b) (λ h. separates (separates-blank b h)) (λ _.
-    cond-byte Behaved b 0x2C (separates (record { no-digit = tt; no-dot = tt; no-e = tt }))
-    (cond-byte Behaved b 0x5D (separates (record { no-digit = tt; no-dot = tt; no-e = tt })) (is-fault refl)))
+    cond-byte Behaved b 0x2C (separates (separates-of tt tt tt))
+    (cond-byte Behaved b 0x5D (separates (separates-of tt tt tt)) (is-fault refl)))
 behaved T.Object b =
     cond-elim (Behaved b) (isBlank b) (λ h. separates (separates-blank b h)) (λ _.
-    cond-byte Behaved b 0x2C (separates (record { no-digit = tt; no-dot = tt; no-e = tt }))
-    (cond-byte Behaved b 0x7D (separates (record { no-digit = tt; no-dot = tt; no-e = tt })) (is-fault refl)))
+    cond-byte Behaved b 0x2C (separates (separates-of tt tt tt))
+    (cond-byte Behaved b 0x7D (separates (separates-of tt tt tt)) (is-fault refl)))
+
+-- a step that ends no number
+abbrev EndsNone : Step → Type 0
+EndsNone st = st .ends ≡ false
 
 -- what stands behind a value ends no number of its own
 pub ends-none : (top : Top) (b : ℕ) → afterValue top b .ends ≡ false
 unfolding afterRoot afterElement afterPair
-ends-none T.Bare b = cond-elim (λ (st : Step). st .ends ≡ false) (isBlank b) (λ _. refl) (λ _. refl)
+ends-none T.Bare b = cond-elim EndsNone (isBlank b) (λ _. refl) (λ _. refl)
 ends-none T.Array b =
-    cond-elim (λ (st : Step). st .ends ≡ false) (isBlank b) (λ _. refl) (λ _.
-    cond-elim (λ (st : Step). st .ends ≡ false) (eqb b 0x2C) (λ _. refl) (λ _.
-    cond-elim (λ (st : Step). st .ends ≡ false) (eqb b 0x5D) (λ _. refl) (λ _. refl)))
+    cond-elim EndsNone (isBlank b) (λ _. refl) (λ _.
+    cond-elim EndsNone (eqb b 0x2C) (λ _. refl) (λ _. cond-elim EndsNone (eqb b 0x5D) (λ _. refl) (λ _. refl)))
 ends-none T.Object b =
-    cond-elim (λ (st : Step). st .ends ≡ false) (isBlank b) (λ _. refl) (λ _.
-    cond-elim (λ (st : Step). st .ends ≡ false) (eqb b 0x2C) (λ _. refl) (λ _.
-    cond-elim (λ (st : Step). st .ends ≡ false) (eqb b 0x7D) (λ _. refl) (λ _. refl)))
+    cond-elim EndsNone (isBlank b) (λ _. refl) (λ _.
+    cond-elim EndsNone (eqb b 0x2C) (λ _. refl) (λ _. cond-elim EndsNone (eqb b 0x7D) (λ _. refl) (λ _. refl)))
 
 -- ---- the first byte of a number is no blank, and begins a number
 

@@ -1,28 +1,24 @@
 -- The machine accepts every text of the grammar, with its meaning: `accepted-of-text`. By induction on the grammar: from the place where a
 -- phrase begins, the machine comes to the place behind it, the phrase's meaning joined to the innermost open value. Assumes nothing.
-use mathlib.Core.Bool.{Bool, true, false, not, cond}
-use mathlib.Core.List.{List, [], _∷_, _++_}
-use mathlib.Core.Option.{Option, none, some}
-use mathlib.Core.Path.{_≡_, refl, sym, _∙_, ap}
+use mathlib.Core.Bool.{Bool, true, false, not}
+use mathlib.Core.List.{List, [], _∷_}
+use mathlib.Core.Path.{_≡_, refl}
 use Prim.Native.Nat.{ℕ, _≤_}
 use native.Mathlib.Omega.{arith}
-use lib.Dec.{T, eqb, not-T, eqb→eq}
+use lib.Dec.{T, eqb, not-T}
 use borrow.Author.Tests.{ne-eqb, eqb-true}
-use Rattle.laws.proofs.TestLaws.{cond-yes, cond-no, cond-elim, cond-byte, true-of-T}
+use Rattle.laws.proofs.TestLaws.{cond-no, cond-elim, cond-byte, true-of-T, none-neq-some}
 use Rattle.json.specs.Bytes.{within, isBlank, Follow, follow-none, follow}
 use Rattle.json.specs.Numbers.{isDigit, isDigit1-9, isE}
-use Rattle.json.specs.Tree.{Word, null-word, true-word, false-word, Json, Values, Pairs, word, string, number, array, object, no-values, values, no-pairs, pairs}
+use Rattle.json.specs.Tree.{Word, null-word, true-word, false-word, Json, Values, Pairs, string, number}
 use Rattle.json.specs.Meaning.{Meaning, fold, meaning, elements, members}
 use Rattle.json.specs.Grammar.{spelling, Blanks, no-blanks, blanks, Value, is-word, is-string, is-number, is-empty-array, is-array, is-empty-object, is-object, Element, element, Elements, last-element, more-elements, Member, member, Members, last-member, more-members, Text}
 use Rattle.json.specs.Classes.{classOf, isBreak, isStructure}
-use Rattle.json.specs.Lexer.{stringMove, numberMove, mayEnd, letterMove, valueStart, atValue, atFirstElement, atFirstKey, atKey, atColon, afterRoot, afterElement, afterPair, afterValue, atFirst, stepTo, stay, keyStep, textStep, numberStep}
-use Rattle.json.specs.Machine.{Stack, bare, whole, in-array, in-object, topOf, finish, name, Token, State, fault, at, start, withString, withNumber, take, step, run, result, wholeOf, Accepts}
+use Rattle.json.specs.Lexer.{mayEnd, letterMove, valueStart, atValue, atFirstElement, atFirstKey, atKey, atColon, afterRoot, afterElement, afterPair, afterValue, stepTo}
+use Rattle.json.specs.Machine.{Stack, bare, whole, in-array, in-object, topOf, finish, name, Token, fault, at, start, step, run, Accepts}
 use Rattle.json.specs.declared.string.StringMode.{StringMode}
-use Rattle.json.specs.declared.string.StringMode.the-variants as S
-use Rattle.json.specs.declared.string.StringMove.the-variants as SM
 use Rattle.json.specs.declared.number.NumberMode.{NumberMode}
 use Rattle.json.specs.declared.number.NumberMode.the-variants as N
-use Rattle.json.specs.declared.number.NumberMove.the-variants as NM
 use Rattle.json.specs.declared.lexer.Place.{Place}
 use Rattle.json.specs.declared.lexer.Place.the-variants as P
 use Rattle.json.specs.declared.lexer.Mode.the-variants as M
@@ -30,7 +26,7 @@ use Rattle.json.specs.declared.lexer.Top.{Top}
 use Rattle.json.specs.declared.lexer.Top.the-variants as T
 use Rattle.json.specs.declared.lexer.Act.the-variants as A
 use Rattle.json.specs.declared.lexer.Step.{Step}
-use Rattle.json.proofs.ByteLaws.{low-of-within, high-of-within, outside-of-not-within, blank-elim}
+use Rattle.json.proofs.ByteLaws.{low-of-within, high-of-within, blank-elim}
 use Rattle.json.proofs.NumberLaws.{NumberFrom, ends-here, goes-on, Starts, starts-minus, starts-zero, starts-int, Begun, begun, move-of-goes, Separates, end-of-separates, from-of-number}
 use Rattle.json.proofs.StringLaws.{move-of-goes as string-move-of-goes, move-of-ends as string-move-of-ends}
 use Rattle.json.proofs.CharLaws.{Continues, closes, goes, ends, continues-of-chars}
@@ -42,39 +38,46 @@ data Behaved (b : ℕ) (st : Step) : Type 0 where
   is-fault : st .act ≡ A.Fault → Behaved b st
   separates : Separates b → Behaved b st
 
+separates-of : {b : ℕ} → T (not (isDigit b)) → T (not (eqb b 0x2E)) → T (not (isE b)) → Separates b
+separates-of h g e = record { no-digit = h; no-dot = g; no-e = e }
+
 separates-blank : (b : ℕ) → T (isBlank b) → Separates b
 unfolding isDigit within isE
 separates-blank b h =
-    blank-elim Separates (record { no-digit = tt; no-dot = tt; no-e = tt }) (record { no-digit = tt; no-dot = tt; no-e = tt })
-    (record { no-digit = tt; no-dot = tt; no-e = tt }) (record { no-digit = tt; no-dot = tt; no-e = tt }) b h
+    blank-elim Separates (separates-of tt tt tt) (separates-of tt tt tt) (separates-of tt tt tt) (separates-of tt tt tt) b h
 
 behaved : (top : Top) (b : ℕ) → Behaved b (afterValue top b)
 unfolding afterRoot afterElement afterPair isDigit within isE
 behaved T.Bare b = cond-elim (Behaved b) (isBlank b) (λ h. separates (separates-blank b h)) (λ _. is-fault refl)
 behaved T.Array b =
     cond-elim (Behaved b) (isBlank b) (λ h. separates (separates-blank b h)) (λ _.
-    cond-byte Behaved b 0x2C (separates (record { no-digit = tt; no-dot = tt; no-e = tt }))
-    (cond-byte Behaved b 0x5D (separates (record { no-digit = tt; no-dot = tt; no-e = tt })) (is-fault refl)))
+    cond-byte Behaved b 0x2C (separates (separates-of tt tt tt))
+    (cond-byte Behaved b 0x5D (separates (separates-of tt tt tt)) (is-fault refl)))
 behaved T.Object b =
     cond-elim (Behaved b) (isBlank b) (λ h. separates (separates-blank b h)) (λ _.
-    cond-byte Behaved b 0x2C (separates (record { no-digit = tt; no-dot = tt; no-e = tt }))
-    (cond-byte Behaved b 0x7D (separates (record { no-digit = tt; no-dot = tt; no-e = tt })) (is-fault refl)))
+    cond-byte Behaved b 0x2C (separates (separates-of tt tt tt))
+    (cond-byte Behaved b 0x7D (separates (separates-of tt tt tt)) (is-fault refl)))
+
+-- a step that ends no number
+abbrev EndsNone : Step → Type 0
+EndsNone st = st .ends ≡ false
 
 -- what stands behind a value ends no number of its own
 pub ends-none : (top : Top) (b : ℕ) → afterValue top b .ends ≡ false
 unfolding afterRoot afterElement afterPair
-ends-none T.Bare b = cond-elim (λ (st : Step). st .ends ≡ false) (isBlank b) (λ _. refl) (λ _. refl)
+ends-none T.Bare b = cond-elim EndsNone (isBlank b) (λ _. refl) (λ _. refl)
 ends-none T.Array b =
-    cond-elim (λ (st : Step). st .ends ≡ false) (isBlank b) (λ _. refl) (λ _.
-    cond-elim (λ (st : Step). st .ends ≡ false) (eqb b 0x2C) (λ _. refl) (λ _. cond-elim (λ (st : Step). st .ends ≡ false) (eqb b 0x5D) (λ _. refl) (λ _. refl)))
+    cond-elim EndsNone (isBlank b) (λ _. refl) (λ _.
+    cond-elim EndsNone (eqb b 0x2C) (λ _. refl) (λ _. cond-elim EndsNone (eqb b 0x5D) (λ _. refl) (λ _. refl)))
 ends-none T.Object b =
-    cond-elim (λ (st : Step). st .ends ≡ false) (isBlank b) (λ _. refl) (λ _.
-    cond-elim (λ (st : Step). st .ends ≡ false) (eqb b 0x2C) (λ _. refl) (λ _. cond-elim (λ (st : Step). st .ends ≡ false) (eqb b 0x7D) (λ _. refl) (λ _. refl)))
+    cond-elim EndsNone (isBlank b) (λ _. refl) (λ _.
+    cond-elim EndsNone (eqb b 0x2C) (λ _. refl) (λ _. cond-elim EndsNone (eqb b 0x7D) (λ _. refl) (λ _. refl)))
 
 -- ---- the first byte of a number is no blank, and begins a number
 
 no-blank : (b : ℕ) → 0x2D ≤ b → T (not (isBlank b))
-no-blank b h = not-T (isBlank b) (λ g. blank-elim (λ (x : ℕ). 0x2D ≤ x → ⊥) (λ l. omega arith) (λ l. omega arith) (λ l. omega arith) (λ l. omega arith) b g h)
+no-blank b h =
+    not-T (isBlank b) (λ g. blank-elim (λ (x : ℕ). 0x2D ≤ x → ⊥) (λ l. omega arith) (λ l. omega arith) (λ l. omega arith) (λ l. omega arith) b g h)
 
 int-start : (b : ℕ) → T (isDigit1-9 b) → atValue b ≡ stepTo (M.Number N.Int) A.NumberStart
 unfolding atValue valueStart isDigit1-9
@@ -90,12 +93,8 @@ number-start-step starts-minus = refl
 number-start-step starts-zero = refl
 number-start-step (starts-int {b} h) = int-start b h
 
--- a result that a fault has none of
-pub no-result : {X A : Type 0} {w : A} → none ≡ some w → X
-no-result e = let z : _≡_ {A = ℕ} 0 1 = cc in absurd (omega arith)
-
 module _ (𝕄 : Meaning) where
-  open Meaning 𝕄 using (Result, InString, InNumber, InArray, InObject, of-word, string-start, string-char, of-string, number-start, number-byte, of-number, array-start, array-element, of-array, object-start, object-key, object-value, of-object)
+  open Meaning 𝕄 using (Result, InArray, InObject, of-word, string-start, string-char, of-string, number-start, number-byte, of-number, array-start, array-element, object-start, object-key, object-value)
 
   -- a fault is the end
   fault-runs : (s : List ℕ) → run 𝕄 fault s ≡ fault
@@ -104,7 +103,7 @@ module _ (𝕄 : Meaning) where
   fault-runs (b ∷ s) = fault-runs s
 
   pub fault-accepts-none : (s : List ℕ) {w : Result} {X : Type 0} → Accepts 𝕄 fault s w → X
-  fault-accepts-none s e = no-result (rw (fault-runs s) at e)
+  fault-accepts-none s e = none-neq-some (rw (fault-runs s) at e)
 
   -- behind a value, whatever the token before it left
   abbrev pub Behind : Stack 𝕄 → List ℕ → Result → Type 0
@@ -126,7 +125,8 @@ module _ (𝕄 : Meaning) where
   blank-stays P.After g (in-array a k) b h = rw (true-of-T (isBlank b) h)
   blank-stays P.After g (in-object o k) b h = rw (true-of-T (isBlank b) h)
 
-  over-blanks : (p : Place) (g : Token 𝕄) (k : Stack 𝕄) {s r : List ℕ} {w : Result} → Blanks s r → Accepts 𝕄 (at (M.At p) g k) r w → Accepts 𝕄 (at (M.At p) g k) s w
+  over-blanks : (p : Place) (g : Token 𝕄) (k : Stack 𝕄) {s r : List ℕ} {w : Result} → Blanks s r → Accepts 𝕄 (at (M.At p) g k) r w
+      → Accepts 𝕄 (at (M.At p) g k) s w
   over-blanks p g k no-blanks x = x
   over-blanks p g k (blanks {b} h c) x = rw (blank-stays p g k b h) (over-blanks p g k c x)
 
@@ -161,7 +161,8 @@ module _ (𝕄 : Meaning) where
   number-ends n g k [] h x = rw (true-of-T (mayEnd n) h) (x g)
   number-ends n g k (b ∷ r) {w} h x = go (behaved (topOf 𝕄 k) b) (x g)
     where
-      go : Behaved b (afterValue (topOf 𝕄 k) b) → Accepts 𝕄 (at (M.At P.After) g (finish 𝕄 (of-number (g .number)) k)) (b ∷ r) w → Accepts 𝕄 (at (M.Number n) g k) (b ∷ r) w
+      go : Behaved b (afterValue (topOf 𝕄 k) b) → Accepts 𝕄 (at (M.At P.After) g (finish 𝕄 (of-number (g .number)) k)) (b ∷ r) w
+          → Accepts 𝕄 (at (M.Number n) g k) (b ∷ r) w
       go (is-fault e) y =
           let z : Accepts 𝕄 fault r w = unfold step in rw (topOf-finish (of-number (g .number)) k, e) at y in
           fault-accepts-none r z
@@ -180,7 +181,8 @@ module _ (𝕄 : Meaning) where
 
   -- ---- words
 
-  word-run : (x : Word) (g : Token 𝕄) (k : Stack 𝕄) {s r : List ℕ} {w : Result} → Follow (spelling x) s r → Behind (finish 𝕄 (of-word x) k) r w → Accepts 𝕄 (at (M.At P.Value) g k) s w
+  word-run : (x : Word) (g : Token 𝕄) (k : Stack 𝕄) {s r : List ℕ} {w : Result} → Follow (spelling x) s r
+      → Behind (finish 𝕄 (of-word x) k) r w → Accepts 𝕄 (at (M.At P.Value) g k) s w
   unfolding spelling step atValue isBlank valueStart isDigit1-9 within letterMove
   word-run null-word g k (follow (follow (follow (follow follow-none)))) x = x g
   word-run true-word g k (follow (follow (follow (follow follow-none)))) x = x g
@@ -189,9 +191,10 @@ module _ (𝕄 : Meaning) where
   -- ---- arrays and objects
 
   -- what may stand where a value is awaited may stand first in an array
-  first-element : (g : Token 𝕄) (a : InArray) (k : Stack 𝕄) (s : List ℕ) {w : Result} → Accepts 𝕄 (at (M.At P.Value) g (in-array a k)) s w → Accepts 𝕄 (at (M.At P.First) g (in-array a k)) s w
+  first-element : (g : Token 𝕄) (a : InArray) (k : Stack 𝕄) (s : List ℕ) {w : Result} → Accepts 𝕄 (at (M.At P.Value) g (in-array a k)) s w
+      → Accepts 𝕄 (at (M.At P.First) g (in-array a k)) s w
   unfolding step atValue atFirstElement valueStart isBlank isDigit1-9 within
-  first-element g a k [] x = no-result x
+  first-element g a k [] x = none-neq-some x
   first-element g a k (b ∷ s) {w} x = go (λ y. first-element g a k s y) (isBlank b) refl (eqb b 0x5D) refl
     where
       go : (Accepts 𝕄 (at (M.At P.Value) g (in-array a k)) s w → Accepts 𝕄 (at (M.At P.First) g (in-array a k)) s w)
@@ -203,9 +206,10 @@ module _ (𝕄 : Meaning) where
       go more false e false f = rw (e, f) (rw e at x)
 
   -- what may stand where a key is awaited may stand first in an object
-  first-key : (g : Token 𝕄) (o : InObject) (k : Stack 𝕄) (s : List ℕ) {w : Result} → Accepts 𝕄 (at (M.At P.Key) g (in-object o k)) s w → Accepts 𝕄 (at (M.At P.First) g (in-object o k)) s w
+  first-key : (g : Token 𝕄) (o : InObject) (k : Stack 𝕄) (s : List ℕ) {w : Result} → Accepts 𝕄 (at (M.At P.Key) g (in-object o k)) s w
+      → Accepts 𝕄 (at (M.At P.First) g (in-object o k)) s w
   unfolding step atKey atFirstKey isBlank
-  first-key g o k [] x = no-result x
+  first-key g o k [] x = none-neq-some x
   first-key g o k (b ∷ s) {w} x = go (λ y. first-key g o k s y) (isBlank b) refl (eqb b 0x7D) refl
     where
       go : (Accepts 𝕄 (at (M.At P.Key) g (in-object o k)) s w → Accepts 𝕄 (at (M.At P.First) g (in-object o k)) s w)
@@ -219,7 +223,8 @@ module _ (𝕄 : Meaning) where
   mutual
     unfolding step atValue isBlank valueStart isDigit1-9 within atFirstElement atFirstKey atKey atColon afterElement afterPair
 
-    value-run : {s r : List ℕ} {v : Json} {w : Result} → Value s v r → (g : Token 𝕄) (k : Stack 𝕄) → Behind (finish 𝕄 (meaning 𝕄 v) k) r w → Accepts 𝕄 (at (M.At P.Value) g k) s w
+    value-run : {s r : List ℕ} {v : Json} {w : Result} → Value s v r → (g : Token 𝕄) (k : Stack 𝕄) → Behind (finish 𝕄 (meaning 𝕄 v) k) r w
+        → Accepts 𝕄 (at (M.At P.Value) g k) s w
     value-run (is-word {x} f) g k y = word-run x g k f y
     value-run (is-string c) g k y = text-run k _ (continues-of-chars c _ _) y
     value-run (is-number n f) g k y = begun-run (from-of-number n) f g k y
@@ -228,8 +233,10 @@ module _ (𝕄 : Meaning) where
     value-run (is-empty-object c) g k y = over-blanks P.First g (in-object object-start k) c (y g)
     value-run (is-object {s} e) g k y = first-key g object-start k s (members-run e g object-start k y)
 
-    element-run : {s r : List ℕ} {v : Json} {w : Result} → Element s v r → (g : Token 𝕄) (k : Stack 𝕄) → Behind (finish 𝕄 (meaning 𝕄 v) k) r w → Accepts 𝕄 (at (M.At P.Value) g k) s w
-    element-run {v} (element b e c) g k y = over-blanks P.Value g k b (value-run e g k (λ h. over-blanks P.After h (finish 𝕄 (meaning 𝕄 v) k) c (y h)))
+    element-run : {s r : List ℕ} {v : Json} {w : Result} → Element s v r → (g : Token 𝕄) (k : Stack 𝕄)
+        → Behind (finish 𝕄 (meaning 𝕄 v) k) r w → Accepts 𝕄 (at (M.At P.Value) g k) s w
+    element-run {v} (element b e c) g k y =
+        over-blanks P.Value g k b (value-run e g k (λ h. over-blanks P.After h (finish 𝕄 (meaning 𝕄 v) k) c (y h)))
 
     elements-run : {s r : List ℕ} {vs : Values} {w : Result} → Elements s vs r → (g : Token 𝕄) (a : InArray) (k : Stack 𝕄)
         → Behind (in-array (elements 𝕄 vs a) k) r w → Accepts 𝕄 (at (M.At P.Value) g (in-array a k)) s w
@@ -237,15 +244,18 @@ module _ (𝕄 : Meaning) where
     elements-run (more-elements {v} e f) g a k y = element-run e g (in-array a k) (λ h. elements-run f h (array-element a (meaning 𝕄 v)) k y)
 
     member-run : {s r n : List ℕ} {v : Json} {w : Result} → Member s n v r → (g : Token 𝕄) (o : InObject) (k : Stack 𝕄)
-        → Behind (in-object (object-value (object-key o (fold string-char string-start n)) (meaning 𝕄 v)) k) r w → Accepts 𝕄 (at (M.At P.Key) g (in-object o k)) s w
+        → Behind (in-object (object-value (object-key o (fold string-char string-start n)) (meaning 𝕄 v)) k) r w
+        → Accepts 𝕄 (at (M.At P.Key) g (in-object o k)) s w
     member-run (member {k = n} b c d e) g o k y =
         over-blanks P.Key g (in-object o k) b (key-run (in-object o k) _ (continues-of-chars c _ _)
-        (λ h. over-blanks P.Colon h (in-object (object-key o (fold string-char string-start n)) k) d (element-run e h (in-object (object-key o (fold string-char string-start n)) k) y)))
+        (λ h. over-blanks P.Colon h (in-object (object-key o (fold string-char string-start n)) k) d
+        (element-run e h (in-object (object-key o (fold string-char string-start n)) k) y)))
 
     members-run : {s r : List ℕ} {ps : Pairs} {w : Result} → Members s ps r → (g : Token 𝕄) (o : InObject) (k : Stack 𝕄)
         → Behind (in-object (members 𝕄 ps o) k) r w → Accepts 𝕄 (at (M.At P.Key) g (in-object o k)) s w
     members-run (last-member e) g o k y = member-run e g o k y
-    members-run (more-members {k = n} {v} e f) g o k y = member-run e g o k (λ h. members-run f h (object-value (object-key o (fold string-char string-start n)) (meaning 𝕄 v)) k y)
+    members-run (more-members {k = n} {v} e f) g o k y =
+        member-run e g o k (λ h. members-run f h (object-value (object-key o (fold string-char string-start n)) (meaning 𝕄 v)) k y)
 
   -- the machine accepts each text, with its meaning
   pub accepted-of-text : {s : List ℕ} {v : Json} → Text s v → Accepts 𝕄 (start 𝕄) s (meaning 𝕄 v)

@@ -1,7 +1,7 @@
 -- Laws of bytes and rows of bytes. Assumes nothing.
-use mathlib.Core.Bool.{Bool, not, _&&_, _||_}
+use mathlib.Core.Bool.{not, _||_}
 use mathlib.Core.List.{List, [], _∷_, _++_}
-use mathlib.Core.Path.{_≡_, sym, subst}
+use mathlib.Core.Path.{sym, subst}
 use Prim.Native.Nat.{ℕ, _≤_}
 use lib.Dec.{T, eqb, leb, leb→le, le→leb, not-T, eqb→eq}
 use Rattle.laws.proofs.TestLaws.{T-and, T-and-left, T-and-right, T-or-elim}
@@ -36,7 +36,8 @@ pub blank-elim : (P : ℕ → Type 0) → P 0x20 → P 0x09 → P 0x0A → P 0x0
 unfolding isBlank
 blank-elim P p q r s b =
     T-or-elim (eqb b 0x20 || eqb b 0x09 || eqb b 0x0A) (eqb b 0x0D)
-    (T-or-elim (eqb b 0x20 || eqb b 0x09) (eqb b 0x0A) (T-or-elim (eqb b 0x20) (eqb b 0x09) (at-byte P b 0x20 p) (at-byte P b 0x09 q)) (at-byte P b 0x0A r))
+    (T-or-elim (eqb b 0x20 || eqb b 0x09) (eqb b 0x0A)
+    (T-or-elim (eqb b 0x20) (eqb b 0x09) (at-byte P b 0x20 p) (at-byte P b 0x09 q)) (at-byte P b 0x0A r))
     (at-byte P b 0x0D s)
 
 -- ---- Follow

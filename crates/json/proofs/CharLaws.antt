@@ -2,15 +2,15 @@
 -- numbers of the RFCs. Assumes nothing.
 use mathlib.Core.Bool.{Bool, true, false, not}
 use mathlib.Core.List.{List, [], _∷_}
-use mathlib.Core.Path.{_≡_, refl, sym, _∙_}
+use mathlib.Core.Path.{_≡_, refl}
 use Prim.Native.Nat.{ℕ, _+_, _-_, _*_, _%_, _≤_, _<_}
 use native.Mathlib.Nat.{lt-of-not-le}
 use native.Mathlib.Omega.{arith}
-use lib.Dec.{T, eqb, eqb→eq, T-not}
+use lib.Dec.{T, eqb, T-not}
 use borrow.Author.Tests.{lt-ltb, le-ltb, eqb-true, eqb-false}
 use Rattle.json.specs.Bytes.{within}
 use Rattle.json.specs.Utf8.{isTail, sixMore, Utf8, row-C2-DF, row-E0, row-E1-EC, row-ED, row-EE-EF, row-F0, row-F1-F3, row-F4}
-use Rattle.json.specs.Strings.{Escaped, quotation-mark, reverse-solidus, solidus, backspace, form-feed, line-feed, carriage-return, tab, Hex, hexMore, CodeUnit, code-unit, paired, Char, unescaped, multibyte, escaped, unit, surrogates, Chars, closing-quote, chars}
+use Rattle.json.specs.Strings.{Escaped, quotation-mark, reverse-solidus, solidus, backspace, form-feed, line-feed, carriage-return, tab, hexMore, CodeUnit, code-unit, paired, Char, unescaped, multibyte, escaped, unit, surrogates, Chars, closing-quote, chars}
 use Rattle.json.specs.Lexer.{unescape, hexOf, leadBits, tailBits, hexBits, pairOf, bitsAfter, highAfter, charOf}
 use Rattle.json.specs.declared.string.StringMode.{StringMode}
 use Rattle.json.specs.declared.string.StringMode.the-variants as S
@@ -20,7 +20,8 @@ use Rattle.json.proofs.StringLaws.{value-of-hex, lt-of-hex, hex-of-lt, 
 -- the bytes, from a mode with its registers on, are the rest of a string with these characters, up to and with its closing quotation mark
 pub data Continues : StringMode → ℕ → ℕ → List ℕ → List ℕ → List ℕ → Type 0 where
   closes : {x h : ℕ} {r : List ℕ} → Continues S.Char x h (0x22 ∷ r) [] r
-  goes : {m n : StringMode} {x h b : ℕ} {s cs r : List ℕ} → Goes m b n → Continues n (bitsAfter m x b) (highAfter m x h b) s cs r → Continues m x h (b ∷ s) cs r
+  goes : {m n : StringMode} {x h b : ℕ} {s cs r : List ℕ} → Goes m b n → Continues n (bitsAfter m x b) (highAfter m x h b) s cs r
+      → Continues m x h (b ∷ s) cs r
   ends : {m : StringMode} {x h b : ℕ} {s cs r : List ℕ} → Ends m b → Continues S.Char (bitsAfter m x b) (highAfter m x h b) s cs r
       → Continues m x h (b ∷ s) (charOf m x h b ∷ cs) r
 
@@ -46,7 +47,8 @@ six-lt x b n h t = let hi = high-of-within 0x80 0xBF b t in omega arith
 two-bytes : (x b c : ℕ) → x < 0x200 → T (isTail b) → T (isTail c) → tailBits (tailBits x b) c ≡ sixMore (sixMore x b) c
 two-bytes x b c h s t = rw (six-of-tail x b (omega arith) s) (six-of-tail (sixMore x b) c (omega (arith, six-lt x b 0x200 h s)) t)
 
-three-bytes : (x b c d : ℕ) → x < 8 → T (isTail b) → T (isTail c) → T (isTail d) → tailBits (tailBits (tailBits x b) c) d ≡ sixMore (sixMore (sixMore x b) c) d
+three-bytes : (x b c d : ℕ) → x < 8 → T (isTail b) → T (isTail c) → T (isTail d)
+    → tailBits (tailBits (tailBits x b) c) d ≡ sixMore (sixMore (sixMore x b) c) d
 three-bytes x b c d h s t u =
     rw (two-bytes x b c (omega arith) s t)
     (six-of-tail (sixMore (sixMore x b) c) d (omega (arith, six-lt (sixMore x b) c 0x200 (omega (arith, six-lt x b 8 h s)) t)) u)
@@ -155,21 +157,24 @@ module _ {t cs r : List ℕ} (K : (x h : ℕ) → Continues S.Char x h t cs r) w
   utf8-continues (row-E1-EC {a} {b} {c} p q u) x h =
       let l = low-of-within 0xE1 0xEC a p in
       let g = high-of-within 0xE1 0xEC a p in
-      rw (← two-bytes (a - 0xE0) b c (omega arith) q u) (rw (← bits-E a (omega arith) (omega arith)) (goes (lead-E1 p) (goes (tail-2 q) (ends (tail-1 u) (K _ _)))))
+      rw (← two-bytes (a - 0xE0) b c (omega arith) q u)
+      (rw (← bits-E a (omega arith) (omega arith)) (goes (lead-E1 p) (goes (tail-2 q) (ends (tail-1 u) (K _ _)))))
   utf8-continues (row-ED {b} {c} p q) x h =
       rw (← two-bytes 0xD b c (omega arith) (tail-of-within 0x80 0x9F b (omega arith) (omega arith) p) q)
       (rw (← bits-E 0xED (omega arith) (omega arith)) (goes lead-ED (goes (second-ED p) (ends (tail-1 q) (K _ _)))))
   utf8-continues (row-EE-EF {a} {b} {c} p q u) x h =
       let l = low-of-within 0xEE 0xEF a p in
       let g = high-of-within 0xEE 0xEF a p in
-      rw (← two-bytes (a - 0xE0) b c (omega arith) q u) (rw (← bits-E a (omega arith) (omega arith)) (goes (lead-EE p) (goes (tail-2 q) (ends (tail-1 u) (K _ _)))))
+      rw (← two-bytes (a - 0xE0) b c (omega arith) q u)
+      (rw (← bits-E a (omega arith) (omega arith)) (goes (lead-EE p) (goes (tail-2 q) (ends (tail-1 u) (K _ _)))))
   utf8-continues (row-F0 {b} {c} {d} p q u) x h =
       rw (← three-bytes 0 b c d (omega arith) (tail-of-within 0x90 0xBF b (omega arith) (omega arith) p) q u)
       (rw (← bits-F 0xF0 (omega arith)) (goes lead-F0 (goes (second-F0 p) (goes (tail-2 q) (ends (tail-1 u) (K _ _))))))
   utf8-continues (row-F1-F3 {a} {b} {c} {d} p q u v) x h =
       let l = low-of-within 0xF1 0xF3 a p in
       let g = high-of-within 0xF1 0xF3 a p in
-      rw (← three-bytes (a - 0xF0) b c d (omega arith) q u v) (rw (← bits-F a (omega arith)) (goes (lead-F1 p) (goes (tail-3 q) (goes (tail-2 u) (ends (tail-1 v) (K _ _))))))
+      rw (← three-bytes (a - 0xF0) b c d (omega arith) q u v)
+      (rw (← bits-F a (omega arith)) (goes (lead-F1 p) (goes (tail-3 q) (goes (tail-2 u) (ends (tail-1 v) (K _ _))))))
   utf8-continues (row-F4 {b} {c} {d} p q u) x h =
       rw (← three-bytes 4 b c d (omega arith) (tail-of-within 0x80 0x8F b (omega arith) (omega arith) p) q u)
       (rw (← bits-F 0xF4 (omega arith)) (goes lead-F4 (goes (second-F4 p) (goes (tail-2 q) (ends (tail-1 u) (K _ _))))))
@@ -216,7 +221,8 @@ module _ {t cs r : List ℕ} (K : (x h : ℕ) → Continues S.Char x h t cs r) w
       let e = value-of-hex p in let f = value-of-hex q in let g = value-of-hex u in let i = value-of-hex v in
       rw (← e, ← f, ← g, ← i)
       (goes backslash (goes letter-u
-      (unit-continues a b c d _ _ (rw e (lt-of-hex p)) (rw f (lt-of-hex q)) (rw g (lt-of-hex u)) (rw i (lt-of-hex v)) (rw (← e, ← f, ← g, ← i) at n))))
+      (unit-continues a b c d _ _ (rw e (lt-of-hex p)) (rw f (lt-of-hex q)) (rw g (lt-of-hex u)) (rw i (lt-of-hex v))
+      (rw (← e, ← f, ← g, ← i) at n))))
   char-continues (surrogates (code-unit {a} {b} {c} {d} p q u v) (code-unit {a = a′} {b = b′} {c = c′} {d = d′} p′ q′ u′ v′) m n) x h =
       let e = value-of-hex p in let f = value-of-hex q in let g = value-of-hex u in let i = value-of-hex v in
       let e′ = value-of-hex p′ in let f′ = value-of-hex q′ in let g′ = value-of-hex u′ in let i′ = value-of-hex v′ in
@@ -246,7 +252,8 @@ module _ (a b c d : ℕ) (ha : hexOf a < 16) (hb : hexOf b < 16) (hc : hexOf c <
 pair-chars : (a b c d e f g i : ℕ) → hexOf a ≡ 13 → 8 ≤ hexOf b → hexOf b < 12 → hexOf c < 16 → hexOf d < 16
     → hexOf e ≡ 13 → 12 ≤ hexOf f → hexOf f < 16 → hexOf g < 16 → hexOf i < 16 → {t cs r : List ℕ} → Chars t cs r
     → Chars (0x5C ∷ 0x75 ∷ a ∷ b ∷ c ∷ d ∷ 0x5C ∷ 0x75 ∷ e ∷ f ∷ g ∷ i ∷ t)
-    (pairOf (hexBits (hexBits (hexBits (hexOf a) (hexOf b)) (hexOf c)) (hexOf d)) (hexBits (hexBits (hexBits (hexOf e) (hexOf f)) (hexOf g)) (hexOf i)) ∷ cs) r
+    (pairOf (hexBits (hexBits (hexBits (hexOf a) (hexOf b)) (hexOf c)) (hexOf d))
+    (hexBits (hexBits (hexBits (hexOf e) (hexOf f)) (hexOf g)) (hexOf i)) ∷ cs) r
 pair-chars a b c d e f g i ea lb hb hc hd ee lf hf hg hi {t} k =
     let ha : hexOf a < 16 = omega arith in
     let hb′ : hexOf b < 16 = omega arith in
@@ -266,31 +273,43 @@ chars-of-continues (goes (lead-C2 {b = a} p) (ends (tail-1 {b} q) k)) =
     let e = high-of-within 0xC2 0xDF a p in
     utf8-chars (row-C2-DF p q) (rw (bits-C2 a p) (six-of-tail (a - 0xC0) b (omega arith) q)) (chars-of-continues k)
 chars-of-continues (goes lead-E0 (goes (second-E0 {b} p) (ends (tail-1 {b = c} q) k))) =
-    utf8-chars (row-E0 p q) (rw (bits-E 0xE0 (omega arith) (omega arith)) (two-bytes 0 b c (omega arith) (tail-of-within 0xA0 0xBF b (omega arith) (omega arith) p) q)) (chars-of-continues k)
+    utf8-chars (row-E0 p q)
+    (rw (bits-E 0xE0 (omega arith) (omega arith)) (two-bytes 0 b c (omega arith) (tail-of-within 0xA0 0xBF b (omega arith) (omega arith) p) q))
+    (chars-of-continues k)
 chars-of-continues (goes (lead-E1 {b = a} p) (goes (tail-2 {b} q) (ends (tail-1 {b = c} u) k))) =
     let l = low-of-within 0xE1 0xEC a p in
     let g = high-of-within 0xE1 0xEC a p in
     utf8-chars (row-E1-EC p q u) (rw (bits-E a (omega arith) (omega arith)) (two-bytes (a - 0xE0) b c (omega arith) q u)) (chars-of-continues k)
 chars-of-continues (goes lead-ED (goes (second-ED {b} p) (ends (tail-1 {b = c} q) k))) =
-    utf8-chars (row-ED p q) (rw (bits-E 0xED (omega arith) (omega arith)) (two-bytes 0xD b c (omega arith) (tail-of-within 0x80 0x9F b (omega arith) (omega arith) p) q)) (chars-of-continues k)
+    utf8-chars (row-ED p q)
+    (rw (bits-E 0xED (omega arith) (omega arith)) (two-bytes 0xD b c (omega arith) (tail-of-within 0x80 0x9F b (omega arith) (omega arith) p) q))
+    (chars-of-continues k)
 chars-of-continues (goes (lead-EE {b = a} p) (goes (tail-2 {b} q) (ends (tail-1 {b = c} u) k))) =
     let l = low-of-within 0xEE 0xEF a p in
     let g = high-of-within 0xEE 0xEF a p in
     utf8-chars (row-EE-EF p q u) (rw (bits-E a (omega arith) (omega arith)) (two-bytes (a - 0xE0) b c (omega arith) q u)) (chars-of-continues k)
 chars-of-continues (goes lead-F0 (goes (second-F0 {b} p) (goes (tail-2 {b = c} q) (ends (tail-1 {b = d} u) k)))) =
-    utf8-chars (row-F0 p q u) (rw (bits-F 0xF0 (omega arith)) (three-bytes 0 b c d (omega arith) (tail-of-within 0x90 0xBF b (omega arith) (omega arith) p) q u)) (chars-of-continues k)
+    utf8-chars (row-F0 p q u)
+    (rw (bits-F 0xF0 (omega arith)) (three-bytes 0 b c d (omega arith) (tail-of-within 0x90 0xBF b (omega arith) (omega arith) p) q u))
+    (chars-of-continues k)
 chars-of-continues (goes (lead-F1 {b = a} p) (goes (tail-3 {b} q) (goes (tail-2 {b = c} u) (ends (tail-1 {b = d} v) k)))) =
     let l = low-of-within 0xF1 0xF3 a p in
     let g = high-of-within 0xF1 0xF3 a p in
     utf8-chars (row-F1-F3 p q u v) (rw (bits-F a (omega arith)) (three-bytes (a - 0xF0) b c d (omega arith) q u v)) (chars-of-continues k)
 chars-of-continues (goes lead-F4 (goes (second-F4 {b} p) (goes (tail-2 {b = c} q) (ends (tail-1 {b = d} u) k)))) =
-    utf8-chars (row-F4 p q u) (rw (bits-F 0xF4 (omega arith)) (three-bytes 4 b c d (omega arith) (tail-of-within 0x80 0x8F b (omega arith) (omega arith) p) q u)) (chars-of-continues k)
-chars-of-continues (goes backslash (goes letter-u (goes (digit-1 {b = a} ha n) (goes (digit-2 {b} hb) (goes (digit-3 {b = c} hc) (ends (digit-4 {b = d} hd) k)))))) =
+    utf8-chars (row-F4 p q u)
+    (rw (bits-F 0xF4 (omega arith)) (three-bytes 4 b c d (omega arith) (tail-of-within 0x80 0x8F b (omega arith) (omega arith) p) q u))
+    (chars-of-continues k)
+chars-of-continues (goes backslash (goes letter-u (goes (digit-1 {b = a} ha n)
+    (goes (digit-2 {b} hb) (goes (digit-3 {b = c} hc) (ends (digit-4 {b = d} hd) k)))))) =
     unit-chars a b c d ha hb hc hd (no-surrogate (hexOf a) (hexOf b) (hexOf c) (hexOf d) ha hb hc hd n) (chars-of-continues k)
-chars-of-continues (goes backslash (goes letter-u (goes (digit-1D {b = a} ea) (goes (digit-2-below {b} hb) (goes (digit-3 {b = c} hc) (ends (digit-4 {b = d} hd) k)))))) =
+chars-of-continues (goes backslash (goes letter-u (goes (digit-1D {b = a} ea)
+    (goes (digit-2-below {b} hb) (goes (digit-3 {b = c} hc) (ends (digit-4 {b = d} hd) k)))))) =
     let ha : hexOf a < 16 = omega arith in
     let hb′ : hexOf b < 16 = omega arith in
     unit-chars a b c d ha hb′ hc hd (no-surrogate-below (hexOf a) (hexOf b) (hexOf c) (hexOf d) ha hb′ hc hd ea hb) (chars-of-continues k)
-chars-of-continues (goes backslash (goes letter-u (goes (digit-1D {b = a} ea) (goes (digit-2-high {b} lb hb) (goes (high-3 {b = c} hc) (goes (high-4 {b = d} hd)
-    (goes low-backslash (goes low-u (goes (low-1 {b = e} ee) (goes (low-2 {b = f} lf hf) (goes (low-3 {b = g} hg) (ends (low-4 {b = i} hi) k)))))))))))) =
+chars-of-continues (goes backslash (goes letter-u (goes (digit-1D {b = a} ea)
+    (goes (digit-2-high {b} lb hb) (goes (high-3 {b = c} hc) (goes (high-4 {b = d} hd)
+    (goes low-backslash (goes low-u (goes (low-1 {b = e} ee)
+    (goes (low-2 {b = f} lf hf) (goes (low-3 {b = g} hg) (ends (low-4 {b = i} hi) k)))))))))))) =
     pair-chars a b c d e f g i ea lb hb hc hd ee lf hf hg hi (chars-of-continues k)

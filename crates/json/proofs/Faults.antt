@@ -1,24 +1,24 @@
 -- The machine faults exactly at the fault place: `begins-of-alive`, `alive-of-begins`, `faultAt-of-place`, `place-of-faultAt`. From every state
 -- that is no fault some bytes lead to a whole text. Assumes nothing.
-use mathlib.Core.Bool.{Bool, true, false, not, cond}
+use mathlib.Core.Bool.{Bool, true, false}
 use mathlib.Core.List.{List, [], _∷_, _++_, append-assoc}
 use mathlib.Core.Option.{Option, none, some}
-use mathlib.Core.Path.{_≡_, refl, sym, _∙_, ap, subst}
+use mathlib.Core.Path.{_≡_, refl, sym, _∙_}
 use Prim.Native.Nat.{ℕ, zero, suc, _≤_, _<_}
 use native.Mathlib.Omega.{arith}
 use lib.Dec.{T, ltb, ltb→lt}
 use borrow.Author.Tests.{ltb-true, ltb-false}
 use lib.ListN.{length, take, drop, take-append-drop}
 use lib.Seq.{take-take}
+use Rattle.laws.proofs.TestLaws.{true-neq-false, none-neq-some}
 use Rattle.json.specs.Bytes.{within, isBlank}
 use Rattle.json.specs.Numbers.{isDigit1-9}
 use Rattle.json.specs.Strings.{line-feed}
-use Rattle.json.specs.Tree.{Json, null-word}
+use Rattle.json.specs.Tree.{null-word}
 use Rattle.json.specs.Meaning.{Meaning, fold}
 use Rattle.json.specs.Grammar.{spelling, Text, Begins, FaultAt}
-use Rattle.json.specs.Classes.{classOf, isBreak, isStructure}
 use Rattle.json.specs.Lexer.{bitsAfter, highAfter, hexOf, unescape, wordOf, letterMove, valueStart, atValue, atFirstElement, atFirstKey, atKey, atColon, afterElement, afterPair}
-use Rattle.json.specs.Machine.{later, Stack, bare, whole, in-array, in-object, finish, Token, State, fault, at, start, step, run, isFault, result, Accepts, placeFrom}
+use Rattle.json.specs.Machine.{later, Stack, bare, whole, in-array, in-object, finish, Token, State, fault, at, start, step, run, isFault, Accepts, placeFrom}
 use Rattle.json.specs.declared.string.StringMode.{StringMode}
 use Rattle.json.specs.declared.string.StringMode.the-variants as S
 use Rattle.json.specs.declared.number.NumberMode.{NumberMode}
@@ -30,7 +30,7 @@ use Rattle.json.proofs.ByteLaws.{follow-append}
 use Rattle.json.proofs.NumberLaws.{NumberFrom, Completed, completed, complete-number}
 use Rattle.json.proofs.StringLaws.{Goes, Ends, second-E0, second-ED, second-F0, second-F4, tail-2, tail-3, digit-1, digit-2, digit-2-below, digit-3, high-3, high-4, low-backslash, low-u, low-1, low-2, low-3, after-backslash, digit-4, low-4, tail-1}
 use Rattle.json.proofs.CharLaws.{Continues, closes, goes, ends}
-use Rattle.json.proofs.Accepted.{no-result, fault-accepts-none, Behind, text-run, key-run, number-run, accepted-of-text}
+use Rattle.json.proofs.Accepted.{fault-accepts-none, Behind, text-run, key-run, number-run, accepted-of-text}
 use Rattle.json.proofs.Proper.{Opened, Begun, Proper, proper-step}
 use Rattle.json.proofs.Sound.{Reads, reads, text-of-accepted}
 
@@ -126,7 +126,7 @@ module _ (r : List ℕ) where
   complete-string S.SecondF4 = more {b = 0x80} (second-F4 tt) from-tail2
 
 module _ (𝕄 : Meaning) where
-  open Meaning 𝕄 using (Result, InString, InObject, of-word, string-char, of-string, number-byte, of-number, array-element, of-array, object-key, object-value, of-object)
+  open Meaning 𝕄 using (Result, InObject, of-word, string-char, of-string, number-byte, of-number, array-element, of-array, object-key, object-value, of-object)
 
   -- ---- every open value can be closed
 
@@ -191,37 +191,33 @@ module _ (𝕄 : Meaning) where
     hope-by : (q : State 𝕄) (b : ℕ) → Hope (step 𝕄 q b) → Hope q
     hope-by q b (hope s w x) = hope (b ∷ s) w x
 
+    -- behind a finished value
+    hope-behind : (k : Stack 𝕄) (v : Result) → Hope (at (M.At P.After) g (finish 𝕄 v k))
+    hope-behind k v = go (close-all k v)
+      where
+        go : Closes (finish 𝕄 v k) (closing k) → Hope (at (M.At P.After) g (finish 𝕄 v k))
+        go (closes-with w x) = hope (closing k) w (x g)
+
     hope-first : (k : Stack 𝕄) → Opened 𝕄 k → Hope (at (M.At P.First) g k)
     unfolding step atFirstElement atFirstKey isBlank
     hope-first bare h = absurd h
     hope-first (whole w) h = absurd h
-    hope-first (in-array a k) h = go (close-all k (of-array a))
-      where
-        go : Closes (finish 𝕄 (of-array a) k) (closing k) → Hope (at (M.At P.First) g (in-array a k))
-        go (closes-with w x) = hope (0x5D ∷ closing k) w (x g)
-    hope-first (in-object o k) h = go (close-all k (of-object o))
-      where
-        go : Closes (finish 𝕄 (of-object o) k) (closing k) → Hope (at (M.At P.First) g (in-object o k))
-        go (closes-with w x) = hope (0x7D ∷ closing k) w (x g)
+    hope-first (in-array a k) h = hope-by (at (M.At P.First) g (in-array a k)) 0x5D (hope-behind k (of-array a))
+    hope-first (in-object o k) h = hope-by (at (M.At P.First) g (in-object o k)) 0x7D (hope-behind k (of-object o))
 
     hope-after : (k : Stack 𝕄) → Begun 𝕄 k → Hope (at (M.At P.After) g k)
     unfolding step afterElement afterPair isBlank
     hope-after bare h = absurd h
     hope-after (whole w) h = hope [] w refl
-    hope-after (in-array a k) h = go (close-all k (of-array a))
-      where
-        go : Closes (finish 𝕄 (of-array a) k) (closing k) → Hope (at (M.At P.After) g (in-array a k))
-        go (closes-with w x) = hope (0x5D ∷ closing k) w (x g)
-    hope-after (in-object o k) h = go (close-all k (of-object o))
-      where
-        go : Closes (finish 𝕄 (of-object o) k) (closing k) → Hope (at (M.At P.After) g (in-object o k))
-        go (closes-with w x) = hope (0x7D ∷ closing k) w (x g)
+    hope-after (in-array a k) h = hope-by (at (M.At P.After) g (in-array a k)) 0x5D (hope-behind k (of-array a))
+    hope-after (in-object o k) h = hope-by (at (M.At P.After) g (in-object o k)) 0x7D (hope-behind k (of-object o))
 
     hope-text : (m : StringMode) (k : Stack 𝕄) → Hope (at (M.Text m) g k)
     unfolding FromMode
     hope-text m k = go (complete-string (closing k) m (g .bits) (g .high))
       where
-        ended : {s cs : List ℕ} → Continues m (g .bits) (g .high) s cs (closing k) → Closes (finish 𝕄 (of-string (fold string-char (g .string) cs)) k) (closing k) → Hope (at (M.Text m) g k)
+        ended : {s cs : List ℕ} → Continues m (g .bits) (g .high) s cs (closing k)
+            → Closes (finish 𝕄 (of-string (fold string-char (g .string) cs)) k) (closing k) → Hope (at (M.Text m) g k)
         ended {s} c (closes-with w x) = hope s w (text-run 𝕄 k g c x)
 
         go : CompletedString m (g .bits) (g .high) (closing k) → Hope (at (M.Text m) g k)
@@ -230,7 +226,8 @@ module _ (𝕄 : Meaning) where
     hope-number : (n : NumberMode) (k : Stack 𝕄) → Hope (at (M.Number n) g k)
     hope-number n k = go (complete-number n)
       where
-        ended : {ds : List ℕ} → NumberFrom n ds → Closes (finish 𝕄 (of-number (fold number-byte (g .number) ds)) k) (closing k) → Hope (at (M.Number n) g k)
+        ended : {ds : List ℕ} → NumberFrom n ds → Closes (finish 𝕄 (of-number (fold number-byte (g .number) ds)) k) (closing k)
+            → Hope (at (M.Number n) g k)
         ended {ds} d (closes-with w x) = hope (ds ++ closing k) w (number-run 𝕄 k g d (follow-append ds (closing k)) x)
 
         go : Completed n → Hope (at (M.Number n) g k)
@@ -266,10 +263,7 @@ module _ (𝕄 : Meaning) where
   hope-key g o k = hope-by g (at (M.At P.Key) g (in-object o k)) 0x22 (hope-in-key _ S.Char o k)
 
   hope-of-proper : (q : State 𝕄) → isFault 𝕄 q ≡ false → Proper 𝕄 q → Hope q
-  hope-of-proper fault e h = no-false e
-    where
-      no-false : {X : Type 0} → true ≡ false → X
-      no-false e = let z : _≡_ {A = ℕ} 0 1 = cc in absurd (omega arith)
+  hope-of-proper fault e h = true-neq-false e
   hope-of-proper (at (M.At P.Value) g k) e h = hope-value g k
   hope-of-proper (at (M.At P.First) g k) e h = hope-first g k h
   hope-of-proper (at (M.At P.Key) g bare) e h = absurd h
@@ -327,12 +321,12 @@ module _ (𝕄 : Meaning) where
     place-later e = rw e
 
   some-of-later : (o : Option ℕ) (i : ℕ) → later o ≡ some i → (j : ℕ) × (i ≡ suc j) × (o ≡ some j)
-  some-of-later none i e = no-result e
+  some-of-later none i e = none-neq-some e
   some-of-later (some j) i e = (j, cc, refl)
 
   none-of-later : (o : Option ℕ) → later o ≡ none → o ≡ none
   none-of-later none e = refl
-  none-of-later (some j) e = no-result (sym e)
+  none-of-later (some j) e = none-neq-some (sym e)
 
   -- the machine comes to a fault with byte i
   record Stops (q : State 𝕄) (s : List ℕ) (i : ℕ) : Type 0 where
@@ -342,7 +336,7 @@ module _ (𝕄 : Meaning) where
 
   stops-of-place : (s : List ℕ) (q : State 𝕄) (i : ℕ) → isFault 𝕄 q ≡ false → placeFrom 𝕄 q s ≡ some i → Stops q s i
   unfolding placeFrom
-  stops-of-place [] q i d e = no-result e
+  stops-of-place [] q i d e = none-neq-some e
   stops-of-place (b ∷ s) q i d e = go (λ j. stops-of-place s (step 𝕄 q b) j) (isFault 𝕄 (step 𝕄 q b)) refl
     where
       go : ((j : ℕ) → isFault 𝕄 (step 𝕄 q b) ≡ false → placeFrom 𝕄 (step 𝕄 q b) s ≡ some j → Stops (step 𝕄 q b) s j)
@@ -359,11 +353,8 @@ module _ (𝕄 : Meaning) where
     where
       go : (isFault 𝕄 (step 𝕄 q b) ≡ false → placeFrom 𝕄 (step 𝕄 q b) s ≡ none → isFault 𝕄 (run 𝕄 (step 𝕄 q b) s) ≡ false)
           → (v : Bool) → isFault 𝕄 (step 𝕄 q b) ≡ v → isFault 𝕄 (run 𝕄 (step 𝕄 q b) s) ≡ false
-      go ih true f = no-result {A = ℕ} (sym e ∙ place-here q b s f)
+      go ih true f = none-neq-some {A = ℕ} (sym e ∙ place-here q b s f)
       go ih false f = ih f (none-of-later _ (sym (place-later q b s f) ∙ e))
-
-  true-and-false : {v : Bool} {X : Type 0} → v ≡ false → v ≡ true → X
-  true-and-false e f = let z : _≡_ {A = ℕ} 0 1 = cc in absurd (omega arith)
 
   -- where the machine finds a fault is the fault place
   pub faultAt-of-place : (p : List ℕ) (i : ℕ) → placeFrom 𝕄 (start 𝕄) p ≡ some i → FaultAt p i
@@ -372,7 +363,7 @@ module _ (𝕄 : Meaning) where
       record {
         inside = r .inside;
         before = begins-of-alive (take i p) (r .before);
-        behind = λ b. true-and-false (alive-of-begins (take (suc i) p) b) (r .behind);
+        behind = λ b. true-neq-false (sym (r .behind) ∙ alive-of-begins (take (suc i) p) b);
       }
 
   -- where it finds none, some text begins with the bytes

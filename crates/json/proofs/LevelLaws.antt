@@ -1,6 +1,6 @@
 -- The machine's stack is the list of open levels: `depth-of-run`. What the scan of brackets knows can be read off the machine's state, and a
 -- step that is no fault keeps it so. Assumes nothing.
-use mathlib.Core.Bool.{Bool, true, false, not, cond, _||_}
+use mathlib.Core.Bool.{Bool, true, false, _||_}
 use mathlib.Core.List.{List, [], _∷_}
 use mathlib.Core.Path.{_≡_, refl, sym, _∙_, ap}
 use Prim.Native.Nat.{ℕ, zero, suc, _+_, _-_, _≤_, _<_}
@@ -8,16 +8,15 @@ use native.Mathlib.Omega.{arith}
 use lib.Dec.{T, eqb, ltb, eqb→eq, ltb→lt}
 use lib.ListN.{length, getD}
 use borrow.Author.Tests.{ne-eqb}
-use Rattle.laws.proofs.TestLaws.{T-or-elim, cond-elim, cond-byte}
+use Rattle.laws.proofs.TestLaws.{T-or-elim, cond-elim, cond-byte, true-neq-false}
 use Rattle.json.specs.Bytes.{within, isBlank}
-use Rattle.json.specs.Utf8.{isTail}
 use Rattle.json.specs.Numbers.{isDigit, isDigit1-9, isE}
 use Rattle.json.specs.Strings.{isUnescaped}
 use Rattle.json.specs.Meaning.{Meaning}
 use Rattle.json.specs.Grammar.{spelling}
 use Rattle.json.specs.Levels.{isOpening, isClosing, Scan, outside, in-string, in-escape, scanByte, scan, levelsOf, openLevels}
-use Rattle.json.specs.Lexer.{hexOf, stringMove, numberMove, letterMove, wordOf, valueStart, atValue, atFirstElement, atFirstKey, atKey, atColon, afterRoot, afterElement, afterPair, afterValue, keyStep, textStep, numberStep, wordStep}
-use Rattle.json.specs.Machine.{Stack, bare, whole, in-array, in-object, topOf, depth, finish, Token, State, fault, at, start, gather, charIn, take, step, run, isFault, depthOf}
+use Rattle.json.specs.Lexer.{hexOf, letterMove, wordOf, valueStart, atValue, atFirstElement, atFirstKey, atKey, atColon, afterRoot, afterElement, afterPair, afterValue, keyStep, textStep, numberStep, wordStep}
+use Rattle.json.specs.Machine.{Stack, bare, whole, in-array, in-object, topOf, depth, finish, Token, State, fault, at, start, take, step, run, isFault, depthOf}
 use Rattle.json.specs.declared.string.StringMode.{StringMode}
 use Rattle.json.specs.declared.string.StringMode.the-variants as S
 use Rattle.json.specs.declared.string.StringMove.{StringMove}
@@ -26,7 +25,6 @@ use Rattle.json.specs.declared.number.NumberMove.{NumberMove}
 use Rattle.json.specs.declared.word.Word.{Word}
 use Rattle.json.specs.declared.word.Word.the-variants as W
 use Rattle.json.specs.declared.word.WordMove.{WordMove}
-use Rattle.json.specs.declared.word.WordMove.the-variants as WM
 use Rattle.json.specs.declared.lexer.Place.{Place}
 use Rattle.json.specs.declared.lexer.Place.the-variants as P
 use Rattle.json.specs.declared.lexer.Mode.{Mode}
@@ -228,9 +226,6 @@ scanAt (M.Text s) n = stringScan s n
 scanAt (M.Number x) n = outside n
 scanAt (M.Word w i) n = outside n
 
-no-false : {X : Type 0} → true ≡ false → X
-no-false e = let z : _≡_ {A = ℕ} 0 1 = cc in absurd (omega arith)
-
 module _ (𝕄 : Meaning) where
   open Meaning 𝕄 using (Result, of-number, of-array, of-object)
 
@@ -263,20 +258,21 @@ module _ (𝕄 : Meaning) where
         cond-byte Q b 0x22 (λ _. refl) (cond-byte Q b 0x5B (λ _. opened (depth 𝕄 k)) (cond-byte Q b 0x7B (λ _. opened (depth 𝕄 k))
         (cond-elim (Q b) (isDigit1-9 b) (λ h _. digit1-9-outside (depth 𝕄 k) b h) (λ _.
         cond-byte Q b 0x30 (λ _. refl) (cond-byte Q b 0x2D (λ _. refl) (cond-byte Q b 0x6E (λ _. refl) (cond-byte Q b 0x74 (λ _. refl)
-        (cond-byte Q b 0x66 (λ _. refl) no-false))))))))
+        (cond-byte Q b 0x66 (λ _. refl) true-neq-false))))))))
 
     after-kept : (k : Stack 𝕄) (b : ℕ) → Kept (outside (depth 𝕄 k)) b (take 𝕄 (afterValue (topOf 𝕄 k) b) 0 b g g k)
     unfolding afterRoot afterElement afterPair scanOf scanAt scanByte isOpening isClosing
-    after-kept bare b = cond-elim (λ st. Kept (outside 0) b (take 𝕄 st 0 b g g bare)) (isBlank b) (λ h _. blank-outside 0 b h) (λ _. no-false)
-    after-kept (whole w) b = cond-elim (λ st. Kept (outside 0) b (take 𝕄 st 0 b g g (whole w))) (isBlank b) (λ h _. blank-outside 0 b h) (λ _. no-false)
+    after-kept bare b = cond-elim (λ st. Kept (outside 0) b (take 𝕄 st 0 b g g bare)) (isBlank b) (λ h _. blank-outside 0 b h) (λ _. true-neq-false)
+    after-kept (whole w) b =
+        cond-elim (λ st. Kept (outside 0) b (take 𝕄 st 0 b g g (whole w))) (isBlank b) (λ h _. blank-outside 0 b h) (λ _. true-neq-false)
     after-kept (in-array a k) b =
         let Q : ℕ → Step → Type 0 = λ b st. Kept (outside (suc (depth 𝕄 k))) b (take 𝕄 st 0 b g g (in-array a k)) in
         cond-elim (Q b) (isBlank b) (λ h _. blank-outside (suc (depth 𝕄 k)) b h) (λ _.
-        cond-byte Q b 0x2C (λ _. refl) (cond-byte Q b 0x5D (λ _. closed (of-array a) k) no-false))
+        cond-byte Q b 0x2C (λ _. refl) (cond-byte Q b 0x5D (λ _. closed (of-array a) k) true-neq-false))
     after-kept (in-object o k) b =
         let Q : ℕ → Step → Type 0 = λ b st. Kept (outside (suc (depth 𝕄 k))) b (take 𝕄 st 0 b g g (in-object o k)) in
         cond-elim (Q b) (isBlank b) (λ h _. blank-outside (suc (depth 𝕄 k)) b h) (λ _.
-        cond-byte Q b 0x2C (λ _. refl) (cond-byte Q b 0x7D (λ _. closed (of-object o) k) no-false))
+        cond-byte Q b 0x2C (λ _. refl) (cond-byte Q b 0x7D (λ _. closed (of-object o) k) true-neq-false))
 
     place-kept : (p : Place) (k : Stack 𝕄) (b : ℕ) → ProperAt 𝕄 (M.At p) k → Kept (outside (depth 𝕄 k)) b (step 𝕄 (at (M.At p) g k) b)
     unfolding step atValue atFirstElement atFirstKey atKey atColon scanOf scanAt stringScan scanByte isOpening isClosing
@@ -291,19 +287,19 @@ module _ (𝕄 : Meaning) where
     place-kept P.First (in-object o k) b h =
         let Q : ℕ → Step → Type 0 = λ b st. Kept (outside (suc (depth 𝕄 k))) b (take 𝕄 st 0 b g g (in-object o k)) in
         cond-elim (Q b) (isBlank b) (λ h _. blank-outside (suc (depth 𝕄 k)) b h) (λ _.
-        cond-byte Q b 0x7D (λ _. closed (of-object o) k) (cond-byte Q b 0x22 (λ _. refl) no-false))
+        cond-byte Q b 0x7D (λ _. closed (of-object o) k) (cond-byte Q b 0x22 (λ _. refl) true-neq-false))
     place-kept P.Key k b h =
         let Q : ℕ → Step → Type 0 = λ b st. Kept (outside (depth 𝕄 k)) b (take 𝕄 st 0 b g g k) in
-        cond-elim (Q b) (isBlank b) (λ h _. blank-outside (depth 𝕄 k) b h) (λ _. cond-byte Q b 0x22 (λ _. refl) no-false)
+        cond-elim (Q b) (isBlank b) (λ h _. blank-outside (depth 𝕄 k) b h) (λ _. cond-byte Q b 0x22 (λ _. refl) true-neq-false)
     place-kept P.Colon k b h =
         let Q : ℕ → Step → Type 0 = λ b st. Kept (outside (depth 𝕄 k)) b (take 𝕄 st 0 b g g k) in
-        cond-elim (Q b) (isBlank b) (λ h _. blank-outside (depth 𝕄 k) b h) (λ _. cond-byte Q b 0x3A (λ _. refl) no-false)
+        cond-elim (Q b) (isBlank b) (λ h _. blank-outside (depth 𝕄 k) b h) (λ _. cond-byte Q b 0x3A (λ _. refl) true-neq-false)
     place-kept P.After k b h = after-kept k b
 
     text-kept : {m : StringMode} {b : ℕ} {y : StringMove} (k : Stack 𝕄) (c : ℕ) (e : Token 𝕄) → String.Moved m b y
         → Kept (stringScan m (depth 𝕄 k)) b (take 𝕄 (textStep y) c b g e k)
     unfolding scanOf scanAt stringScan scanByte
-    text-kept k c e String.moved-fault f = no-false f
+    text-kept k c e String.moved-fault f = true-neq-false f
     text-kept k c e String.moved-close f = ap outside (sym (depth-finish _ k))
     text-kept k c e (String.moved-go z) f = goes-in-string (depth 𝕄 k) z
     text-kept k c e (String.moved-char z) f = ends-in-string (depth 𝕄 k) z
@@ -311,7 +307,7 @@ module _ (𝕄 : Meaning) where
     key-kept : {m : StringMode} {b : ℕ} {y : StringMove} (k : Stack 𝕄) (c : ℕ) (e : Token 𝕄) → String.Moved m b y
         → Kept (stringScan m (depth 𝕄 k)) b (take 𝕄 (keyStep y) c b g e k)
     unfolding scanOf scanAt stringScan scanByte
-    key-kept k c e String.moved-fault f = no-false f
+    key-kept k c e String.moved-fault f = true-neq-false f
     key-kept bare c e String.moved-close f = refl
     key-kept (whole w) c e String.moved-close f = refl
     key-kept (in-array a k) c e String.moved-close f = refl
@@ -322,19 +318,21 @@ module _ (𝕄 : Meaning) where
     number-kept : {n : NumberMode} {b : ℕ} {y : NumberMove} (k : Stack 𝕄) → Number.Moved n b y
         → Kept (outside (depth 𝕄 k)) b (take 𝕄 (numberStep y (topOf 𝕄 k) b) 0 b g g k)
     unfolding scanOf scanAt
-    number-kept k Number.moved-fault f = no-false f
+    number-kept k Number.moved-fault f = true-neq-false f
     number-kept k (Number.moved-go z) f = number-outside (depth 𝕄 k) z
     number-kept {b} k (Number.moved-end h) f =
         let v : Result = of-number (g .number) in
         let x = after-kept (finish 𝕄 v k) b in
         (rw (topOf-finish 𝕄 v k, ends-none (topOf 𝕄 k) b, depth-finish v k) at x) f
 
-    word-kept : (w : Word) (i : ℕ) (k : Stack 𝕄) (b : ℕ) → Kept (outside (depth 𝕄 k)) b (take 𝕄 (wordStep (letterMove (spelling (wordOf w)) i b) w i) 0 b g g k)
+    word-kept : (w : Word) (i : ℕ) (k : Stack 𝕄) (b : ℕ)
+        → Kept (outside (depth 𝕄 k)) b (take 𝕄 (wordStep (letterMove (spelling (wordOf w)) i b) w i) 0 b g g k)
     unfolding letterMove scanOf scanAt
     word-kept w i k b =
         let Q : WordMove → Type 0 = λ m. Kept (outside (depth 𝕄 k)) b (take 𝕄 (wordStep m w i) 0 b g g k) in
         cond-elim Q (ltb i (length l)) (λ h. cond-elim Q (eqb b (getD l i 0))
-        (λ e. cond-elim Q (ltb (i + 1) (length l)) (λ _ _. letter h e) (λ _ _. letter h e ∙ ap outside (sym (depth-finish _ k)))) (λ _. no-false)) (λ _. no-false)
+        (λ e. cond-elim Q (ltb (i + 1) (length l)) (λ _ _. letter h e) (λ _ _. letter h e ∙ ap outside (sym (depth-finish _ k))))
+        (λ _. true-neq-false)) (λ _. true-neq-false)
       where
         l : List ℕ
         l = spelling (wordOf w)
@@ -344,7 +342,7 @@ module _ (𝕄 : Meaning) where
 
   step-kept : (q : State 𝕄) (b : ℕ) → Proper 𝕄 q → isFault 𝕄 q ≡ false → Kept (scanOf q) b (step 𝕄 q b)
   unfolding step scanOf scanAt
-  step-kept fault b h e = no-false e
+  step-kept fault b h e = true-neq-false e
   step-kept (at (M.At p) g k) b h e = place-kept g p k b h
   step-kept (at (M.Key m) g k) b h e = key-kept g k _ _ (String.moved m b)
   step-kept (at (M.Text m) g k) b h e = text-kept g k _ _ (String.moved m b)
@@ -356,15 +354,16 @@ module _ (𝕄 : Meaning) where
   unfolding step
   fault-stays [] q e = e
   fault-stays (b ∷ p) fault e = fault-stays p fault e
-  fault-stays (b ∷ p) (at m g k) e = no-false (sym e)
+  fault-stays (b ∷ p) (at m g k) e = true-neq-false (sym e)
 
   scan-run : (p : List ℕ) (q : State 𝕄) → Proper 𝕄 q → isFault 𝕄 q ≡ false → isFault 𝕄 (run 𝕄 q p) ≡ false → scan (scanOf q) p ≡ scanOf (run 𝕄 q p)
   scan-run [] q h e f = refl
   scan-run (b ∷ p) q h e f = go (isFault 𝕄 (step 𝕄 q b)) refl (scan-run p (step 𝕄 q b) (proper-step 𝕄 q b h))
     where
-      go : (v : Bool) → isFault 𝕄 (step 𝕄 q b) ≡ v → (isFault 𝕄 (step 𝕄 q b) ≡ false → isFault 𝕄 (run 𝕄 (step 𝕄 q b) p) ≡ false → scan (scanOf (step 𝕄 q b)) p ≡ scanOf (run 𝕄 (step 𝕄 q b) p))
+      go : (v : Bool) → isFault 𝕄 (step 𝕄 q b) ≡ v
+          → (isFault 𝕄 (step 𝕄 q b) ≡ false → isFault 𝕄 (run 𝕄 (step 𝕄 q b) p) ≡ false → scan (scanOf (step 𝕄 q b)) p ≡ scanOf (run 𝕄 (step 𝕄 q b) p))
           → scan (scanByte (scanOf q) b) p ≡ scanOf (run 𝕄 (step 𝕄 q b) p)
-      go true v ih = no-false (sym (fault-stays p (step 𝕄 q b) v) ∙ f)
+      go true v ih = true-neq-false (sym (fault-stays p (step 𝕄 q b) v) ∙ f)
       go false v ih = rw (step-kept q b h e v) (ih v f)
 
   levels-of-scan : (q : State 𝕄) → levelsOf (scanOf q) ≡ depthOf 𝕄 q

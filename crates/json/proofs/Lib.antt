@@ -1,3 +1,4 @@
+pub mod MeaningLaws
 pub mod ByteLaws
 pub mod NumberLaws
 pub mod StringLaws
@@ -7,4 +8,6 @@ pub mod Phrases
 pub mod Proper
 pub mod Sound
 pub mod Faults
+pub mod TreeLaws
 pub mod LevelLaws
+pub mod Examples

@@ -1,10 +1,9 @@
 -- Numbers by the lexer's modes are the grammar's numbers: `number-of-from`, `from-of-number`. Assumes nothing.
-use mathlib.Core.Bool.{Bool, not, cond, _||_}
+use mathlib.Core.Bool.{not}
 use mathlib.Core.List.{List, [], _∷_, _++_}
 use mathlib.Core.Path.{_≡_, refl}
-use Prim.Native.Nat.{ℕ, _≤_}
-use native.Mathlib.Omega.{arith}
-use lib.Dec.{T, eqb, not-T, eqb→eq}
+use Prim.Native.Nat.{ℕ}
+use lib.Dec.{T, eqb, eqb→eq}
 use Rattle.laws.proofs.TestLaws.{T-or-elim, cond-elim, cond-yes, cond-no, cond-byte}
 use Rattle.json.specs.Bytes.{within}
 use Rattle.json.specs.Numbers.{isDigit, isDigit1-9, isE, Digits, no-digits, digits, SomeDigits, some-digits, Minus, no-minus, minus, Int, zero, int, Frac, no-frac, frac, Sign, no-sign, minus-sign, plus-sign, Exp, no-exp, exp, Number, number}
@@ -13,7 +12,6 @@ use Rattle.json.specs.declared.number.NumberMode.{NumberMode}
 use Rattle.json.specs.declared.number.NumberMode.the-variants as N
 use Rattle.json.specs.declared.number.NumberMove.{NumberMove}
 use Rattle.json.specs.declared.number.NumberMove.the-variants as NM
-use Rattle.json.proofs.ByteLaws.{high-of-within}
 
 -- ---- the moves that stay in a number
 
@@ -61,13 +59,13 @@ unfolding afterMinus afterZero afterInt afterFrac afterE afterExp digitOnly orEx
 move-of-goes (minus-int {b} h) = cond-yes (λ x. x ≡ NM.Go N.Int) (isDigit1-9 b) _ h refl
 move-of-goes minus-zero = refl
 move-of-goes zero-dot = refl
-move-of-goes (zero-e {b} h) = e-elim (λ (x : ℕ). afterZero x ≡ NM.Go N.E) refl refl b h
+move-of-goes (zero-e {b} h) = e-elim (λ (x : ℕ). numberMove N.Zero x ≡ NM.Go N.E) refl refl b h
 move-of-goes (int-digit {b} h) = cond-yes (λ x. x ≡ NM.Go N.Int) (isDigit b) _ h refl
 move-of-goes int-dot = refl
-move-of-goes (int-e {b} h) = e-elim (λ (x : ℕ). afterInt x ≡ NM.Go N.E) refl refl b h
+move-of-goes (int-e {b} h) = e-elim (λ (x : ℕ). numberMove N.Int x ≡ NM.Go N.E) refl refl b h
 move-of-goes (dot-digit {b} h) = cond-yes (λ x. x ≡ NM.Go N.Frac) (isDigit b) _ h refl
 move-of-goes (frac-digit {b} h) = cond-yes (λ x. x ≡ NM.Go N.Frac) (isDigit b) _ h refl
-move-of-goes (frac-e {b} h) = e-elim (λ (x : ℕ). afterFrac x ≡ NM.Go N.E) refl refl b h
+move-of-goes (frac-e {b} h) = e-elim (λ (x : ℕ). numberMove N.Frac x ≡ NM.Go N.E) refl refl b h
 move-of-goes (e-digit {b} h) = cond-yes (λ x. x ≡ NM.Go N.Exp) (isDigit b) _ h refl
 move-of-goes e-plus = refl
 move-of-goes e-minus = refl
@@ -86,7 +84,8 @@ or-exp-moved n b h g = cond-elim (Moved n b) (isE b) (λ e. moved-go (g e)) (λ 
 
 pub moved : (n : NumberMode) (b : ℕ) → Moved n b (numberMove n b)
 unfolding afterMinus afterZero afterInt afterFrac afterE afterExp digitOnly
-moved N.Minus b = cond-elim (Moved _ b) (isDigit1-9 b) (λ h. moved-go (minus-int h)) (λ _. cond-byte (Moved N.Minus) b 0x30 (moved-go minus-zero) moved-fault)
+moved N.Minus b =
+    cond-elim (Moved _ b) (isDigit1-9 b) (λ h. moved-go (minus-int h)) (λ _. cond-byte (Moved N.Minus) b 0x30 (moved-go minus-zero) moved-fault)
 moved N.Zero b = cond-byte (Moved N.Zero) b 0x2E (moved-go zero-dot) (or-exp-moved N.Zero b tt zero-e)
 moved N.Int b =
     cond-elim (Moved _ b) (isDigit b) (λ h. moved-go (int-digit h)) (λ _.
@@ -105,17 +104,16 @@ pub record Separates (b : ℕ) : Type 0 where
   pub no-dot : T (not (eqb b 0x2E))
   pub no-e : T (not (isE b))
 
+end-after-zero : (b : ℕ) → Separates b → afterZero b ≡ NM.End
+unfolding afterZero orExp
+end-after-zero b x = cond-no (λ m. m ≡ NM.End) (eqb b 0x2E) _ (x .no-dot) (cond-no (λ m. m ≡ NM.End) (isE b) _ (x .no-e) refl)
+
 -- a number that may end does so before such a byte
 pub end-of-separates : (n : NumberMode) (b : ℕ) → T (mayEnd n) → Separates b → numberMove n b ≡ NM.End
-unfolding afterZero afterInt afterFrac afterExp orExp
+unfolding afterInt afterFrac afterExp orExp
 end-of-separates N.Minus b h x = absurd h
-end-of-separates N.Zero b h x = no-dot-no-e b x
-  where
-    no-dot-no-e : (b : ℕ) → Separates b → afterZero b ≡ NM.End
-    no-dot-no-e b x = cond-no (λ m. m ≡ NM.End) (eqb b 0x2E) _ (x .no-dot) (cond-no (λ m. m ≡ NM.End) (isE b) _ (x .no-e) refl)
-end-of-separates N.Int b h x =
-    cond-no (λ m. m ≡ NM.End) (isDigit b) _ (x .no-digit)
-    (cond-no (λ m. m ≡ NM.End) (eqb b 0x2E) _ (x .no-dot) (cond-no (λ m. m ≡ NM.End) (isE b) _ (x .no-e) refl))
+end-of-separates N.Zero b h x = end-after-zero b x
+end-of-separates N.Int b h x = cond-no (λ m. m ≡ NM.End) (isDigit b) _ (x .no-digit) (end-after-zero b x)
 end-of-separates N.Dot b h x = absurd h
 end-of-separates N.Frac b h x = cond-no (λ m. m ≡ NM.End) (isDigit b) _ (x .no-digit) (cond-no (λ m. m ≡ NM.End) (isE b) _ (x .no-e) refl)
 end-of-separates N.E b h x = absurd h

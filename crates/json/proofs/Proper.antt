@@ -1,8 +1,7 @@
 -- The states that the machine comes to: a key is read in an object, behind an opening byte something is open, behind a value something was
 -- finished, and a word has letters left. Every step keeps this. Assumes nothing.
-use mathlib.Core.Bool.{Bool, true, false, not, cond}
-use mathlib.Core.List.{List, [], _∷_}
-use mathlib.Core.Path.{_≡_, refl}
+use mathlib.Core.Bool.{true}
+use mathlib.Core.List.{List}
 use Prim.Native.Nat.{ℕ, _+_}
 use lib.Dec.{T, eqb, ltb}
 use lib.ListN.{length, getD}
@@ -12,16 +11,13 @@ use Rattle.json.specs.Numbers.{isDigit1-9}
 use Rattle.json.specs.Meaning.{Meaning}
 use Rattle.json.specs.Grammar.{spelling}
 use Rattle.json.specs.Lexer.{stringMove, numberMove, letterMove, valueStart, atValue, atFirstElement, atFirstKey, atKey, atColon, afterRoot, afterElement, afterPair, afterValue, keyStep, textStep, numberStep, wordStep, wordOf}
-use Rattle.json.specs.Machine.{Stack, bare, whole, in-array, in-object, topOf, finish, Token, State, fault, at, start, gather, charIn, take, step}
-use Rattle.json.specs.declared.string.StringMode.{StringMode}
+use Rattle.json.specs.Machine.{Stack, bare, whole, in-array, in-object, topOf, finish, Token, State, fault, at, gather, charIn, take, step}
 use Rattle.json.specs.declared.string.StringMove.{StringMove}
 use Rattle.json.specs.declared.string.StringMove.the-variants as SM
-use Rattle.json.specs.declared.number.NumberMode.{NumberMode}
 use Rattle.json.specs.declared.number.NumberMove.{NumberMove}
 use Rattle.json.specs.declared.number.NumberMove.the-variants as NM
 use Rattle.json.specs.declared.word.Word.{Word}
 use Rattle.json.specs.declared.word.WordMove.{WordMove}
-use Rattle.json.specs.declared.word.WordMove.the-variants as WM
 use Rattle.json.specs.declared.lexer.Place.{Place}
 use Rattle.json.specs.declared.lexer.Place.the-variants as P
 use Rattle.json.specs.declared.lexer.Mode.{Mode}

@@ -1,47 +1,42 @@
 -- What the machine accepts is a text of the grammar with that meaning: `text-of-accepted`. What may follow a state is said by the phrases of
 -- its mode and stack; a step back keeps it. Assumes nothing.
-use mathlib.Core.Bool.{Bool, true, false, not, cond}
-use mathlib.Core.List.{List, [], _∷_, _++_}
-use mathlib.Core.Option.{Option, none, some}
+use mathlib.Core.Bool.{not}
+use mathlib.Core.List.{List, [], _∷_}
+use mathlib.Core.Option.{some}
 use mathlib.Core.Path.{_≡_, refl, sym, _∙_, ap, subst}
-use Prim.Native.Nat.{ℕ, zero, suc, _+_, _≤_, _<_}
+use Prim.Native.Nat.{ℕ, zero, suc, _+_, _≤_}
 use native.Mathlib.Numerals.{add-one}
 use native.Mathlib.Omega.{arith}
 use lib.Dec.{T, eqb, ltb, eqb→eq, ltb→lt, nltb→le}
-use lib.ListN.{length, getD, drop, length-drop}
+use lib.ListN.{length, getD, drop}
 use lib.Seq.{drop-cons, drop-nil}
-use Rattle.laws.proofs.TestLaws.{cond-elim, cond-byte, T-of-true}
-use Rattle.json.specs.Bytes.{within, isBlank, Follow, follow-none, follow}
+use Rattle.laws.proofs.TestLaws.{cond-elim, cond-byte, none-neq-some}
+use Rattle.json.specs.Bytes.{isBlank, Follow, follow-none, follow}
 use Rattle.json.specs.Numbers.{isDigit1-9, Number}
 use Rattle.json.specs.Strings.{Chars}
-use Rattle.json.specs.Tree.{Word, null-word, true-word, false-word, Json, Values, Pairs, word, string, number, array, object, no-values, values, no-pairs, pairs}
+use Rattle.json.specs.Tree.{Word, Json, Values, Pairs, string, number, pairs}
 use Rattle.json.specs.Meaning.{Meaning, fold, meaning, elements, members}
 use Rattle.json.specs.Grammar.{spelling, Text}
-use Rattle.json.specs.Lexer.{stringMove, numberMove, mayEnd, letterMove, valueStart, atValue, atFirstElement, atFirstKey, atKey, atColon, afterRoot, afterElement, afterPair, afterValue, stepTo, stay, keyStep, textStep, numberStep, wordStep, wordOf}
-use Rattle.json.specs.Machine.{Stack, bare, whole, in-array, in-object, topOf, finish, name, Token, State, fault, at, start, gather, charIn, take, step, run, result, wholeOf, atEnd, Accepts}
+use Rattle.json.specs.Lexer.{mayEnd, letterMove, valueStart, atValue, atFirstElement, atFirstKey, atKey, atColon, afterRoot, afterElement, afterPair, afterValue, keyStep, textStep, numberStep, wordStep, wordOf}
+use Rattle.json.specs.Machine.{Stack, bare, whole, in-array, in-object, topOf, finish, Token, State, fault, at, start, withString, withNumber, gather, charIn, take, step, result, wholeOf, Accepts}
 use Rattle.json.specs.declared.string.StringMode.{StringMode}
 use Rattle.json.specs.declared.string.StringMode.the-variants as S
 use Rattle.json.specs.declared.string.StringMove.{StringMove}
-use Rattle.json.specs.declared.string.StringMove.the-variants as SM
 use Rattle.json.specs.declared.number.NumberMode.{NumberMode}
 use Rattle.json.specs.declared.number.NumberMode.the-variants as N
 use Rattle.json.specs.declared.number.NumberMove.{NumberMove}
-use Rattle.json.specs.declared.number.NumberMove.the-variants as NM
 use Rattle.json.specs.declared.word.Word.{Word as LexWord}
 use Rattle.json.specs.declared.word.Word.the-variants as W
 use Rattle.json.specs.declared.word.WordMove.{WordMove}
-use Rattle.json.specs.declared.word.WordMove.the-variants as WM
 use Rattle.json.specs.declared.lexer.Place.{Place}
 use Rattle.json.specs.declared.lexer.Place.the-variants as P
-use Rattle.json.specs.declared.lexer.Mode.{Mode}
 use Rattle.json.specs.declared.lexer.Mode.the-variants as M
-use Rattle.json.specs.declared.lexer.Act.the-variants as A
 use Rattle.json.specs.declared.lexer.Step.{Step}
 use Rattle.json.proofs.NumberLaws.{NumberFrom, ends-here, goes-on, Starts, starts-minus, starts-zero, starts-int, begun, Moved, moved-fault, moved-end, moved-go, moved, number-of-from}
 use Rattle.json.proofs.StringLaws.{Moved as StringMoved, moved-fault as string-fault, moved-close, moved-go as string-go, moved-char, moved as string-moved}
 use Rattle.json.proofs.CharLaws.{Continues, closes, goes, ends, chars-of-continues}
 use Rattle.json.proofs.Phrases.{Ending, ending, blank-ending, FromValue, from-word, from-string, from-number, from-array, from-object, AtValue, blank-value, here-value, AtFirstElement, blank-first, close-first, value-first, AfterElement, blank-element, close-array, comma-element, AtFirstKey, blank-first-key, close-first-key, quote-first-key, AtKey, blank-key, quote-key, AtColon, blank-colon, here-colon, AfterPair, blank-pair, close-object, comma-pair, text-of-phrase}
-use Rattle.json.proofs.Accepted.{no-result, ends-none, topOf-finish}
+use Rattle.json.proofs.Accepted.{ends-none, topOf-finish}
 use Rattle.json.proofs.Proper.{Opened, ProperAt, Proper, proper-step}
 
 drop-all : (n : ℕ) (l : List ℕ) → length l ≤ n → drop n l ≡ []
@@ -50,7 +45,7 @@ drop-all zero (b ∷ l) h = absurd (omega arith)
 drop-all (suc n) (b ∷ l) h = drop-all n l (omega arith)
 
 module _ (𝕄 : Meaning) where
-  open Meaning 𝕄 using (Result, InString, InNumber, InArray, InObject, of-word, string-start, string-char, of-string, number-start, number-byte, of-number, array-start, array-element, of-array, object-start, object-key, object-value, of-object)
+  open Meaning 𝕄 using (Result, InArray, InObject, of-word, string-start, string-char, of-string, number-start, number-byte, of-number, array-start, array-element, of-array, object-start, object-key, object-value, of-object)
 
   -- behind a value that has joined the stack: the bytes finish the open values, and the whole value is the last
   data After : Stack 𝕄 → List ℕ → Result → Type 0 where
@@ -92,37 +87,48 @@ module _ (𝕄 : Meaning) where
 
   -- ---- phrases one byte longer
 
-  whole-blank : {g : Token 𝕄} {v : Result} {b : ℕ} {s : List ℕ} {w : Result} → T (isBlank b) → Rest (at (M.At P.After) g (whole v)) s w → After (whole v) (b ∷ s) w
+  whole-blank : {g : Token 𝕄} {v : Result} {b : ℕ} {s : List ℕ} {w : Result} → T (isBlank b) → Rest (at (M.At P.After) g (whole v)) s w
+      → After (whole v) (b ∷ s) w
   whole-blank h (rest-after (after-whole e)) = after-whole (blank-ending h e)
 
-  element-blank : {g : Token 𝕄} {a : InArray} {k : Stack 𝕄} {b : ℕ} {s : List ℕ} {w : Result} → T (isBlank b) → Rest (at (M.At P.After) g (in-array a k)) s w → After (in-array a k) (b ∷ s) w
+  element-blank : {g : Token 𝕄} {a : InArray} {k : Stack 𝕄} {b : ℕ} {s : List ℕ} {w : Result} → T (isBlank b)
+      → Rest (at (M.At P.After) g (in-array a k)) s w → After (in-array a k) (b ∷ s) w
   element-blank h (rest-after (after-element e x)) = after-element (blank-element h e) x
 
-  comma-after : {a : InArray} {k : Stack 𝕄} {s r : List ℕ} {v : Json} {w : Result} → AtValue s v r → After (in-array (array-element a (meaning 𝕄 v)) k) r w → After (in-array a k) (0x2C ∷ s) w
+  comma-after : {a : InArray} {k : Stack 𝕄} {s r : List ℕ} {v : Json} {w : Result} → AtValue s v r
+      → After (in-array (array-element a (meaning 𝕄 v)) k) r w → After (in-array a k) (0x2C ∷ s) w
   comma-after e (after-element f x) = after-element (comma-element e f) x
 
-  element-comma : {g : Token 𝕄} {a : InArray} {k : Stack 𝕄} {s : List ℕ} {w : Result} → Rest (at (M.At P.Value) g (in-array a k)) s w → After (in-array a k) (0x2C ∷ s) w
+  element-comma : {g : Token 𝕄} {a : InArray} {k : Stack 𝕄} {s : List ℕ} {w : Result} → Rest (at (M.At P.Value) g (in-array a k)) s w
+      → After (in-array a k) (0x2C ∷ s) w
   element-comma (rest-value e x) = comma-after e x
 
-  element-close : {g : Token 𝕄} (a : InArray) (k : Stack 𝕄) {s : List ℕ} {w : Result} → Rest (at (M.At P.After) g (finish 𝕄 (of-array a) k)) s w → After (in-array a k) (0x5D ∷ s) w
+  element-close : {g : Token 𝕄} (a : InArray) (k : Stack 𝕄) {s : List ℕ} {w : Result}
+      → Rest (at (M.At P.After) g (finish 𝕄 (of-array a) k)) s w → After (in-array a k) (0x5D ∷ s) w
   element-close a k (rest-after x) = after-element close-array x
 
-  pair-blank : {g : Token 𝕄} {o : InObject} {k : Stack 𝕄} {b : ℕ} {s : List ℕ} {w : Result} → T (isBlank b) → Rest (at (M.At P.After) g (in-object o k)) s w → After (in-object o k) (b ∷ s) w
+  pair-blank : {g : Token 𝕄} {o : InObject} {k : Stack 𝕄} {b : ℕ} {s : List ℕ} {w : Result} → T (isBlank b)
+      → Rest (at (M.At P.After) g (in-object o k)) s w → After (in-object o k) (b ∷ s) w
   pair-blank h (rest-after (after-pair e x)) = after-pair (blank-pair h e) x
 
-  pair-comma : {g : Token 𝕄} {o : InObject} {k : Stack 𝕄} {s : List ℕ} {w : Result} → Rest (at (M.At P.Key) g (in-object o k)) s w → After (in-object o k) (0x2C ∷ s) w
+  pair-comma : {g : Token 𝕄} {o : InObject} {k : Stack 𝕄} {s : List ℕ} {w : Result} → Rest (at (M.At P.Key) g (in-object o k)) s w
+      → After (in-object o k) (0x2C ∷ s) w
   pair-comma (rest-key e x) = after-pair (comma-pair e) x
 
-  pair-close : {g : Token 𝕄} (o : InObject) (k : Stack 𝕄) {s : List ℕ} {w : Result} → Rest (at (M.At P.After) g (finish 𝕄 (of-object o) k)) s w → After (in-object o k) (0x7D ∷ s) w
+  pair-close : {g : Token 𝕄} (o : InObject) (k : Stack 𝕄) {s : List ℕ} {w : Result}
+      → Rest (at (M.At P.After) g (finish 𝕄 (of-object o) k)) s w → After (in-object o k) (0x7D ∷ s) w
   pair-close o k (rest-after x) = after-pair close-object x
 
-  colon-blank : {g : Token 𝕄} {o : InObject} {k : Stack 𝕄} {b : ℕ} {s : List ℕ} {w : Result} → T (isBlank b) → Rest (at (M.At P.Colon) g (in-object o k)) s w → Rest (at (M.At P.Colon) g (in-object o k)) (b ∷ s) w
+  colon-blank : {g : Token 𝕄} {o : InObject} {k : Stack 𝕄} {b : ℕ} {s : List ℕ} {w : Result} → T (isBlank b)
+      → Rest (at (M.At P.Colon) g (in-object o k)) s w → Rest (at (M.At P.Colon) g (in-object o k)) (b ∷ s) w
   colon-blank h (rest-colon e x) = rest-colon (blank-colon h e) x
 
-  colon-after : {g : Token 𝕄} {o : InObject} {k : Stack 𝕄} {s r : List ℕ} {v : Json} {w : Result} → AtValue s v r → After (in-object (object-value o (meaning 𝕄 v)) k) r w → Rest (at (M.At P.Colon) g (in-object o k)) (0x3A ∷ s) w
+  colon-after : {g : Token 𝕄} {o : InObject} {k : Stack 𝕄} {s r : List ℕ} {v : Json} {w : Result} → AtValue s v r
+      → After (in-object (object-value o (meaning 𝕄 v)) k) r w → Rest (at (M.At P.Colon) g (in-object o k)) (0x3A ∷ s) w
   colon-after e (after-pair f x) = rest-colon (here-colon e f) x
 
-  colon-value : {g : Token 𝕄} {o : InObject} {k : Stack 𝕄} {s : List ℕ} {w : Result} → Rest (at (M.At P.Value) g (in-object o k)) s w → Rest (at (M.At P.Colon) g (in-object o k)) (0x3A ∷ s) w
+  colon-value : {g : Token 𝕄} {o : InObject} {k : Stack 𝕄} {s : List ℕ} {w : Result} → Rest (at (M.At P.Value) g (in-object o k)) s w
+      → Rest (at (M.At P.Colon) g (in-object o k)) (0x3A ∷ s) w
   colon-value (rest-value e x) = colon-after e x
 
   -- ---- a step back, place by place
@@ -133,10 +139,11 @@ module _ (𝕄 : Meaning) where
 
   -- a key goes on with these bytes, behind its opening quotation mark
   data Quoted (o : InObject) (k : Stack 𝕄) (s : List ℕ) (w : Result) : Type 0 where
-    quoted : {n t r : List ℕ} {v : Json} {ps : Pairs} → Chars s n t → AtColon t v ps r → After (finish 𝕄 (of-object (members 𝕄 (pairs n v ps) o)) k) r w → Quoted o k s w
+    quoted : {n t r : List ℕ} {v : Json} {ps : Pairs} → Chars s n t → AtColon t v ps r
+        → After (finish 𝕄 (of-object (members 𝕄 (pairs n v ps) o)) k) r w → Quoted o k s w
 
   module _ (g : Token 𝕄) (s : List ℕ) (w : Result) where
-    text-held : (k : Stack 𝕄) → Rest (at (M.Text S.Char) (record { bits = g .bits; high = g .high; string = string-start; number = g .number }) k) s w → Held k (0x22 ∷ s) w
+    text-held : (k : Stack 𝕄) → Rest (at (M.Text S.Char) (withString 𝕄 g string-start) k) s w → Held k (0x22 ∷ s) w
     text-held k (rest-text c a) = held (from-string (chars-of-continues c)) a
 
     array-held : (k : Stack 𝕄) → Rest (at (M.At P.First) g (in-array array-start k)) s w → Held k (0x5B ∷ s) w
@@ -146,10 +153,11 @@ module _ (𝕄 : Meaning) where
     object-held k (rest-first-key e a) = held (from-object e) a
 
     number-held : (b : ℕ) (n : NumberMode) (k : Stack 𝕄) → Starts b n
-        → Rest (at (M.Number n) (record { bits = g .bits; high = g .high; string = g .string; number = number-byte number-start b }) k) s w → Held k (b ∷ s) w
+        → Rest (at (M.Number n) (withNumber 𝕄 g (number-byte number-start b)) k) s w → Held k (b ∷ s) w
     number-held b n k z (rest-number d e a) = held (from-number (number-of-from (begun z d)) (follow e)) a
 
-    word-held : (b : ℕ) (x : LexWord) (k : Stack 𝕄) → spelling (wordOf x) ≡ b ∷ drop 1 (spelling (wordOf x)) → Rest (at (M.Word x 1) g k) s w → Held k (b ∷ s) w
+    word-held : (b : ℕ) (x : LexWord) (k : Stack 𝕄) → spelling (wordOf x) ≡ b ∷ drop 1 (spelling (wordOf x))
+        → Rest (at (M.Word x 1) g k) s w → Held k (b ∷ s) w
     word-held b x k e (rest-word {r} f a) = held (from-word {x = wordOf x} (subst (λ (l : List ℕ). Follow l (b ∷ s) r) (sym e) (follow f))) a
 
     start-held : (b : ℕ) (k : Stack 𝕄) → Rest (take 𝕄 (valueStart b) 0 b g g k) s w → Held k (b ∷ s) w
@@ -168,7 +176,9 @@ module _ (𝕄 : Meaning) where
 
     value-back : (b : ℕ) (k : Stack 𝕄) → Rest (take 𝕄 (atValue b) 0 b g g k) s w → Rest (at (M.At P.Value) g k) (b ∷ s) w
     unfolding atValue
-    value-back b k = cond-elim (λ st. Rest (take 𝕄 st 0 b g g k) s w → Rest (at (M.At P.Value) g k) (b ∷ s) w) (isBlank b) on-blank (λ _ x. begins (start-held b k x))
+    value-back b k =
+        cond-elim (λ st. Rest (take 𝕄 st 0 b g g k) s w → Rest (at (M.At P.Value) g k) (b ∷ s) w) (isBlank b) on-blank
+        (λ _ x. begins (start-held b k x))
       where
         on-blank : T (isBlank b) → Rest (at (M.At P.Value) g k) s w → Rest (at (M.At P.Value) g k) (b ∷ s) w
         on-blank h (rest-value e a) = rest-value (blank-value h e) a
@@ -176,7 +186,8 @@ module _ (𝕄 : Meaning) where
         begins : Held k (b ∷ s) w → Rest (at (M.At P.Value) g k) (b ∷ s) w
         begins (held e a) = rest-value (here-value e) a
 
-    first-element-back : (b : ℕ) (a : InArray) (k : Stack 𝕄) → Rest (take 𝕄 (atFirstElement b) 0 b g g (in-array a k)) s w → Rest (at (M.At P.First) g (in-array a k)) (b ∷ s) w
+    first-element-back : (b : ℕ) (a : InArray) (k : Stack 𝕄) → Rest (take 𝕄 (atFirstElement b) 0 b g g (in-array a k)) s w
+        → Rest (at (M.At P.First) g (in-array a k)) (b ∷ s) w
     unfolding atFirstElement
     first-element-back b a k =
         let P : ℕ → Step → Type 0 = λ b st. Rest (take 𝕄 st 0 b g g (in-array a k)) s w → Rest (at (M.At P.First) g (in-array a k)) (b ∷ s) w in
@@ -192,10 +203,11 @@ module _ (𝕄 : Meaning) where
         begins b (held e (after-element f x)) = rest-first-element (value-first e f) x
 
     quoted-back : (o : InObject) (k : Stack 𝕄)
-        → Rest (at (M.Key S.Char) (record { bits = g .bits; high = g .high; string = string-start; number = g .number }) (in-object o k)) s w → Quoted o k s w
+        → Rest (at (M.Key S.Char) (withString 𝕄 g string-start) (in-object o k)) s w → Quoted o k s w
     quoted-back o k (rest-in-key c e x) = quoted (chars-of-continues c) e x
 
-    first-key-back : (b : ℕ) (o : InObject) (k : Stack 𝕄) → Rest (take 𝕄 (atFirstKey b) 0 b g g (in-object o k)) s w → Rest (at (M.At P.First) g (in-object o k)) (b ∷ s) w
+    first-key-back : (b : ℕ) (o : InObject) (k : Stack 𝕄) → Rest (take 𝕄 (atFirstKey b) 0 b g g (in-object o k)) s w
+        → Rest (at (M.At P.First) g (in-object o k)) (b ∷ s) w
     unfolding atFirstKey
     first-key-back b o k =
         let P : ℕ → Step → Type 0 = λ b st. Rest (take 𝕄 st 0 b g g (in-object o k)) s w → Rest (at (M.At P.First) g (in-object o k)) (b ∷ s) w in
@@ -226,10 +238,11 @@ module _ (𝕄 : Meaning) where
         on-blank : {b : ℕ} {k : Stack 𝕄} → T (isBlank b) → Rest (at (M.At P.Key) g k) s w → Rest (at (M.At P.Key) g k) (b ∷ s) w
         on-blank h (rest-key e x) = rest-key (blank-key h e) x
 
-        on-quote : {k : Stack 𝕄} → Rest (at (M.Key S.Char) (record { bits = g .bits; high = g .high; string = string-start; number = g .number }) k) s w → Rest (at (M.At P.Key) g k) (0x22 ∷ s) w
+        on-quote : {k : Stack 𝕄} → Rest (at (M.Key S.Char) (withString 𝕄 g string-start) k) s w → Rest (at (M.At P.Key) g k) (0x22 ∷ s) w
         on-quote (rest-in-key c e x) = rest-key (quote-key (chars-of-continues c) e) x
 
-    colon-back : (b : ℕ) (o : InObject) (k : Stack 𝕄) → Rest (take 𝕄 (atColon b) 0 b g g (in-object o k)) s w → Rest (at (M.At P.Colon) g (in-object o k)) (b ∷ s) w
+    colon-back : (b : ℕ) (o : InObject) (k : Stack 𝕄) → Rest (take 𝕄 (atColon b) 0 b g g (in-object o k)) s w
+        → Rest (at (M.At P.Colon) g (in-object o k)) (b ∷ s) w
     unfolding atColon
     colon-back b o k =
         let P : ℕ → Step → Type 0 = λ b st. Rest (take 𝕄 st 0 b g g (in-object o k)) s w → Rest (at (M.At P.Colon) g (in-object o k)) (b ∷ s) w in
@@ -241,7 +254,8 @@ module _ (𝕄 : Meaning) where
       where
         on-blank : Rest (at (M.At P.After) g bare) s w → After bare (b ∷ s) w
         on-blank (rest-after x) = no-after x
-    after-back b (whole v) = cond-elim (λ st. Rest (take 𝕄 st 0 b g g (whole v)) s w → After (whole v) (b ∷ s) w) (isBlank b) whole-blank (λ _. no-rest)
+    after-back b (whole v) =
+        cond-elim (λ st. Rest (take 𝕄 st 0 b g g (whole v)) s w → After (whole v) (b ∷ s) w) (isBlank b) whole-blank (λ _. no-rest)
     after-back b (in-array a k) =
         let P : ℕ → Step → Type 0 = λ b st. Rest (take 𝕄 st 0 b g g (in-array a k)) s w → After (in-array a k) (b ∷ s) w in
         cond-elim (P b) (isBlank b) element-blank (λ _. cond-byte P b 0x2C element-comma (cond-byte P b 0x5D (element-close a k) no-rest))
@@ -270,7 +284,8 @@ module _ (𝕄 : Meaning) where
     text-back k (moved-char z) (rest-text c x) = rest-text (ends z c) x
 
     in-key-back : {m : StringMode} {b : ℕ} {y : StringMove} (o : InObject) (k : Stack 𝕄) → StringMoved m b y
-        → Rest (take 𝕄 (keyStep y) (charIn 𝕄 (M.Key m) g b) b g (gather 𝕄 (M.Key m) g b) (in-object o k)) s w → Rest (at (M.Key m) g (in-object o k)) (b ∷ s) w
+        → Rest (take 𝕄 (keyStep y) (charIn 𝕄 (M.Key m) g b) b g (gather 𝕄 (M.Key m) g b) (in-object o k)) s w
+        → Rest (at (M.Key m) g (in-object o k)) (b ∷ s) w
     in-key-back o k string-fault x = no-rest x
     in-key-back o k moved-close (rest-colon e x) = rest-in-key closes e x
     in-key-back o k (string-go z) (rest-in-key c e x) = rest-in-key (goes z c) e x
@@ -290,7 +305,8 @@ module _ (𝕄 : Meaning) where
     word-back b y i k =
         let Q : WordMove → Type 0 = λ m. Rest (take 𝕄 (wordStep m y i) 0 b g g k) s w → Rest (at (M.Word y i) g k) (b ∷ s) w in
         cond-elim Q (ltb i (length l)) (λ h. cond-elim Q (eqb b (getD l i 0))
-        (λ e. cond-elim Q (ltb (i + 1) (length l)) (λ _. on-letter (letters h e)) (λ n. on-last (letters h e ∙ ap (λ (t : List ℕ). b ∷ t) (none-left n)))) (λ _. no-rest)) (λ _. no-rest)
+        (λ e. cond-elim Q (ltb (i + 1) (length l)) (λ _. on-letter (letters h e))
+        (λ n. on-last (letters h e ∙ ap (λ (t : List ℕ). b ∷ t) (none-left n)))) (λ _. no-rest)) (λ _. no-rest)
       where
         l : List ℕ
         l = spelling (wordOf y)
@@ -326,24 +342,24 @@ module _ (𝕄 : Meaning) where
   as-some v w e = let h : v ≡ w = cc in rw h (after-whole ending)
 
   after-of-whole : (k : Stack 𝕄) (w : Result) → wholeOf 𝕄 k ≡ some w → After k [] w
-  after-of-whole bare w e = no-result e
+  after-of-whole bare w e = none-neq-some e
   after-of-whole (whole v) w e = as-some v w e
-  after-of-whole (in-array a k) w e = no-result e
-  after-of-whole (in-object o k) w e = no-result e
+  after-of-whole (in-array a k) w e = none-neq-some e
+  after-of-whole (in-object o k) w e = none-neq-some e
 
   rest-of-result : (q : State 𝕄) (w : Result) → result 𝕄 q ≡ some w → Rest q [] w
-  rest-of-result fault w e = no-result e
-  rest-of-result (at (M.At P.Value) g k) w e = no-result e
-  rest-of-result (at (M.At P.First) g k) w e = no-result e
-  rest-of-result (at (M.At P.Key) g k) w e = no-result e
-  rest-of-result (at (M.At P.Colon) g k) w e = no-result e
+  rest-of-result fault w e = none-neq-some e
+  rest-of-result (at (M.At P.Value) g k) w e = none-neq-some e
+  rest-of-result (at (M.At P.First) g k) w e = none-neq-some e
+  rest-of-result (at (M.At P.Key) g k) w e = none-neq-some e
+  rest-of-result (at (M.At P.Colon) g k) w e = none-neq-some e
   rest-of-result (at (M.At P.After) g k) w e = rest-after (after-of-whole k w e)
-  rest-of-result (at (M.Key s) g k) w e = no-result e
-  rest-of-result (at (M.Text s) g k) w e = no-result e
+  rest-of-result (at (M.Key s) g k) w e = none-neq-some e
+  rest-of-result (at (M.Text s) g k) w e = none-neq-some e
   rest-of-result (at (M.Number n) g k) w e =
       cond-elim (λ o. o ≡ some w → Rest (at (M.Number n) g k) [] w) (mayEnd n)
-      (λ h x. rest-number (ends-here h) follow-none (after-of-whole (finish 𝕄 (of-number (g .number)) k) w x)) (λ _ x. no-result x) e
-  rest-of-result (at (M.Word x i) g k) w e = no-result e
+      (λ h x. rest-number (ends-here h) follow-none (after-of-whole (finish 𝕄 (of-number (g .number)) k) w x)) (λ _ x. none-neq-some x) e
+  rest-of-result (at (M.Word x i) g k) w e = none-neq-some e
 
   rest-of-accepted : (s : List ℕ) (q : State 𝕄) (w : Result) → Proper 𝕄 q → Accepts 𝕄 q s w → Rest q s w
   rest-of-accepted [] q w h x = rest-of-result q w x

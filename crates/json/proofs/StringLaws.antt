@@ -1,15 +1,14 @@
 -- What the lexer's string modes do, as relations: hexadecimal digits, the moves inside a character, and the bytes that finish one.
 -- `moved` and `move-of-goes`, `move-of-ends` join them to `stringMove`. Assumes nothing.
-use mathlib.Core.Bool.{Bool, true, false, not, cond, _||_}
-use mathlib.Core.List.{List, [], _∷_}
-use mathlib.Core.Path.{_≡_, refl, sym, subst}
-use Prim.Native.Nat.{ℕ, _+_, _-_, _≤_, _<_}
+use mathlib.Core.Bool.{Bool, true, false, not, _||_}
+use mathlib.Core.Path.{_≡_, refl}
+use Prim.Native.Nat.{ℕ, suc, _+_, _-_, _≤_, _<_}
 use native.Mathlib.Omega.{arith}
-use lib.Dec.{T, eqb, leb, ltb, eqb→eq, leb→le, ltb→lt, nltb→le, nleb→lt, T-not, not-T}
+use lib.Dec.{T, eqb, leb, ltb, eqb→eq, leb→le, ltb→lt, nltb→le, T-not}
 use borrow.Author.Tests.{lt-ltb, le-ltb, le-leb, lt-leb, eq-eqb, ne-eqb}
-use Rattle.laws.specs.Tab.{every}
-use Rattle.laws.proofs.TestLaws.{T-or-elim, cond-elim, cond-yes, cond-no, cond-byte, true-of-T}
-use Rattle.laws.proofs.TabLaws.{T-of-every}
+use Rattle.laws.specs.Tab.{tab as row, every}
+use Rattle.laws.proofs.TestLaws.{T-or-elim, cond-elim, cond-byte}
+use Rattle.laws.proofs.TabLaws.{eq-of-tab, T-of-every}
 use Rattle.json.specs.Bytes.{within}
 use Rattle.json.specs.Utf8.{isTail}
 use Rattle.json.specs.Strings.{isUnescaped, Escaped, quotation-mark, reverse-solidus, solidus, backspace, form-feed, line-feed, carriage-return, tab, Hex, hex-digit, hex-upper, hex-lower}
@@ -40,7 +39,14 @@ value-of-hex (hex-lower {b} h) =
     let lo = low-of-within 0x61 0x66 b h in
     let hi = high-of-within 0x61 0x66 b h in
     let e : b - 0x57 ≡ b - 0x61 + 10 = omega arith in
-    simp (le-ltb b 0x30 (omega arith), lt-leb b 0x39 (omega arith), le-ltb b 0x41 (omega arith), lt-leb b 0x46 (omega arith), le-ltb b 0x61 lo, le-leb b 0x66 hi) e
+    simp (
+      le-ltb b 0x30 (omega arith),
+      lt-leb b 0x39 (omega arith),
+      le-ltb b 0x41 (omega arith),
+      lt-leb b 0x46 (omega arith),
+      le-ltb b 0x61 lo,
+      le-leb b 0x66 hi,
+    ) e
 
 pub lt-of-hex : {b w : ℕ} → Hex b w → w < 16
 lt-of-hex (hex-digit {b} h) = let hi = high-of-within 0x30 0x39 b h in omega arith
@@ -128,103 +134,23 @@ ranged-move : (lo hi b : ℕ) (m : StringMove) → T (within lo hi b) → ranged
 unfolding ranged
 ranged-move lo hi b m h = simp (le-ltb b lo (low-of-within lo hi b h), le-ltb hi b (high-of-within lo hi b h))
 
--- the class of a byte from 80 on is by the rows
-high-class : (b : ℕ) → 0x80 ≤ b → classOf b ≡ highClass b
-unfolding classOf isBreak isStructure within
-high-class b h =
-    simp (
-      ne-eqb b 0x09 (λ e. omega arith),
-      ne-eqb b 0x0A (λ e. omega arith),
-      ne-eqb b 0x0D (λ e. omega arith),
-      le-ltb b 0x20 (omega arith),
-      ne-eqb b 0x20 (λ e. omega arith),
-      ne-eqb b 0x22 (λ e. omega arith),
-      ne-eqb b 0x5C (λ e. omega arith),
-      ne-eqb b 0x5B (λ e. omega arith),
-      ne-eqb b 0x7B (λ e. omega arith),
-      ne-eqb b 0x5D (λ e. omega arith),
-      ne-eqb b 0x7D (λ e. omega arith),
-      ne-eqb b 0x3A (λ e. omega arith),
-      ne-eqb b 0x2C (λ e. omega arith),
-      le-leb 0x30 b (omega arith),
-      lt-leb b 0x39 (omega arith),
-      le-ltb b 0x80 h,
-    )
-
-class-C2 : (b : ℕ) → T (within 0xC2 0xDF b) → classOf b ≡ C.LeadC2
-unfolding highClass within
-class-C2 b h =
-    let lo = low-of-within 0xC2 0xDF b h in
-    let hi = high-of-within 0xC2 0xDF b h in
-    rw (high-class b (omega arith)) (simp (le-leb 0x80 b (omega arith), lt-leb b 0xBF (omega arith), le-leb 0xC2 b lo, le-leb b 0xDF hi))
-
-class-E1 : (b : ℕ) → T (within 0xE1 0xEC b) → classOf b ≡ C.LeadE1
-unfolding highClass within
-class-E1 b h =
-    let lo = low-of-within 0xE1 0xEC b h in
-    let hi = high-of-within 0xE1 0xEC b h in
-    rw (high-class b (omega arith))
-    (simp (
-      le-leb 0x80 b (omega arith),
-      lt-leb b 0xBF (omega arith),
-      le-leb 0xC2 b (omega arith),
-      lt-leb b 0xDF (omega arith),
-      ne-eqb b 0xE0 (λ e. omega arith),
-      le-leb 0xE1 b lo,
-      le-leb b 0xEC hi,
-    ))
-
-class-EE : (b : ℕ) → T (within 0xEE 0xEF b) → classOf b ≡ C.LeadE1
-unfolding highClass within
-class-EE b h =
-    let lo = low-of-within 0xEE 0xEF b h in
-    let hi = high-of-within 0xEE 0xEF b h in
-    rw (high-class b (omega arith))
-    (simp (
-      le-leb 0x80 b (omega arith),
-      lt-leb b 0xBF (omega arith),
-      le-leb 0xC2 b (omega arith),
-      lt-leb b 0xDF (omega arith),
-      ne-eqb b 0xE0 (λ e. omega arith),
-      le-leb 0xE1 b (omega arith),
-      lt-leb b 0xEC (omega arith),
-      ne-eqb b 0xED (λ e. omega arith),
-      le-leb 0xEE b lo,
-      le-leb b 0xEF hi,
-    ))
-
-class-F1 : (b : ℕ) → T (within 0xF1 0xF3 b) → classOf b ≡ C.LeadF1
-unfolding highClass within
-class-F1 b h =
-    let lo = low-of-within 0xF1 0xF3 b h in
-    let hi = high-of-within 0xF1 0xF3 b h in
-    rw (high-class b (omega arith))
-    (simp (
-      le-leb 0x80 b (omega arith),
-      lt-leb b 0xBF (omega arith),
-      le-leb 0xC2 b (omega arith),
-      lt-leb b 0xDF (omega arith),
-      ne-eqb b 0xE0 (λ e. omega arith),
-      le-leb 0xE1 b (omega arith),
-      lt-leb b 0xEC (omega arith),
-      ne-eqb b 0xED (λ e. omega arith),
-      le-leb 0xEE b (omega arith),
-      lt-leb b 0xEF (omega arith),
-      ne-eqb b 0xF0 (λ e. omega arith),
-      le-leb 0xF1 b lo,
-      le-leb b 0xF3 hi,
-    ))
+-- the class of each first byte of a row, computed
+lead-class : (c : Class) (lo hi b : ℕ) → row classOf lo (suc hi - lo) ≡ row (λ (_ : ℕ). c) lo (suc hi - lo) → T (within lo hi b) → classOf b ≡ c
+lead-class c lo hi b e h =
+    let l = low-of-within lo hi b h in
+    let g = high-of-within lo hi b h in
+    eq-of-tab classOf (λ (_ : ℕ). c) lo (suc hi - lo) e b l (omega arith)
 
 pub move-of-goes : {m n : StringMode} {b : ℕ} → Goes m b n → stringMove m b ≡ SM.Go n
 unfolding classOf highClass isBreak isStructure within escapeMove unit1 unitD low1 low2 only
 move-of-goes backslash = refl
-move-of-goes (lead-C2 {b} h) = rw (class-C2 b h)
+move-of-goes (lead-C2 {b} h) = rw (lead-class C.LeadC2 0xC2 0xDF b refl h)
 move-of-goes lead-E0 = refl
-move-of-goes (lead-E1 {b} h) = rw (class-E1 b h)
+move-of-goes (lead-E1 {b} h) = rw (lead-class C.LeadE1 0xE1 0xEC b refl h)
 move-of-goes lead-ED = refl
-move-of-goes (lead-EE {b} h) = rw (class-EE b h)
+move-of-goes (lead-EE {b} h) = rw (lead-class C.LeadE1 0xEE 0xEF b refl h)
 move-of-goes lead-F0 = refl
-move-of-goes (lead-F1 {b} h) = rw (class-F1 b h)
+move-of-goes (lead-F1 {b} h) = rw (lead-class C.LeadF1 0xF1 0xF3 b refl h)
 move-of-goes lead-F4 = refl
 move-of-goes (second-E0 {b} h) = ranged-move 0xA0 0xBF b _ h
 move-of-goes (second-ED {b} h) = ranged-move 0x80 0x9F b _ h
@@ -264,7 +190,8 @@ lt-of-unescaped : (b : ℕ) → T (isUnescaped b) → b < 128
 unfolding isUnescaped
 lt-of-unescaped b =
     T-or-elim (within 0x20 0x21 b || within 0x23 0x5B b) (within 0x5D 0x7F b)
-    (T-or-elim (within 0x20 0x21 b) (within 0x23 0x5B b) (λ h. omega (arith, high-of-within 0x20 0x21 b h)) (λ h. omega (arith, high-of-within 0x23 0x5B b h)))
+    (T-or-elim (within 0x20 0x21 b) (within 0x23 0x5B b)
+    (λ h. omega (arith, high-of-within 0x20 0x21 b h)) (λ h. omega (arith, high-of-within 0x23 0x5B b h)))
     (λ h. omega (arith, high-of-within 0x5D 0x7F b h))
 
 -- computed for each byte below 80: unescaped bytes are characters

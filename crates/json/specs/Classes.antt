@@ -2,7 +2,7 @@
 -- table's own. Assumes nothing.
 use mathlib.Core.Bool.{Bool, cond, _||_}
 use Prim.Native.Nat.{ℕ}
-use lib.Dec.{eqb, leb, ltb}
+use lib.Dec.{eqb, ltb}
 use Rattle.json.specs.Bytes.{within}
 use Rattle.json.specs.declared.class.Class.{Class}
 use Rattle.json.specs.declared.class.Class.the-variants.{Control, Break, Space, Quote, Backslash, Structure, Digit, Other, Tail, LeadC2, LeadE0, LeadE1, LeadED, LeadF0, LeadF1, LeadF4, Never}

@@ -1,9 +1,9 @@
 -- Open levels of the bytes so far, for refusal 12 of 01, "The stream": a level is opened by `[` or `{` and closed by `]` or `}`, outside strings.
 -- Stated for bytes that some text begins with; for others it is not asked. Assumes nothing.
-use mathlib.Core.Bool.{Bool, true, false, cond, _||_}
+use mathlib.Core.Bool.{Bool, cond, _||_}
 use mathlib.Core.List.{List, [], _∷_}
 use Prim.Native.Nat.{ℕ, _+_, _-_}
-use lib.Dec.{eqb, ltb}
+use lib.Dec.{eqb}
 
 -- `[` or `{`
 unfoldable pub isOpening : ℕ → Bool

@@ -1,10 +1,10 @@
--- What a byte does, mode by mode. Derived: `Accepts` and `Faults` in proofs/ join the machine made of it to the grammar. Assumes nothing.
-use mathlib.Core.Bool.{Bool, true, false, cond, _||_}
+-- What a byte does, mode by mode. Derived: `Accepted`, `Sound` and `Faults` in proofs/ join the machine made of it to the grammar. Assumes nothing.
+use mathlib.Core.Bool.{Bool, true, false, cond}
 use mathlib.Core.List.{List}
 use Prim.Native.Nat.{ℕ, _+_, _-_, _*_, _%_}
 use lib.Dec.{eqb, leb, ltb}
 use lib.ListN.{getD, length}
-use Rattle.json.specs.Bytes.{within, isBlank}
+use Rattle.json.specs.Bytes.{isBlank}
 use Rattle.json.specs.Numbers.{isDigit, isDigit1-9, isE}
 use Rattle.json.specs.Grammar.{spelling}
 use Rattle.json.specs.Tree as Tree

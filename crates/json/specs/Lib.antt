@@ -1,5 +1,6 @@
 pub mod Tree
 pub mod Meaning
+pub mod TreeMeaning
 pub mod Bytes
 pub mod Utf8
 pub mod Strings
@@ -9,3 +10,4 @@ pub mod Classes
 pub mod Lexer
 pub mod Machine
 pub mod Levels
+pub mod Examples

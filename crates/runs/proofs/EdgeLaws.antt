@@ -5,12 +5,11 @@ use mathlib.Core.Path.{_≡_, refl, sym, _∙_}
 use Prim.Native.Nat.{ℕ, suc, _≤_}
 use native.Mathlib.Omega.{arith}
 use lib.Dec.{T}
-use Rattle.laws.proofs.TestLaws.{T-or-elim}
+use Rattle.laws.proofs.TestLaws.{T-or-elim, T-or-left, T-or-right}
 use Rattle.table.specs.declared.kind.ValueKind.{ValueKind}
 use Rattle.book.specs.Entry.{Form, Entry, edge, end-state}
 use Rattle.runs.specs.Runs.{_∈_}
 use Rattle.runs.specs.Walk.{anyEdge}
-use Rattle.runs.proofs.AnyLaws.{T-or-left, T-or-right}
 
 -- edge e of a list is x, where the first edge in the list is edge i
 pub data EdgeFrom : ℕ → List Entry → ℕ → Entry → Type 0 where

@@ -1,10 +1,11 @@
 -- The examples hold, by computation of what is judged. Assumes nothing.
 use mathlib.Core.Bool.{Bool, true, false, _&&_, Bool·beq}
 use mathlib.Core.List.{List·Memᴰ}
-use mathlib.Core.Path.{_≡_, refl}
+use mathlib.Core.Path.{_≡_}
 use lib.Dec.{T}
 use Rattle.laws.specs.Lists.{same, all, any}
-use Rattle.laws.proofs.TestLaws.{T-and-left, T-and-right}
+use Rattle.laws.proofs.TestLaws.{T-and-left, T-and-right, eq-of-beq}
+use Rattle.laws.proofs.ListLaws.{T-of-all}
 use Rattle.json.specs.Meaning.{meaning}
 use Rattle.table.specs.declared.kind.ValueKind.the-variants.{Rule}
 use Rattle.book.specs.Entry.{withKey, keysFrom, keysOf, numberOf, clash}
@@ -12,7 +13,6 @@ use Rattle.runs.specs.Runs.{beginsPart, Valid}
 use Rattle.runs.specs.Sound.{isKeyed, isSound}
 use Rattle.runs.specs.Walk.{ofScalar, ofRules, ofWord, sameForm, isOf, asks, ofArray, hasKey, anyEdge, leads, endsIn, startOf, moved, ended, afterElement, keyCount, numberIn, atOpening, afterKey, fitsEdge, afterValue, useKey, walk, objectFits, judging}
 use Rattle.runs.specs.Examples.{Row, rows}
-use Rattle.runs.proofs.AnyLaws.{T-of-all}
 use Rattle.runs.proofs.SoundLaws.{sound-of-isSound}
 use Rattle.runs.proofs.Judging.{valid-iff-judged, invalid-iff-judged}
 
@@ -32,12 +32,6 @@ agrees x = isSound (x .book) && Bool·beq (judgement x) (x .verdict)
 rows-agree : T (all agrees rows)
 unfolding agrees judgement isSound isKeyed clash all any same withKey keysFrom keysOf numberOf beginsPart ofScalar ofRules ofWord sameForm isOf asks ofArray hasKey anyEdge leads endsIn startOf moved ended afterElement keyCount numberIn atOpening afterKey fitsEdge afterValue useKey walk objectFits
 rows-agree = tt
-
-eq-of-beq : (a b : Bool) → T (Bool·beq a b) → a ≡ b
-eq-of-beq true true h = refl
-eq-of-beq true false h = absurd h
-eq-of-beq false true h = absurd h
-eq-of-beq false false h = refl
 
 says-of-judgement : (x : Row) → T (isSound (x .book)) → (b : Bool) → judgement x ≡ b → Says b x
 unfolding judgement

@@ -1,6 +1,3 @@
-pub mod AnyLaws
-pub mod FoldLaws
-pub mod KeyLaws
 pub mod EdgeLaws
 pub mod OrderLaws
 pub mod SoundLaws

@@ -1,20 +1,19 @@
 -- What is kept of an open object after some pairs: the keys seen, the fitting edges, the mark. Assumes nothing.
 use mathlib.Core.Bool.{Bool, not, _&&_, _||_}
 use mathlib.Core.List.{List}
-use mathlib.Core.Logic.{_⊎_, inl, inr}
+use mathlib.Core.Logic.{_⊎_, inl, inr, ⊎-elim}
 use mathlib.Core.Path.{_≡_, sym, ap}
 use Prim.Native.Nat.{ℕ, _<_}
 use lib.Dec.{T, T-not, not-T, eqb, eqb→eq, eqb-refl, ltb, ltb→lt, lt→ltb}
-use Rattle.laws.proofs.TestLaws.{T-and, T-and-left, T-and-right, T-or-elim}
+use Rattle.laws.proofs.TestLaws.{T-and, T-and-left, T-and-right, T-or-elim, T-or-left, T-or-right, T-nor, T-nor-left, T-nor-right, T-of-not-not, T-not-not}
 use Rattle.json.specs.Tree.{Json, Pairs, no-pairs, pairs}
 use Rattle.json.specs.Meaning.{meaning, members}
+use Rattle.json.proofs.MeaningLaws.{fold-snoc}
 use Rattle.table.specs.declared.kind.ValueKind.{ValueKind}
 use Rattle.book.specs.Entry.{Entry, keysOf}
+use Rattle.book.proofs.EntryLaws.{key-eq-of-number-eq}
 use Rattle.runs.specs.Runs.{Among, first, later, KeyTwice, first-again, later-twice}
 use Rattle.runs.specs.Walk.{asks, hasKey, OpenObject, keyCount, numberIn, atOpening, afterKey, fitsEdge, afterValue, judging}
-use Rattle.runs.proofs.AnyLaws.{T-or-left, T-or-right, T-nor, T-nor-left, T-nor-right, T-of-not-not, T-not-not}
-use Rattle.runs.proofs.FoldLaws.{fold-snoc}
-use Rattle.runs.proofs.KeyLaws.{key-eq-of-number-eq}
 use Rattle.runs.proofs.EdgeLaws.{EdgeFrom, anyEdge-of-edge, edge-of-anyEdge}
 
 module _ (es : List Entry) where
@@ -98,11 +97,7 @@ module _ (es : List Entry) where
   -- a key seen was met
   pub among-of-seen : (ps : Pairs) (c : ℕ) → T ((members (judging es) ps (atOpening es)) .seen c) → SeenBy c ps
   unfolding atOpening
-  among-of-seen ps c h = go (among-of-seen-from ps (atOpening es) c h)
-    where
-      go : T ((atOpening es) .seen c) ⊎ SeenBy c ps → SeenBy c ps
-      go (inl g) = absurd g
-      go (inr s) = s
+  among-of-seen ps c h = ⊎-elim (λ (g : ⊥). absurd g) (λ (s : SeenBy c ps). s) (among-of-seen-from ps (atOpening es) c h)
 
   -- ---- the fitting edges
 
@@ -152,11 +147,7 @@ module _ (es : List Entry) where
   -- a fitting edge has the key of a pair whose value it asks for
   pub among-of-fitting : (ps : Pairs) (e : ℕ) → T ((members (judging es) ps (atOpening es)) .fitting e) → FittingBy e ps
   unfolding atOpening
-  among-of-fitting ps e h = go (among-of-fitting-from ps (atOpening es) e h)
-    where
-      go : T ((atOpening es) .fitting e) ⊎ FittingBy e ps → FittingBy e ps
-      go (inl g) = absurd g
-      go (inr s) = s
+  among-of-fitting ps e h = ⊎-elim (λ (g : ⊥). absurd g) (λ (s : FittingBy e ps). s) (among-of-fitting-from ps (atOpening es) e h)
 
   -- ---- the mark
 

@@ -6,13 +6,13 @@ use Prim.Native.Nat.{ℕ}
 use lib.Dec.{T}
 use Rattle.laws.proofs.TestLaws.{T-of-true}
 use Rattle.json.specs.Tree.{Word, null-word, true-word, false-word, word, string, number}
+use Rattle.json.proofs.MeaningLaws.{fold-and}
 use Rattle.table.specs.declared.kind.Scalar.the-variants.{Null, True, False, Str, Num, Int}
 use Rattle.table.specs.declared.kind.ValueKind.{ValueKind}
 use Rattle.table.specs.declared.kind.ValueKind.the-variants.{Plain, Rule}
 use Rattle.book.specs.Entry.{Entry}
 use Rattle.runs.specs.Runs.{beginsPart, isInteger, Fits, fits-null, fits-true, fits-false, fits-str, fits-num, fits-int, order-word, order-string, order-number, FitsInSomeOrder, in-order}
 use Rattle.runs.specs.Walk.{ofScalar, ofWord}
-use Rattle.runs.proofs.FoldLaws.{fold-and}
 use Rattle.runs.proofs.WalkLaws.{Judged}
 
 module _ (es : List Entry) where

@@ -5,9 +5,9 @@ use lib.Dec.{T}
 use borrow.Author.Tests.{not-true}
 use Rattle.laws.specs.Lists.{all}
 use Rattle.laws.proofs.TestLaws.{true-of-T, T-and-left, T-and-right}
+use Rattle.laws.proofs.ListLaws.{T-of-all}
 use Rattle.book.specs.Entry.{Entry, keysOf, clash}
 use Rattle.runs.specs.Sound.{Sound, isKeyed, isSound}
-use Rattle.runs.proofs.AnyLaws.{T-of-all}
 
 -- a book that passes the test is sound
 pub sound-of-isSound : (es : List Entry) → T (isSound es) → Sound es

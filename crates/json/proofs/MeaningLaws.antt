@@ -1,10 +1,10 @@
--- What is found from left to right of a list, by `fold`. Assumes nothing.
+-- What a meaning knows of a list, found from left to right by `fold`. Assumes nothing.
 use mathlib.Core.Bool.{Bool, true, false, _&&_}
 use mathlib.Core.List.{List, [], _∷_, _++_, append-assoc, append-nil}
 use mathlib.Core.Path.{_≡_, refl, sym, _∙_}
 use Prim.Native.Nat.{ℕ}
 use Rattle.laws.specs.Lists.{all}
 use Rattle.json.specs.Meaning.{fold}
 
 -- ---- a test of each member
 

@@ -8,11 +8,9 @@ use lib.Dec.{T}
 use lib.ListN.{length}
 use Rattle.laws.specs.Lists.{any, same}
 use Rattle.laws.proofs.TestLaws.{T-of-true, cond-elim, cond-yes}
-use Rattle.laws.proofs.ListLaws.{same-refl, eq-of-same}
+use Rattle.laws.proofs.ListLaws.{same-refl, eq-of-same, member-of-any}
 use Rattle.book.specs.Entry.{Form, Entry, edge, end-state, withKey, keysFrom, keysOf, numberOf}
 use Rattle.table.specs.declared.kind.ValueKind.{ValueKind}
-use Rattle.runs.specs.Runs.{_∈_}
-use Rattle.runs.proofs.AnyLaws.{member-of-any}
 
 -- ---- numberOf
 
@@ -36,7 +34,8 @@ numberOf-le (x ∷ ks) k =
 pub key-eq-of-number-eq : (ks : List (List ℕ)) (k l : List ℕ) → numberOf ks k < length ks → numberOf ks k ≡ numberOf ks l → k ≡ l
 unfolding numberOf
 key-eq-of-number-eq [] k l h e = absurd (omega arith)
-key-eq-of-number-eq (x ∷ ks) k l h e = go (same x k) refl (same x l) refl h e (λ (g : numberOf ks k < length ks) (d : numberOf ks k ≡ numberOf ks l). key-eq-of-number-eq ks k l g d)
+key-eq-of-number-eq (x ∷ ks) k l h e =
+    go (same x k) refl (same x l) refl h e (λ (g : numberOf ks k < length ks) (d : numberOf ks k ≡ numberOf ks l). key-eq-of-number-eq ks k l g d)
   where
     go : (a : Bool) → same x k ≡ a → (b : Bool) → same x l ≡ b → cond a 0 (suc (numberOf ks k)) < suc (length ks)
         → cond a 0 (suc (numberOf ks k)) ≡ cond b 0 (suc (numberOf ks l))
@@ -52,7 +51,8 @@ key-eq-of-number-eq (x ∷ ks) k l h e = go (same x k) refl (same x l) refl h e 
 member-withKey : (ks : List (List ℕ)) (l : List ℕ) {k : List ℕ} → List·Memᴰ k ks → List·Memᴰ k (withKey ks l)
 unfolding withKey
 member-withKey ks [] i = i
-member-withKey ks (b ∷ l) {k} i = cond-elim (λ (xs : List (List ℕ)). List·Memᴰ k xs) (any (same (b ∷ l)) ks) (λ h. i) (λ h. Memᴰ·append-left ((b ∷ l) ∷ []) i)
+member-withKey ks (b ∷ l) {k} i =
+    cond-elim (λ (xs : List (List ℕ)). List·Memᴰ k xs) (any (same (b ∷ l)) ks) (λ h. i) (λ h. Memᴰ·append-left ((b ∷ l) ∷ []) i)
 
 -- a key that is added is one
 new-withKey : (ks : List (List ℕ)) (b : ℕ) (l : List ℕ) → List·Memᴰ (b ∷ l) (withKey ks (b ∷ l))
@@ -72,7 +72,7 @@ member-keysFrom ks [] i = i
 member-keysFrom ks (edge r f q l t m ∷ es) i = member-keysFrom (withKey ks l) es (member-withKey ks l i)
 member-keysFrom ks (end-state r f q ∷ es) i = member-keysFrom ks es i
 
-key-member-from : (ks : List (List ℕ)) (es : List Entry) {r q m b : ℕ} {f : Form} {l : List ℕ} {t : ValueKind} → edge r f q (b ∷ l) t m ∈ es
+key-member-from : (ks : List (List ℕ)) (es : List Entry) {r q m b : ℕ} {f : Form} {l : List ℕ} {t : ValueKind} → List·Memᴰ (edge r f q (b ∷ l) t m) es
     → List·Memᴰ (b ∷ l) (keysFrom ks es)
 unfolding keysFrom
 key-member-from ks (edge r f q k t m ∷ es) {b} {l} (List·Memᴰ·head e) =
@@ -82,6 +82,7 @@ key-member-from ks (end-state r f q ∷ es) (List·Memᴰ·head e) = let z : _�
 key-member-from ks (end-state r f q ∷ es) (List·Memᴰ·tail i) = key-member-from ks es i
 
 -- the key of an edge is one of the book's keys
-pub key-member : (es : List Entry) {r q m b : ℕ} {f : Form} {l : List ℕ} {t : ValueKind} → edge r f q (b ∷ l) t m ∈ es → List·Memᴰ (b ∷ l) (keysOf es)
+pub key-member : (es : List Entry) {r q m b : ℕ} {f : Form} {l : List ℕ} {t : ValueKind} → List·Memᴰ (edge r f q (b ∷ l) t m) es
+    → List·Memᴰ (b ∷ l) (keysOf es)
 unfolding keysOf
 key-member es i = key-member-from [] es i

@@ -19,7 +19,7 @@ use Rattle.book.specs.Entry.{Form, obj, arr, Entry, edge, end-state, withKey, k
 use Rattle.book.specs.Load.{ruleOf, formIn, sameForm, changesForm}
 use Rattle.book.specs.Holds.{tableEdges, tableKeys, keyNumber, edgesFrom, edgesOf, formCode, ruleForm, endsAt, Holds}
 use Rattle.runs.specs.Examples.{bookB}
-use Rattle.runs.proofs.AnyLaws.{T-of-all}
+use Rattle.laws.proofs.ListLaws.{T-of-all}
 use Rattle.meaning.specs.Shows.{EdgeLimits, Kept}
 
 -- ---- what is asked of entries, as a test

@@ -16,7 +16,7 @@ use Rattle.book.specs.Load.{ruleOf, formIn}
 use Rattle.book.specs.Holds.{formCode, ruleForm}
 use Rattle.runs.specs.Runs.{_∈_}
 use Rattle.runs.specs.Walk.{sameForm, isOf, startOf}
-use Rattle.runs.proofs.AnyLaws.{member-of-any}
+use Rattle.laws.proofs.ListLaws.{member-of-any}
 use Rattle.runs.proofs.StateLaws.{start-of-edge, start-of-end, zero-of-start}
 use Rattle.frame.specs.Edges.{hasForm}
 use Rattle.frame.proofs.RuleLaws.{hasForm-below, below-of-hasForm}

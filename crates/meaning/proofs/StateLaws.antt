@@ -15,7 +15,7 @@ use Rattle.book.specs.Load.{ruleOf, formIn}
 use Rattle.book.specs.Holds.{formCode, endsAt}
 use Rattle.runs.specs.Runs.{_∈_}
 use Rattle.runs.specs.Walk.{States, startOf, moved, ended}
-use Rattle.runs.proofs.AnyLaws.{any-of-member, member-of-any}
+use Rattle.laws.proofs.ListLaws.{any-of-member, member-of-any}
 use Rattle.runs.proofs.EdgeLaws.{EdgeFrom, member-of-edge}
 use Rattle.runs.proofs.StateLaws.{EndIn, end-in, ended-of-end, end-of-ended, MoveTo, move-to, moved-of-edge, edge-of-moved}
 use Rattle.frame.specs.Edges.{edgeCount, hasForm, stateNumber}

@@ -1,6 +1,6 @@
 // Strings and keys: what a byte does, and the number of the character that it finishes.
 ghost use mathlib.Core.Path.{_≡_};
-ghost use Rattle.json.specs.Lexer.{charStart, unescape, escapeMove, hexOf, anyHex, unit1, unitD, low2, only, ranged, leadBits, tailBits, hexBits, pairOf, bitsAfter, highAfter, charOf};
+ghost use Rattle.json.specs.Lexer.{charStart, unescape, escapeMove, hexOf, anyHex, unit1, unitD, low1, low2, only, ranged, leadBits, tailBits, hexBits, pairOf, bitsAfter, highAfter, charOf};
 ghost use Rattle.lexer.specs.Table.{classAt};
 ghost use Rattle.lexer.specs.Given.{moveBy};
 use super::class::class_in;
@@ -135,6 +135,16 @@ fn unit_d(h: u8) -> StringMove
     StringMove::Fault
 }
 
+// The first digit of a low surrogate.
+fn low1(h: u8) -> StringMove
+    ensures { λ r. ⌜ r ≡ low1 h ⌝ }
+{
+    if h == 13 {
+        return StringMove::Go(StringMode::Low2);
+    }
+    StringMove::Fault
+}
+
 // The second digit of a low surrogate.
 fn low2(h: u8) -> StringMove
     ensures { λ r. ⌜ r ≡ low2 h ⌝ }
@@ -145,7 +155,7 @@ fn low2(h: u8) -> StringMove
     any_hex(h, StringMove::Go(StringMode::Low3))
 }
 
-// Only the number x makes the move: a byte, or the value of a digit.
+// Only the byte x makes the move.
 fn only(x: u8, b: u8, m: StringMove) -> StringMove
     ensures { λ r. ⌜ r ≡ only x b m ⌝ }
 {
@@ -184,7 +194,7 @@ pub fn string_move(table: &[u8; 256], s: StringMode, b: u8) -> StringMove
         StringMode::High4 => any_hex(hex_of(b), StringMove::Go(StringMode::LowBackslash)),
         StringMode::LowBackslash => only(0x5C, b, StringMove::Go(StringMode::LowU)),
         StringMode::LowU => only(0x75, b, StringMove::Go(StringMode::Low1)),
-        StringMode::Low1 => only(13, hex_of(b), StringMove::Go(StringMode::Low2)),
+        StringMode::Low1 => low1(hex_of(b)),
         StringMode::Low2 => low2(hex_of(b)),
         StringMode::Low3 => any_hex(hex_of(b), StringMove::Go(StringMode::Low4)),
         StringMode::Low4 => any_hex(hex_of(b), StringMove::Char),

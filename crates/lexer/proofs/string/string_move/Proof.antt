@@ -1,11 +1,9 @@
 -- `string::string_move` meets its contract: each arm is the definition's case. Assumes nothing.
-use Rattle.json.specs.Lexer.{low1, only}
 use Rattle.lexer.proofs.string.string_move.Statement.{statement}
 use Rattle.lexer.proofs.string.string_move.Tie as tie
 use borrow.Author.Needs.{needs}
 
 pub string-move-spec : {M : Type 1} → statement M
-unfolding low1 only
 string-move-spec =
     tie.close
     (tie.spec (λ c. search needs) (λ c κs. search needs) (λ c κs. search needs) (λ c. search needs) (λ c κs. search needs)
@@ -29,7 +27,7 @@ string-move-spec =
     (λ c. simp (c .before .before .enum-told9 .given .1, c .before .hex-of7 .ensures, c .any-hex5 .ensures))
     (λ c. simp (c .before .enum-told10 .given .1, c .only .ensures))
     (λ c. simp (c .before .enum-told11 .given .1, c .only2 .ensures))
-    (λ c. simp (c .before .before .enum-told12 .given .1, c .before .hex-of8 .ensures, c .only3 .ensures))
+    (λ c. simp (c .before .before .enum-told12 .given .1, c .before .hex-of8 .ensures, c .low1 .ensures))
     (λ c. simp (c .before .before .enum-told13 .given .1, c .before .hex-of9 .ensures, c .low2 .ensures))
     (λ c. simp (c .before .before .enum-told14 .given .1, c .before .hex-of10 .ensures, c .any-hex6 .ensures))
     (λ c. simp (c .before .before .enum-told15 .given .1, c .before .hex-of11 .ensures, c .any-hex7 .ensures))

@@ -1,7 +1,7 @@
 -- The work buffer under book B of 01, byte by byte, along the steps of a few texts: computed, in one table. Assumes nothing.
-use mathlib.Core.Bool.{Bool, true, false, cond, _&&_}
+use mathlib.Core.Bool.{Bool, true, false, _&&_}
 use mathlib.Core.List.{List, [], _∷_}
-use Prim.Native.Nat.{ℕ, zero, suc, _-_}
+use Prim.Native.Nat.{ℕ, suc, _-_}
 use lib.Dec.{T, eqb}
 use lib.ListN.{set, replicate}
 use Rattle.laws.specs.Bits.{bitAt, setBit, setAll}

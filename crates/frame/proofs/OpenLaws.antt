@@ -1,13 +1,13 @@
 -- What an opened frame holds. Assumes nothing.
 use mathlib.Core.Bool.{Bool, true, false}
-use mathlib.Core.List.{List, [], _∷_, _++_}
+use mathlib.Core.List.{List}
 use mathlib.Core.Logic.{_↔_}
-use mathlib.Core.Path.{_≡_, refl, sym, ap, _∙_}
-use Prim.Native.Nat.{ℕ, _+_, _*_, _/_, _%_, _<_, _≤_}
+use mathlib.Core.Path.{_≡_, refl, _∙_}
+use Prim.Native.Nat.{ℕ, _*_, _/_, _<_}
 use native.Mathlib.Omega.{arith}
-use lib.Dec.{T, lit<}
-use lib.ListN.{length, getD, drop, replicate, length-append, length-replicate}
-use Rattle.laws.specs.Bits.{bitAt, setAll}
+use lib.Dec.{T}
+use lib.ListN.{length, replicate}
+use Rattle.laws.specs.Bits.{bitAt}
 use Rattle.laws.proofs.BitLaws.{bitAt-zeros, length-setAll, test-of-setAll-zeros, bitAt-setAll-of-test}
 use Rattle.frame.specs.Edges.{hasForm}
 use Rattle.frame.specs.Frame.{isObject, currentKey, marked, seenIn, heldIn}

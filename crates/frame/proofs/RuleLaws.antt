@@ -4,14 +4,14 @@ use mathlib.Core.List.{List, [], _∷_, _++_}
 use mathlib.Core.Logic.{⊎-elim, _↔_}
 use mathlib.Core.Path.{_≡_, refl, sym, ap, subst, _∙_}
 use Prim.Native.Nat.{ℕ, zero, suc, _+_, _*_, _/_, _%_, _^_, _<_, _≤_}
-use native.Mathlib.Nat.{zero-div, eq-or-lt-of-le, add-zero, add-suc, suc-add, one-mul, mod-eq-of-lt, lt-of-le-of-lt, lt-of-lt-of-le}
+use native.Mathlib.Nat.{zero-div, eq-or-lt-of-le, add-zero, add-suc, suc-add, one-mul, lt-of-le-of-lt, lt-of-lt-of-le}
 use native.Mathlib.Decide.{decLt}
 use native.Mathlib.Numerals.{unary-clauses}
 use native.Mathlib.Omega.{arith}
 use lib.Bits.{bitAnd, bitOr, or-shifted-r, and-le-l, and-zero-l}
 use lib.Dec.{T, eqb, ltb, ltb→lt, lit<}
 use lib.ListN.{getD}
-use lib.Pow.{pow-lt, pow-mono, pow-pos, add-lt-pow}
+use lib.Pow.{pow-mono}
 use borrow.Author.Tests.{lt-ltb, le-ltb, eqb-true, eqb-false}
 use Rattle.laws.specs.Bits.{bitAt}
 use Rattle.laws.specs.Lists.{any}

@@ -1,13 +1,13 @@
 -- What a finished value leaves in each part of a frame. Assumes nothing.
 use mathlib.Core.Bool.{Bool, true, false, cond, _&&_}
-use mathlib.Core.List.{List, [], _++_}
+use mathlib.Core.List.{List, _++_}
 use mathlib.Core.Logic.{_⊎_, inl, inr, ⊎-elim, _↔_}
-use mathlib.Core.Path.{_≡_, refl, sym, ap, subst, _∙_}
+use mathlib.Core.Path.{_≡_, refl, subst, _∙_}
 use Prim.Native.Nat.{ℕ, _+_, _/_, _<_, _≤_}
 use native.Mathlib.Decide.{decLt}
 use native.Mathlib.Omega.{arith}
-use lib.Dec.{T, eqb, ltb, eqb→eq, eqb-refl, lit<}
-use lib.ListN.{length, getD, take, drop, replicate, length-append, List·getD-append}
+use lib.Dec.{T, eqb, ltb, eqb→eq, lit<}
+use lib.ListN.{length, getD, take, replicate, length-append, List·getD-append}
 use lib.Seq.{getD-take, length-take-le}
 use borrow.Author.Tests.{lt-ltb, le-ltb, eq-eqb, ne-eqb}
 use Rattle.laws.specs.Bits.{bitAt, setAll}

@@ -1,9 +1,9 @@
 -- What opening, a finished key, a finished value and closing do to a frame: 01, "Frames". Stated. Assumes nothing.
 use mathlib.Core.Bool.{Bool, true, false, cond, _&&_}
-use mathlib.Core.List.{List, [], _∷_, _++_}
+use mathlib.Core.List.{List, _∷_, _++_}
 use Prim.Native.Nat.{ℕ, zero, suc, _+_, _*_, _^_}
-use lib.Dec.{eqb, ltb}
-use lib.ListN.{getD, set, take, drop, replicate}
+use lib.Dec.{ltb}
+use lib.ListN.{set, take, drop, replicate}
 use Rattle.laws.specs.Bits.{bitAt, setBit, setAll}
 use Rattle.laws.specs.Lists.{any}
 use Rattle.laws.specs.Tab.{tab}

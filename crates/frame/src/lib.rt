@@ -11,9 +11,8 @@ mod value; // value.rt: a finished value
 use table::kind::Finished;
 
 ghost use mathlib.Core.Path.{_≡_};
-ghost use lib.ListN.{length};
 ghost use Rattle.frame.specs.Edges.{edgesOf};
-ghost use Rattle.frame.specs.Frame.{frameCount, frameAt, putFrame, kindNumber};
+ghost use Rattle.frame.specs.Frame.{frameCount, framePlace, frameAt, putFrame, kindNumber};
 ghost use Rattle.frame.specs.Ops.{opened, keyed, valued, closed};
 
 // The number of frames of a buffer of n bytes.
@@ -24,47 +23,52 @@ pub fn frames(n: usize) -> usize
     if k < 64 { k } else { 64 }
 }
 
+// The place of a level's first byte in a buffer of n bytes, or n where there is no frame of the level.
+fn place(n: usize, level: usize) -> usize
+    ensures { λ r. ⌜ r ≡ framePlace n level ⌝ }
+{
+    if 0 < level {
+        if level <= frames(n) {
+            return 96 * (level - 1);
+        }
+        return n;
+    }
+    n
+}
+
 // The kind of the value that is open at a level: 1 object, 2 array.
 pub fn kind_at(work: &[u8], level: usize) -> u8
     ensures { λ r. ⌜ r ≡ kindNumber (frameAt (now (work .entry)) level) ⌝ }
 {
-    if level == 0 {
-        return 2;
+    let a = place(work.len(), level);
+    if a < work.len() {
+        if work[a] == 1 {
+            return 1;
+        }
     }
-    if frames(work.len()) < level {
-        return 2;
-    }
-    if work[96 * (level - 1)] == 1 { 1 } else { 2 }
+    2
 }
 
 // Opens an object or an array at a level: writes its whole frame.
 pub fn open_level(work: &mut [u8], level: usize, object: bool, forms: &[u8; 32])
     ensures { λ _. ⌜ now (work .exit) ≡ putFrame (now (work .entry)) level (opened (now (forms .entry)) object) ⌝ }
 {
-    if level == 0 {
-        return;
+    let a = place(work.len(), level);
+    if a < work.len() {
+        let b = a + 96;
+        open::open_frame(&mut work[a..b], object, forms);
     }
-    if frames(work.len()) < level {
-        return;
-    }
-    let a = 96 * (level - 1);
-    let b = a + 96;
-    open::open_frame(&mut work[a..b], object, forms);
 }
 
 // A finished key in the frame of a level: the number of a key of the book, or any from 128 on for a key that it does not have.
 pub fn key_level(work: &mut [u8], level: usize, key: u8)
     ensures { λ _. ⌜ now (work .exit) ≡ putFrame (now (work .entry)) level (keyed key (frameAt (now (work .entry)) level)) ⌝ }
 {
-    if level == 0 {
-        return;
+    let a = place(work.len(), level);
+    if a < work.len() {
+        let b = a + 96;
+        key::key_frame(&mut work[a..b], key);
     }
-    if frames(work.len()) < level {
-        return;
-    }
-    let a = 96 * (level - 1);
-    let b = a + 96;
-    key::key_frame(&mut work[a..b], key);
 }
 
 // A finished value in the frame of the level that it stands in.
@@ -82,15 +86,11 @@ pub fn value_level<'a>(
 )
     ensures { λ _. ⌜ now (work .exit) ≡ putFrame (now (work .entry)) level (valued (edgesOf edges (now (rules .entry)) (now (states .entry)) (now (keys .entry)) (now (nexts .entry))) (now (kinds .entry)) (now (forms .entry)) v (frameAt (now (work .entry)) level)) ⌝ }
 {
-    if level == 0 {
-        return;
+    let a = place(work.len(), level);
+    if a < work.len() {
+        let b = a + 96;
+        value::value_frame(&mut work[a..b], edges, rules, states, keys, kinds, nexts, forms, v);
     }
-    if frames(work.len()) < level {
-        return;
-    }
-    let a = 96 * (level - 1);
-    let b = a + 96;
-    value::value_frame(&mut work[a..b], edges, rules, states, keys, kinds, nexts, forms, v);
 }
 
 // Closes the value of a level: the rules that it fits, rule N at bit N.
@@ -107,13 +107,10 @@ pub fn close_level<'a>(
 ) -> u32
     ensures { λ s. ⌜ s ≡ closed (edgesOf edges (now (rules .entry)) (now (states .entry)) (now (keys .entry)) (now (nexts .entry))) (now (forms .entry)) (now (ends .entry)) (frameAt (now (work .entry)) level) ⌝ }
 {
-    if level == 0 {
-        return 0;
+    let a = place(work.len(), level);
+    if a < work.len() {
+        let b = a + 96;
+        return close::close_frame(&work[a..b], edges, rules, states, keys, nexts, forms, ends);
     }
-    if frames(work.len()) < level {
-        return 0;
-    }
-    let a = 96 * (level - 1);
-    let b = a + 96;
-    close::close_frame(&work[a..b], edges, rules, states, keys, nexts, forms, ends)
+    0
 }

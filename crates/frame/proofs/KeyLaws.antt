@@ -66,8 +66,8 @@ module _ (f : List ℕ) (k : ℕ) where
   heldIn-keyed i =
       keyed-elim (λ g. bitAt g (256 + i) ≡ bitAt f (256 + i)) f k (λ h e. stays k)
       (λ h e.
-        bitAt-of-byte (setBit (set f 1 k) (128 + k)) (set f 1 k) (256 + i) (getD-setBit-other (set f 1 k) (128 + k) ((256 + i) / 8) (λ q. omega arith))
-        ∙ bitAt-set-other f 1 k (256 + i) (λ q. omega arith))
+      bitAt-of-byte (setBit (set f 1 k) (128 + k)) (set f 1 k) (256 + i) (getD-setBit-other (set f 1 k) (128 + k) ((256 + i) / 8) (λ q. omega arith))
+      ∙ bitAt-set-other f 1 k (256 + i) (λ q. omega arith))
       (λ h. stays 255)
     where
       stays : (v : ℕ) → bitAt (set (set f 1 v) 2 1) (256 + i) ≡ bitAt f (256 + i)
@@ -108,9 +108,9 @@ module _ (f : List ℕ) (k : ℕ) where
         keyed-elim (λ g. bitAt g (128 + j) ≡ (eqb k j || bitAt f (128 + j))) f k
         (λ h e. stays k ∙ again (eqb k j) refl e)
         (λ h e.
-          bitAt-setBit (set f 1 k) (128 + k) (128 + j) (rw (length-set f 1 k) (omega arith))
-          ∙ ap (λ (b : Bool). b || bitAt (set f 1 k) (128 + j)) (eqb-iff (128 + k) (128 + j) k j (λ q. omega arith) (λ q. omega arith))
-          ∙ ap (λ (b : Bool). eqb k j || b) (bitAt-set-other f 1 k (128 + j) (λ q. omega arith)))
+        bitAt-setBit (set f 1 k) (128 + k) (128 + j) (rw (length-set f 1 k) (omega arith))
+        ∙ ap (λ (b : Bool). b || bitAt (set f 1 k) (128 + j)) (eqb-iff (128 + k) (128 + j) k j (λ q. omega arith) (λ q. omega arith))
+        ∙ ap (λ (b : Bool). eqb k j || b) (bitAt-set-other f 1 k (128 + j) (λ q. omega arith)))
         (λ h. rw (ne-eqb k j (λ q. omega arith)) (stays 255))
       where
         stays : (v : ℕ) → bitAt (set (set f 1 v) 2 1) (128 + j) ≡ bitAt f (128 + j)

@@ -181,16 +181,16 @@ module _ (w f : List ℕ) (l : ℕ) (long : length f ≡ 96) where
   getD-putFrame-other i h =
       putFrame-elim (λ x. getD x i 0 ≡ getD w i 0) w f l refl
       (λ e.
-        let a = fits-of-hasFrame (length w) l e .1 in
-        ⊎-elim
-        (λ b.
-          let k : length (take (frameStart l) w) ≡ frameStart l = length-take-le (frameStart l) w (omega arith) in
-          List·getD-append (take (frameStart l) w) (f ++ drop 96 (drop (frameStart l) w)) 0 i (omega arith) ∙ getD-take (frameStart l) w i 0 b)
-        (λ b.
-          let q : i + 0 ≡ i = omega arith in
-          ap (λ (n : ℕ). getD (put (frameStart l) w f) n 0) (sym q)
-          ∙ sym (getD-drop i (put (frameStart l) w f) 0 0)
-          ∙ ap (λ (x : List ℕ). getD x 0 0) (put-behind (frameStart l) w f a long i b)
-          ∙ getD-drop i w 0 0
-          ∙ ap (λ (n : ℕ). getD w n 0) q)
-        h)
+      let a = fits-of-hasFrame (length w) l e .1 in
+      ⊎-elim
+      (λ b.
+      let k : length (take (frameStart l) w) ≡ frameStart l = length-take-le (frameStart l) w (omega arith) in
+      List·getD-append (take (frameStart l) w) (f ++ drop 96 (drop (frameStart l) w)) 0 i (omega arith) ∙ getD-take (frameStart l) w i 0 b)
+      (λ b.
+      let q : i + 0 ≡ i = omega arith in
+      ap (λ (n : ℕ). getD (put (frameStart l) w f) n 0) (sym q)
+      ∙ sym (getD-drop i (put (frameStart l) w f) 0 0)
+      ∙ ap (λ (x : List ℕ). getD x 0 0) (put-behind (frameStart l) w f a long i b)
+      ∙ getD-drop i w 0 0
+      ∙ ap (λ (n : ℕ). getD w n 0) q)
+      h)

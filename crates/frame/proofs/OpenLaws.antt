@@ -24,12 +24,13 @@ length-startStates forms form = length-setAll (hasForm forms form) (λ r. 16 * r
 -- they are state 0 of each rule of the form
 pub bitAt-startStates : (forms : List ℕ) (form j : ℕ) → T (bitAt (startStates forms form) j) ↔ ((r : ℕ) × T (hasForm forms form r) × (16 * r ≡ j))
 unfolding startStates
-bitAt-startStates forms form j =
-    ((λ t. let w = test-of-setAll-zeros (hasForm forms form) (λ r. 16 * r) 32 64 j t in (w .0, w .2, w .3)),
-    (λ w.
+bitAt-startStates forms form j = (
+  (λ t. let w = test-of-setAll-zeros (hasForm forms form) (λ r. 16 * r) 32 64 j t in (w .0, w .2, w .3)),
+  (λ w.
       let b = below-of-hasForm forms form (w .0) (w .1) in
       let i : 16 * w .0 / 8 < 64 = omega arith in
-      rw (w .2) at (bitAt-setAll-of-test (hasForm forms form) (λ r. 16 * r) 32 (replicate 64 0) (w .0) b (w .1) i)))
+      rw (w .2) at (bitAt-setAll-of-test (hasForm forms form) (λ r. 16 * r) 32 (replicate 64 0) (w .0) b (w .1) i)),
+)
 
 -- ---- a fresh frame
 

@@ -76,9 +76,9 @@ unfolding bitAt
 byte-ended ends s i b e h =
     any-tab-same (λ q. bitAt s (i + q) && bitAt ends (i + q)) (λ q. eqb (bitAnd (getD s b 0) (getD ends b 0) / 2 ^ q % 2) 1) 0 0 8
     (λ k l.
-      let q : (i + (0 + k)) / 8 ≡ b = omega arith in
-      let r : (i + (0 + k)) % 8 ≡ 0 + k = omega arith in
-      rw (q, r) (sym (bit-bitAnd (getD s b 0) (getD ends b 0) (0 + k))))
+    let q : (i + (0 + k)) / 8 ≡ b = omega arith in
+    let r : (i + (0 + k)) % 8 ≡ 0 + k = omega arith in
+    rw (q, r) (sym (bit-bitAnd (getD s b 0) (getD ends b 0) (0 + k))))
     ∙ sym (nonzero-bits (bitAnd (getD s b 0) (getD ends b 0)) (lt-of-le-of-lt (and-le-l (getD s b 0) (getD ends b 0)) h))
 
 -- the 16 states of a rule are the bits of two bytes
@@ -179,14 +179,16 @@ pub accepting-iff : (forms ends : List ℕ) (form : ℕ) (s : List ℕ) (r : ℕ
     → T (accepting forms ends form s r)
     ↔ (T (hasForm forms form r) × ((q : ℕ) × (q < 16) × T (bitAt s (16 * r + q)) × T (bitAt ends (16 * r + q))))
 unfolding accepting ended
-accepting-iff forms ends form s r =
-    ((λ t.
-      let w = some-of-any-tab test 0 16 (T-and-right (hasForm forms form r) (any test (tab (λ q. q) 0 16)) t) in
-      (T-and-left (hasForm forms form r) (any test (tab (λ q. q) 0 16)) t,
-      (w .0, w .2, T-and-left (bitAt s (16 * r + w .0)) (bitAt ends (16 * r + w .0)) (w .3), T-and-right (bitAt s (16 * r + w .0)) (bitAt ends (16 * r + w .0)) (w .3)))),
-    (λ p.
+accepting-iff forms ends form s r = (
+  (λ t.
+      let w = some-of-any-tab test 0 16 (T-and-right (hasForm forms form r) (any test (tab (λ q. q) 0 16)) t) in (
+        T-and-left (hasForm forms form r) (any test (tab (λ q. q) 0 16)) t,
+        (w .0, w .2, T-and-left (bitAt s (16 * r + w .0)) (bitAt ends (16 * r + w .0)) (w .3), T-and-right (bitAt s (16 * r + w .0)) (bitAt ends (16 * r + w .0)) (w .3)),
+      )),
+  (λ p.
       T-and (hasForm forms form r) (any test (tab (λ q. q) 0 16)) (p .0)
-      (any-tab-of-some test 0 16 (p .1 .0) (omega arith) (p .1 .1) (T-and (bitAt s (16 * r + p .1 .0)) (bitAt ends (16 * r + p .1 .0)) (p .1 .2) (p .1 .3)))))
+      (any-tab-of-some test 0 16 (p .1 .0) (omega arith) (p .1 .1) (T-and (bitAt s (16 * r + p .1 .0)) (bitAt ends (16 * r + p .1 .0)) (p .1 .2) (p .1 .3)))),
+)
   where
     test : ℕ → Bool
     test q = bitAt s (16 * r + q) && bitAt ends (16 * r + q)

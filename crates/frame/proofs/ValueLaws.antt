@@ -49,9 +49,10 @@ module _ (t : Edges) (kinds forms : List ℕ) (v : Finished) (f : List ℕ) wher
 -- an edge of key k whose kind passes
 pub fitting-iff : (fits : ℕ → Bool) (keys kinds : List ℕ) (k e : ℕ) → T (fitting fits keys kinds k e) ↔ ((getD keys e 0 ≡ k) × T (fits (getD kinds e 0)))
 unfolding fitting
-fitting-iff fits keys kinds k e =
-    ((λ t. (eqb→eq (getD keys e 0) k (T-and-left (eqb (getD keys e 0) k) (fits (getD kinds e 0)) t), T-and-right (eqb (getD keys e 0) k) (fits (getD kinds e 0)) t)),
-    (λ p. T-and (eqb (getD keys e 0) k) (fits (getD kinds e 0)) (T-of-true (eqb (getD keys e 0) k) (eq-eqb (getD keys e 0) k (p .0))) (p .1)))
+fitting-iff fits keys kinds k e = (
+  (λ t. (eqb→eq (getD keys e 0) k (T-and-left (eqb (getD keys e 0) k) (fits (getD kinds e 0)) t), T-and-right (eqb (getD keys e 0) k) (fits (getD kinds e 0)) t)),
+  (λ p. T-and (eqb (getD keys e 0) k) (fits (getD kinds e 0)) (T-of-true (eqb (getD keys e 0) k) (eq-eqb (getD keys e 0) k (p .0))) (p .1)),
+)
 
 -- an edge of an `arr` rule whose kind passes and whose state the array has
 pub stepping-iff : (fits : ℕ → Bool) (rules states kinds forms f : List ℕ) (e : ℕ)
@@ -61,9 +62,10 @@ unfolding stepping
 stepping-iff fits rules states kinds forms f e =
     let a = fits (getD kinds e 0) in
     let b = hasForm forms 2 (getD rules e 0) in
-    let c = heldIn f (stateNumber rules states e) in
-    ((λ t. (T-and-left a (b && c) t, T-and-left b c (T-and-right a (b && c) t), T-and-right b c (T-and-right a (b && c) t))),
-    (λ p. T-and a (b && c) (p .0) (T-and b c (p .1) (p .2))))
+    let c = heldIn f (stateNumber rules states e) in (
+      (λ t. (T-and-left a (b && c) t, T-and-left b c (T-and-right a (b && c) t), T-and-right b c (T-and-right a (b && c) t))),
+      (λ p. T-and a (b && c) (p .0) (T-and b c (p .1) (p .2))),
+    )
 
 -- ---- the parts of the frame
 
@@ -73,11 +75,11 @@ module _ (t : Edges) (kinds forms : List ℕ) (v : Finished) (f : List ℕ) (lon
   length-valued =
       cond-elim (λ (g : List ℕ). length g ≡ 96) (isObject f)
       (λ o.
-        cond-elim (λ (g : List ℕ). length g ≡ 96) (ltb (currentKey f) 128)
-        (λ k. length-setAll (fitting (fitsCode v) (t .keys) kinds (currentKey f)) (λ e. 256 + e) (edgeCount (t .count)) f ∙ long) (λ k. long))
+      cond-elim (λ (g : List ℕ). length g ≡ 96) (ltb (currentKey f) 128)
+      (λ k. length-setAll (fitting (fitsCode v) (t .keys) kinds (currentKey f)) (λ e. 256 + e) (edgeCount (t .count)) f ∙ long) (λ k. long))
       (λ o.
-        length-append (take 32 f) next
-        ∙ cc (length-take-le 32 f (omega arith), length-setAll (stepping (fitsCode v) (t .rules) (t .states) kinds forms f) (stateNumber (t .rules) (t .nexts)) (edgeCount (t .count)) (replicate 64 0)))
+      length-append (take 32 f) next
+      ∙ cc (length-take-le 32 f (omega arith), length-setAll (stepping (fitsCode v) (t .rules) (t .states) kinds forms f) (stateNumber (t .rules) (t .nexts)) (edgeCount (t .count)) (replicate 64 0)))
     where
       next : List ℕ
       next = setAll (stepping (fitsCode v) (t .rules) (t .states) kinds forms f) (stateNumber (t .rules) (t .nexts)) (edgeCount (t .count)) (replicate 64 0)
@@ -88,13 +90,13 @@ module _ (t : Edges) (kinds forms : List ℕ) (v : Finished) (f : List ℕ) (lon
   getD-valued b h =
       cond-elim (λ (g : List ℕ). getD g b 0 ≡ getD f b 0) (isObject f)
       (λ o.
-        cond-elim (λ (g : List ℕ). getD g b 0 ≡ getD f b 0) (ltb (currentKey f) 128)
-        (λ k. getD-setAll-other (fitting (fitsCode v) (t .keys) kinds (currentKey f)) (λ e. 256 + e) (edgeCount (t .count)) f b (λ e q. omega arith))
-        (λ k. refl))
+      cond-elim (λ (g : List ℕ). getD g b 0 ≡ getD f b 0) (ltb (currentKey f) 128)
+      (λ k. getD-setAll-other (fitting (fitsCode v) (t .keys) kinds (currentKey f)) (λ e. 256 + e) (edgeCount (t .count)) f b (λ e q. omega arith))
+      (λ k. refl))
       (λ o.
-        let l : length (take 32 f) ≡ 32 = length-take-le 32 f (omega arith) in
-        List·getD-append (take 32 f) (setAll (stepping (fitsCode v) (t .rules) (t .states) kinds forms f) (stateNumber (t .rules) (t .nexts)) (edgeCount (t .count)) (replicate 64 0)) 0 b (omega arith)
-        ∙ getD-take 32 f b 0 h)
+      let l : length (take 32 f) ≡ 32 = length-take-le 32 f (omega arith) in
+      List·getD-append (take 32 f) (setAll (stepping (fitsCode v) (t .rules) (t .states) kinds forms f) (stateNumber (t .rules) (t .nexts)) (edgeCount (t .count)) (replicate 64 0)) 0 b (omega arith)
+      ∙ getD-take 32 f b 0 h)
 
   pub isObject-valued : isObject (valued t kinds forms v f) ≡ isObject f
   unfolding isObject
@@ -124,20 +126,21 @@ module _ (t : Edges) (kinds forms : List ℕ) (v : Finished) (f : List ℕ) (lon
       known : Dec (currentKey f < 128) → T (bitAt (cond (ltb (currentKey f) 128) edges f) (256 + j))
           ↔ (((currentKey f < 128) × (j < edgeCount (t .count)) × (getD (t .keys) j 0 ≡ currentKey f) × T (fitsCode v (getD kinds j 0))) ⊎ T (bitAt f (256 + j)))
       known (yes k) =
-          rw (lt-ltb (currentKey f) 128 k)
-          ((λ h.
+          rw (lt-ltb (currentKey f) 128 k) (
+            (λ h.
+                ⊎-elim
+                (λ w.
+                let e : w .0 ≡ j = omega arith in
+                let p = fitting-iff (fitsCode v) (t .keys) kinds (currentKey f) j .0 (subst (λ (i : ℕ). T (fitting (fitsCode v) (t .keys) kinds (currentKey f) i)) e (w .2)) in
+                inl (k, omega arith, p .0, p .1))
+                (λ b. inr b)
+                (test-or-bitAt-of-setAll (fitting (fitsCode v) (t .keys) kinds (currentKey f)) (λ e. 256 + e) (edgeCount (t .count)) f (256 + j) h)),
             ⊎-elim
-            (λ w.
-              let e : w .0 ≡ j = omega arith in
-              let p = fitting-iff (fitsCode v) (t .keys) kinds (currentKey f) j .0 (subst (λ (i : ℕ). T (fitting (fitsCode v) (t .keys) kinds (currentKey f) i)) e (w .2)) in
-              inl (k, omega arith, p .0, p .1))
-            (λ b. inr b)
-            (test-or-bitAt-of-setAll (fitting (fitsCode v) (t .keys) kinds (currentKey f)) (λ e. 256 + e) (edgeCount (t .count)) f (256 + j) h)),
-          ⊎-elim
-          (λ w.
-            bitAt-setAll-of-test (fitting (fitsCode v) (t .keys) kinds (currentKey f)) (λ e. 256 + e) (edgeCount (t .count)) f j (w .1)
-            (fitting-iff (fitsCode v) (t .keys) kinds (currentKey f) j .1 (w .2, w .3)) (omega arith))
-          (λ b. bitAt-setAll-of-bitAt (fitting (fitsCode v) (t .keys) kinds (currentKey f)) (λ e. 256 + e) (edgeCount (t .count)) f (256 + j) b))
+                (λ w.
+                bitAt-setAll-of-test (fitting (fitsCode v) (t .keys) kinds (currentKey f)) (λ e. 256 + e) (edgeCount (t .count)) f j (w .1)
+                (fitting-iff (fitsCode v) (t .keys) kinds (currentKey f) j .1 (w .2, w .3)) (omega arith))
+                (λ b. bitAt-setAll-of-bitAt (fitting (fitsCode v) (t .keys) kinds (currentKey f)) (λ e. 256 + e) (edgeCount (t .count)) f (256 + j) b),
+          )
       known (no k) = rw (le-ltb (currentKey f) 128 (omega arith)) ((λ h. inr h), ⊎-elim (λ w. absurd (omega arith)) (λ b. b))
 
   -- in an array state j is held where a fitting edge of an `arr` rule leads to it from a state that was
@@ -146,15 +149,16 @@ module _ (t : Edges) (kinds forms : List ℕ) (v : Finished) (f : List ℕ) (lon
       × T (heldIn f (stateNumber (t .rules) (t .states) e)) × (stateNumber (t .rules) (t .nexts) e ≡ j))
   unfolding valued withStates
   heldIn-valued-array o j l =
-      rw (o, heldIn-of-append f (setAll p g n (replicate 64 0)) j (omega arith))
-      ((λ h.
-        let w = test-of-setAll-zeros p g n 64 j h in
-        let q = stepping-iff (fitsCode v) (t .rules) (t .states) kinds forms f (w .0) .0 (w .2) in
-        (w .0, w .1, q .0, q .1, q .2, w .3)),
-      (λ w.
-        let i : g (w .0) / 8 < 64 = omega arith in
-        rw (w .5) at (bitAt-setAll-of-test p g n (replicate 64 0) (w .0) (w .1)
-        (stepping-iff (fitsCode v) (t .rules) (t .states) kinds forms f (w .0) .1 (w .2, w .3, w .4)) i)))
+      rw (o, heldIn-of-append f (setAll p g n (replicate 64 0)) j (omega arith)) (
+        (λ h.
+            let w = test-of-setAll-zeros p g n 64 j h in
+            let q = stepping-iff (fitsCode v) (t .rules) (t .states) kinds forms f (w .0) .0 (w .2) in
+            (w .0, w .1, q .0, q .1, q .2, w .3)),
+        (λ w.
+            let i : g (w .0) / 8 < 64 = omega arith in
+            rw (w .5) at (bitAt-setAll-of-test p g n (replicate 64 0) (w .0) (w .1)
+            (stepping-iff (fitsCode v) (t .rules) (t .states) kinds forms f (w .0) .1 (w .2, w .3, w .4)) i)),
+      )
     where
       p : ℕ → Bool
       p = stepping (fitsCode v) (t .rules) (t .states) kinds forms f

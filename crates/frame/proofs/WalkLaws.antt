@@ -37,8 +37,8 @@ unfolding seenIn bitAt
 walked-byte-zero t f s i e =
     sym (walked-none t f (8 * i) s 8
     (λ j l.
-      let q : (128 + (8 * i + j)) / 8 ≡ 16 + i = omega arith in
-      rw (q, e, zero-div)))
+    let q : (128 + (8 * i + j)) / 8 ≡ 16 + i = omega arith in
+    rw (q, e, zero-div)))
 
 -- the keys of one more byte
 pub walked-next-byte : (t : Edges) (f s cur next : List ℕ) (i : ℕ) → cur ≡ walked t f 0 s (8 * i) → next ≡ walked t f (8 * i) cur 8
@@ -56,24 +56,26 @@ unfolding walking
 walking-iff rules states keys f s k e =
     let a = eqb (getD keys e 0) k in
     let b = heldIn f e in
-    let c = bitAt s (stateNumber rules states e) in
-    ((λ t. (eqb→eq (getD keys e 0) k (T-and-left a (b && c) t), T-and-left b c (T-and-right a (b && c) t), T-and-right b c (T-and-right a (b && c) t))),
-    (λ p. T-and a (b && c) (T-of-true a (eq-eqb (getD keys e 0) k (p .0))) (T-and b c (p .1) (p .2))))
+    let c = bitAt s (stateNumber rules states e) in (
+      (λ t. (eqb→eq (getD keys e 0) k (T-and-left a (b && c) t), T-and-left b c (T-and-right a (b && c) t), T-and-right b c (T-and-right a (b && c) t))),
+      (λ p. T-and a (b && c) (T-of-true a (eq-eqb (getD keys e 0) k (p .0))) (T-and b c (p .1) (p .2))),
+    )
 
 -- the states after key k: those that a fitting edge of the key leads to from one of the states
 pub bitAt-keyStates : (t : Edges) (f s : List ℕ) (k j : ℕ) → j < 512 → T (bitAt (keyStates t f s k) j)
     ↔ ((e : ℕ) × (e < edgeCount (t .count)) × (getD (t .keys) e 0 ≡ k) × T (heldIn f e)
     × T (bitAt s (stateNumber (t .rules) (t .states) e)) × (stateNumber (t .rules) (t .nexts) e ≡ j))
 unfolding keyStates
-bitAt-keyStates t f s k j l =
-    ((λ h.
+bitAt-keyStates t f s k j l = (
+  (λ h.
       let w = test-of-setAll-zeros p g n 64 j h in
       let q = walking-iff (t .rules) (t .states) (t .keys) f s k (w .0) .0 (w .2) in
       (w .0, w .1, q .0, q .1, q .2, w .3)),
-    (λ w.
+  (λ w.
       let i : g (w .0) / 8 < 64 = omega arith in
       rw (w .5) at (bitAt-setAll-of-test p g n (replicate 64 0) (w .0) (w .1)
-      (walking-iff (t .rules) (t .states) (t .keys) f s k (w .0) .1 (w .2, w .3, w .4)) i)))
+      (walking-iff (t .rules) (t .states) (t .keys) f s k (w .0) .1 (w .2, w .3, w .4)) i)),
+)
   where
     p : ℕ → Bool
     p = walking (t .rules) (t .states) (t .keys) f s k

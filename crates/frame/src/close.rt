@@ -2,7 +2,6 @@
 use crate::bits;
 use crate::edge;
 use crate::open;
-
 ghost use mathlib.Core.Bool.{cond};
 ghost use mathlib.Core.Path.{_≡_};
 ghost use Prim.Native.Nat.{_+_, _*_, _^_, _<_};

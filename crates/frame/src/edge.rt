@@ -1,7 +1,6 @@
 // Edges of a table: how many count, and the tests of one of them.
 use crate::bits;
 use crate::mask;
-
 ghost use mathlib.Core.Bool.{_&&_};
 ghost use mathlib.Core.Path.{_≡_};
 ghost use Prim.Native.Nat.{_+_, _*_, _<_};

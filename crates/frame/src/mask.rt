@@ -1,7 +1,6 @@
 // The kinds that a finished value fits, as one number: bit c is set where the value fits the kind with code c.
 use table::kind::Finished;
 use table::kind::Scalar;
-
 ghost use mathlib.Core.Path.{_≡_};
 ghost use Prim.Native.Nat.{ℕ};
 ghost use Rattle.frame.specs.Edges.{fitsCode};

@@ -1,6 +1,5 @@
 // Opening: 01, "Frames".
 use crate::bits;
-
 ghost use mathlib.Core.Path.{_≡_};
 ghost use Prim.Native.Nat.{_*_};
 ghost use lib.ListN.{length, replicate};

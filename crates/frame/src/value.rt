@@ -3,7 +3,6 @@ use crate::bits;
 use crate::edge;
 use crate::mask;
 use table::kind::Finished;
-
 ghost use mathlib.Core.List.{_++_};
 ghost use mathlib.Core.Path.{_≡_};
 ghost use Prim.Native.Nat.{_+_};
@@ -14,7 +13,14 @@ ghost use Rattle.frame.specs.Mask.{maskHas};
 ghost use Rattle.frame.specs.Ops.{valued};
 
 // Adds the edges of the key whose kinds the mask has.
-fn add_edges<'a>(frame: &mut [u8], edges: usize, keys: &'a [u8; 512], kinds: &'a [u8; 512], key: u8, m: u64)
+fn add_edges<'a>(
+    frame: &mut [u8],
+    edges: usize,
+    keys: &'a [u8; 512],
+    kinds: &'a [u8; 512],
+    key: u8,
+    m: u64,
+)
     ensures { λ _. ⌜ now (frame .exit) ≡ setAll (fitting (maskHas m) (now (keys .entry)) (now (kinds .entry)) key) (λ e. 256 + e) (edgeCount edges) (now (frame .entry)) ⌝ }
 {
     let n = edge::count(edges);

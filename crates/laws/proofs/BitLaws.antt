@@ -246,8 +246,8 @@ bitAt-setAll-of-test p f zero xs e l h i = absurd (not-suc-le-zero l)
 bitAt-setAll-of-test p f (suc n) xs e l h i =
     ⊎-elim (λ q. last n q)
     (λ m.
-      let s = bitAt-setAll-of-test p f n xs e m h i in
-      cond-elim (λ (ys : List ℕ). T (bitAt ys (f e))) (p n) (λ t. bitAt-setBit-of-bitAt (setAll p f n xs) (f n) (f e) s) (λ t. s))
+    let s = bitAt-setAll-of-test p f n xs e m h i in
+    cond-elim (λ (ys : List ℕ). T (bitAt ys (f e))) (p n) (λ t. bitAt-setBit-of-bitAt (setAll p f n xs) (f n) (f e) s) (λ t. s))
     (eq-or-lt-of-le (le-of-suc-le-suc l))
   where
     last : (m : ℕ) → e ≡ m → T (bitAt (cond (p m) (setBit (setAll p f m xs) (f m)) (setAll p f m xs)) (f e))
@@ -264,8 +264,8 @@ test-or-bitAt-of-setAll p f zero xs j t = inr t
 test-or-bitAt-of-setAll p f (suc n) xs j t =
     cond-elim (λ (ys : List ℕ). T (bitAt ys j) → ((e : ℕ) × (e < suc n) × T (p e) × (f e ≡ j)) ⊎ T (bitAt xs j)) (p n)
     (λ h s.
-      ⊎-elim (λ q. inl (n, le-refl (suc n), h, q)) (λ r. later (test-or-bitAt-of-setAll p f n xs j r))
-      (same-or-bitAt-of-setBit (setAll p f n xs) (f n) j s))
+    ⊎-elim (λ q. inl (n, le-refl (suc n), h, q)) (λ r. later (test-or-bitAt-of-setAll p f n xs j r))
+    (same-or-bitAt-of-setBit (setAll p f n xs) (f n) j s))
     (λ h s. later (test-or-bitAt-of-setAll p f n xs j s)) t
   where
     later : ((e : ℕ) × (e < n) × T (p e) × (f e ≡ j)) ⊎ T (bitAt xs j) → ((e : ℕ) × (e < suc n) × T (p e) × (f e ≡ j)) ⊎ T (bitAt xs j)

@@ -13,7 +13,8 @@ use Rattle.table.specs.Kind.{ruleFits}
 use Rattle.frame.specs.Frame.{isObject, marked}
 use Rattle.frame.specs.Edges.{Edges}
 use Rattle.frame.specs.Ops.{startStates, walked, accepting, ruleSet, closed}
-use Rattle.frame.proofs.RuleLaws.{ruleSet-none, accepting-nil, below-of-hasForm, ruleFits-ruleSet, accepting-iff}
+use Rattle.frame.proofs.EdgeLaws.{below-of-hasForm}
+use Rattle.frame.proofs.RuleLaws.{ruleSet-none, accepting-nil, ruleFits-ruleSet, accepting-iff}
 
 -- a set of accepting rules has them
 ruleFits-accepting : (forms ends : List ℕ) (form : ℕ) (s : List ℕ) (r : ℕ)

@@ -11,7 +11,8 @@ use lib.Dec.{eqb, ltb, leb, ltb→lt, leb→le, lit<}
 use lib.ListN.{length, getD, take, drop, length-append, length-drop, take-append-drop, List·getD-append}
 use lib.Seq.{take-at, drop-at, drop-drop, length-take-le, take-append-le, drop-append-le, drop-append-add, getD-take, getD-drop}
 use Rattle.laws.proofs.TestLaws.{true-of-T, T-of-true, T-and-left, T-and-right, cond-elim}
-use Rattle.frame.specs.Frame.{frameCount, frameStart, hasFrame, framePlace, frameAt, putFrame, isObject, kindNumber}
+use Rattle.frame.specs.Frame.{frameCount, frameStart, hasFrame, frameAt, putFrame, isObject, kindNumber}
+use Rattle.frame.specs.Place.{framePlace}
 
 -- ---- where a level's frame is
 

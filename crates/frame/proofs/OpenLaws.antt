@@ -13,7 +13,7 @@ use Rattle.frame.specs.Edges.{hasForm}
 use Rattle.frame.specs.Frame.{isObject, currentKey, marked, seenIn, heldIn}
 use Rattle.frame.specs.Ops.{startStates, opened}
 use Rattle.frame.proofs.PartLaws.{heldIn-of-drop, seenIn-of-drop}
-use Rattle.frame.proofs.RuleLaws.{below-of-hasForm}
+use Rattle.frame.proofs.EdgeLaws.{below-of-hasForm}
 
 -- ---- start states
 

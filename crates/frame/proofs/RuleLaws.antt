@@ -9,7 +9,7 @@ use native.Mathlib.Decide.{decLt}
 use native.Mathlib.Numerals.{unary-clauses}
 use native.Mathlib.Omega.{arith}
 use lib.Bits.{bitAnd, bitOr, or-shifted-r, and-le-l, and-zero-l}
-use lib.Dec.{T, eqb, ltb, ltb→lt, lit<}
+use lib.Dec.{T, eqb, ltb, lit<}
 use lib.ListN.{getD}
 use lib.Pow.{pow-mono}
 use borrow.Author.Tests.{lt-ltb, le-ltb, eqb-true, eqb-false}
@@ -21,18 +21,6 @@ use Rattle.laws.proofs.TestLaws.{T-of-true, T-and, T-and-left, T-and-right, T-o
 use Rattle.table.specs.Kind.{ruleFits}
 use Rattle.frame.specs.Edges.{hasForm}
 use Rattle.frame.specs.Ops.{ended, accepting, ruleSet}
-
--- ---- forms
-
--- the form of a rule below 32
-pub hasForm-below : (forms : List ℕ) (form r : ℕ) → r < 32 → hasForm forms form r ≡ eqb (getD forms r 0) form
-unfolding hasForm
-hasForm-below forms form r h = rw (lt-ltb r 32 h)
-
--- a rule that has a form is below 32
-pub below-of-hasForm : (forms : List ℕ) (form r : ℕ) → T (hasForm forms form r) → r < 32
-unfolding hasForm
-below-of-hasForm forms form r t = ltb→lt r 32 (T-and-left (ltb r 32) (eqb (getD forms r 0) form) t)
 
 -- ---- some number of a run
 

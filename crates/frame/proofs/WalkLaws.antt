@@ -1,19 +1,18 @@
 -- The walk over the keys seen, in steps of any size. Assumes nothing.
-use mathlib.Core.Bool.{Bool, true, false, cond, _&&_}
+use mathlib.Core.Bool.{Bool, true, false, cond}
 use mathlib.Core.List.{List}
 use mathlib.Core.Logic.{_↔_}
 use mathlib.Core.Path.{_≡_, refl, sym, ap, _∙_}
 use Prim.Native.Nat.{ℕ, zero, suc, _+_, _*_, _/_, _<_}
 use native.Mathlib.Nat.{zero-div, zero-add, add-zero, add-suc, add-assoc, le-refl}
 use native.Mathlib.Omega.{arith}
-use lib.Dec.{T, eqb, eqb→eq}
+use lib.Dec.{T}
 use lib.ListN.{getD, replicate}
-use borrow.Author.Tests.{eq-eqb}
 use Rattle.laws.specs.Bits.{bitAt}
 use Rattle.laws.proofs.BitLaws.{bitAt-setAll-of-test, test-of-setAll-zeros}
-use Rattle.laws.proofs.TestLaws.{T-and, T-and-left, T-and-right, T-of-true}
 use Rattle.frame.specs.Edges.{Edges, edgeCount, stateNumber, walking}
 use Rattle.frame.specs.Frame.{seenIn, heldIn}
+use Rattle.frame.proofs.EdgeLaws.{walking-iff}
 use Rattle.frame.specs.Ops.{keyStates, walked}
 
 -- n keys and then m keys are n + m keys
@@ -48,18 +47,7 @@ walked-next-byte t f s cur next i e h =
     h ∙ ap (λ (x : List ℕ). walked t f (8 * i) x 8) e ∙ ap (λ (a : ℕ). walked t f a (walked t f 0 s (8 * i)) 8) (sym (zero-add (8 * i)))
     ∙ sym (ap (walked t f 0 s) k ∙ walked-add t f 0 s (8 * i) 8)
 
--- ---- what an edge of the walk says
-
-pub walking-iff : (rules states keys f s : List ℕ) (k e : ℕ)
-    → T (walking rules states keys f s k e) ↔ ((getD keys e 0 ≡ k) × T (heldIn f e) × T (bitAt s (stateNumber rules states e)))
-unfolding walking
-walking-iff rules states keys f s k e =
-    let a = eqb (getD keys e 0) k in
-    let b = heldIn f e in
-    let c = bitAt s (stateNumber rules states e) in (
-      (λ t. (eqb→eq (getD keys e 0) k (T-and-left a (b && c) t), T-and-left b c (T-and-right a (b && c) t), T-and-right b c (T-and-right a (b && c) t))),
-      (λ p. T-and a (b && c) (T-of-true a (eq-eqb (getD keys e 0) k (p .0))) (T-and b c (p .1) (p .2))),
-    )
+-- ---- by membership
 
 -- the states after key k: those that a fitting edge of the key leads to from one of the states
 pub bitAt-keyStates : (t : Edges) (f s : List ℕ) (k j : ℕ) → j < 512 → T (bitAt (keyStates t f s k) j)

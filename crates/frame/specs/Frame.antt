@@ -20,10 +20,6 @@ hasFrame n l = ltb 0 l && leb l (frameCount n)
 abbrev pub frameStart : ℕ → ℕ
 frameStart l = 96 * (l - 1)
 
--- the place of a level's first byte in a buffer of n bytes, and n where there is no frame of the level
-unfoldable pub framePlace : ℕ → ℕ → ℕ
-framePlace n l = cond (hasFrame n l) (frameStart l) n
-
 -- the 96 bytes of a level; of a level without a frame nothing is read
 unfoldable pub frameAt : List ℕ → ℕ → List ℕ
 frameAt w l = cond (hasFrame (length w) l) (take 96 (drop (frameStart l) w)) []

@@ -1,4 +1,5 @@
 pub mod Frame
+pub mod Place
 pub mod Edges
 pub mod Mask
 pub mod Ops

@@ -11,7 +11,8 @@ mod value; // value.rt: a finished value
 use table::kind::Finished;
 ghost use mathlib.Core.Path.{_≡_};
 ghost use Rattle.frame.specs.Edges.{edgesOf};
-ghost use Rattle.frame.specs.Frame.{frameCount, framePlace, frameAt, putFrame, kindNumber};
+ghost use Rattle.frame.specs.Frame.{frameCount, frameAt, putFrame, kindNumber};
+ghost use Rattle.frame.specs.Place.{framePlace};
 ghost use Rattle.frame.specs.Ops.{opened, keyed, valued, closed};
 
 // The number of frames of a buffer of n bytes: one for each 96, at most 64.

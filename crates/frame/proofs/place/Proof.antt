@@ -1,5 +1,6 @@
 -- `place` meets its contract: the tests are those of the definition. Assumes nothing.
-use Rattle.frame.specs.Frame.{frameCount, hasFrame, framePlace}
+use Rattle.frame.specs.Frame.{frameCount, hasFrame}
+use Rattle.frame.specs.Place.{framePlace}
 use Rattle.laws.proofs.Tests.{tests}
 use borrow.Author.Needs.{needs}
 use borrow.Author.Tests.{lt-ltb, le-leb, lt-leb}

@@ -1,5 +1,6 @@
 -- `close::with_rule` meets its contract: each branch is an arm of the choice, and the new bit lies above the set. Assumes nothing.
-use Rattle.frame.proofs.RuleLaws.{hasForm-below, with-bit-lt}
+use Rattle.frame.proofs.EdgeLaws.{hasForm-below}
+use Rattle.frame.proofs.RuleLaws.{with-bit-lt}
 use Rattle.frame.specs.Ops.{accepting}
 use Rattle.laws.proofs.BitLaws.{one-shl}
 use borrow.Author.Needs.{needs}

@@ -1,6 +1,6 @@
 -- `open::add_starts` meets its contract. The loop has set the bits of the rules below r. Assumes nothing.
 use Prim.Native.Nat.{_-_, _*_, _≤_}
-use Rattle.frame.proofs.RuleLaws.{hasForm-below}
+use Rattle.frame.proofs.EdgeLaws.{hasForm-below}
 use Rattle.frame.specs.Edges.{hasForm}
 use Rattle.laws.proofs.BitLaws.{setAll-more}
 use Rattle.laws.specs.Bits.{setAll}

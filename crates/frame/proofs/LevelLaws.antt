@@ -1,9 +1,9 @@
 -- Laws of `frameAt` and `putFrame`: what a level reads and what it leaves. Assumes nothing.
 use mathlib.Core.Bool.{Bool, true, false, cond, _&&_}
 use mathlib.Core.List.{List, [], _++_, append-assoc}
-use mathlib.Core.Logic.{_⊎_, ⊎-elim}
+use mathlib.Core.Logic.{_⊎_, inr, ⊎-elim}
 use mathlib.Core.Path.{_≡_, refl, sym, ap, _∙_}
-use Prim.Native.Nat.{ℕ, _+_, _-_, _<_, _≤_}
+use Prim.Native.Nat.{ℕ, zero, suc, _*_, _+_, _-_, _<_, _≤_}
 use native.Mathlib.Decide.{decLt}
 use native.Mathlib.Nat.{add-zero}
 use native.Mathlib.Omega.{arith}
@@ -16,14 +16,16 @@ use Rattle.frame.specs.Place.{framePlace}
 
 -- ---- where a level's frame is
 
--- a level that has a frame lies in the buffer
-pub fits-of-hasFrame : (n l : ℕ) → hasFrame n l ≡ true → (1 ≤ l) × (frameStart l + 96 ≤ n)
+-- a level that has a frame is one of those counted
+pub le-of-hasFrame : (n l : ℕ) → hasFrame n l ≡ true → (1 ≤ l) × (l ≤ frameCount n)
 unfolding hasFrame
-fits-of-hasFrame n l e =
+le-of-hasFrame n l e =
     let t = T-of-true (ltb 0 l && leb l (frameCount n)) e in
-    let a = ltb→lt 0 l (T-and-left (ltb 0 l) (leb l (frameCount n)) t) in
-    let b = leb→le l (frameCount n) (T-and-right (ltb 0 l) (leb l (frameCount n)) t) in
-    (omega arith, omega arith)
+    (ltb→lt 0 l (T-and-left (ltb 0 l) (leb l (frameCount n)) t), leb→le l (frameCount n) (T-and-right (ltb 0 l) (leb l (frameCount n)) t))
+
+-- so that it lies in the buffer
+pub fits-of-hasFrame : (n l : ℕ) → hasFrame n l ≡ true → (1 ≤ l) × (frameStart l + 96 ≤ n)
+fits-of-hasFrame n l e = let g = le-of-hasFrame n l e in (omega arith, omega arith)
 
 -- a place before the end is that of a frame
 pub frame-of-place : (n l a : ℕ) → a ≡ framePlace n l → a < n → (hasFrame n l ≡ true) × (a ≡ frameStart l)
@@ -195,3 +197,17 @@ module _ (w f : List ℕ) (l : ℕ) (long : length f ≡ 96) where
       ∙ getD-drop i w 0 0
       ∙ ap (λ (n : ℕ). getD w n 0) q)
       h)
+
+  -- so is each byte past the frames
+  pub getD-putFrame-past : (i : ℕ) → 96 * frameCount (length w) ≤ i → getD (putFrame w l f) i 0 ≡ getD w i 0
+  getD-putFrame-past i h = go (hasFrame (length w) l) refl
+    where
+      go : (b : Bool) → hasFrame (length w) l ≡ b → getD (putFrame w l f) i 0 ≡ getD w i 0
+      go true e = let g = le-of-hasFrame (length w) l e in getD-putFrame-other i (inr (omega arith))
+      go false e = ap (λ (x : List ℕ). getD x i 0) (sym (putFrame-none w f l e))
+
+-- the frame of a closed value stays while the level below is written
+pub frameAt-putFrame-below : (w f : List ℕ) (l : ℕ) → length f ≡ 96 → frameAt (putFrame w (l - 1) f) l ≡ frameAt w l
+unfolding hasFrame
+frameAt-putFrame-below w f zero long = ap (λ (x : List ℕ). frameAt x 0) (sym (putFrame-none w f 0 refl))
+frameAt-putFrame-below w f (suc l) long = frameAt-putFrame-other w f (suc l - 1) long (suc l) (λ e. omega arith)

@@ -24,7 +24,7 @@ opened forms false = 2 ∷ (replicate 31 0 ++ startStates forms 2)
 
 -- ---- a finished key
 
--- byte 1 and the key's bit are set, or byte 2 where the key was seen already; a number above 127 is an unknown key
+-- byte 1 is set to the key and its bit is set, or byte 2 where it was seen already; an unknown key, a number above 127, sets byte 1 to 255 and byte 2
 unfoldable pub keyed : ℕ → List ℕ → List ℕ
 keyed k f =
     cond (ltb k 128)

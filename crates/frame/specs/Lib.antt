@@ -3,3 +3,4 @@ pub mod Place
 pub mod Edges
 pub mod Mask
 pub mod Ops
+pub mod Reached

@@ -1,11 +1,11 @@
 -- What closing gives, by case and by membership. Assumes nothing.
 use mathlib.Core.Bool.{Bool, true, false, cond}
 use mathlib.Core.List.{List, []}
-use mathlib.Core.Path.{_≡_, refl, sym, ap, _∙_}
-use Prim.Native.Nat.{ℕ, _+_, _<_, _≤_}
+use mathlib.Core.Path.{_≡_, refl, sym}
+use Prim.Native.Nat.{ℕ, _<_, _≤_}
 use native.Mathlib.Nat.{zero-div}
 use native.Mathlib.Omega.{arith}
-use lib.Dec.{T, ltb}
+use lib.Dec.{ltb}
 use lib.ListN.{length, getD, take, drop, length-drop}
 use lib.Seq.{take-all}
 use borrow.Author.Tests.{lt-ltb, le-ltb, eq-eqb, ne-eqb}
@@ -13,7 +13,8 @@ use Rattle.table.specs.Kind.{ruleFits}
 use Rattle.frame.specs.Frame.{isObject, marked}
 use Rattle.frame.specs.Edges.{Edges}
 use Rattle.frame.specs.Ops.{startStates, walked, accepting, ruleSet, closed}
-use Rattle.frame.proofs.RuleLaws.{ruleSet-none, accepting-nil, below-of-hasForm, ruleFits-ruleSet, accepting-iff}
+use Rattle.frame.proofs.EdgeLaws.{below-of-hasForm}
+use Rattle.frame.proofs.RuleLaws.{ruleSet-none, accepting-nil, ruleFits-ruleSet, accepting-iff}
 
 -- a set of accepting rules has them
 ruleFits-accepting : (forms ends : List ℕ) (form : ℕ) (s : List ℕ) (r : ℕ)

@@ -1,17 +1,19 @@
 -- The work buffer under book B of 01, byte by byte, along the steps of a few texts: computed, in one table. Assumes nothing.
-use mathlib.Core.Bool.{Bool, true, false, cond, _&&_}
+use mathlib.Core.Bool.{Bool, true, false, _&&_}
 use mathlib.Core.List.{List, [], _∷_}
-use Prim.Native.Nat.{ℕ, zero, suc, _-_}
+use mathlib.Core.Path.{_≡_, refl}
+use Prim.Native.Nat.{ℕ, suc, _-_}
 use lib.Dec.{T, eqb}
-use lib.ListN.{set, replicate}
+use lib.ListN.{getD, set, replicate}
 use Rattle.laws.specs.Bits.{bitAt, setBit, setAll}
 use Rattle.laws.specs.Lists.{same, all, any}
+use Rattle.laws.specs.Tab.{tab}
 use Rattle.table.specs.Kind.{kindOf, ruleFits}
 use Rattle.table.specs.declared.kind.Scalar.the-variants.{Null, Str, Num, Int}
 use Rattle.table.specs.declared.kind.Finished.{Finished}
 use Rattle.table.specs.declared.kind.Finished.the-variants as Done
 use Rattle.frame.specs.Edges.{Edges, edgesOf, hasForm, stateNumber, fitsCode, fitting, stepping, walking}
-use Rattle.frame.specs.Frame.{hasFrame, frameAt, putFrame, isObject, currentKey, marked, seenIn, heldIn}
+use Rattle.frame.specs.Frame.{hasFrame, frameAt, putFrame, isObject, kindNumber, currentKey, marked, seenIn, heldIn}
 use Rattle.frame.specs.Ops.{startStates, opened, keyed, withEdges, withStates, valued, keyStates, walked, ended, accepting, ruleSet, closed}
 
 -- ---- book B: the keys are corners, 0, and name, 1; the edges are `corners r1`, `name str`, `r2`, `int` and `int`
@@ -68,9 +70,10 @@ fresh = record { work = replicate 288 0; level = 0; fits = 0 }
 pub data At : Type 0 where
   at : ℕ → ℕ → At
 
-pub bytes : List At → List ℕ
-bytes [] = replicate 288 0
-bytes (at p v ∷ more) = set (bytes more) p v
+-- n bytes, zero but for those named
+pub bytes : ℕ → List At → List ℕ
+bytes n [] = replicate n 0
+bytes n (at p v ∷ more) = set (bytes n more) p v
 
 pub record Row : Type 0 where
   pub text : List Step
@@ -78,7 +81,7 @@ pub record Row : Type 0 where
   pub fits : ℕ
 
 pub right : Row → Bool
-right row = let r = steps (row .text) fresh in same (r .work) (bytes (row .holds)) && eqb (r .fits) (row .fits)
+right row = let r = steps (row .text) fresh in same (r .work) (bytes 288 (row .holds)) && eqb (r .fits) (row .fits)
 
 str : Step
 str = value (Done.Scalar Str)
@@ -169,6 +172,38 @@ table =
       fits = 0;
     }
     ∷ []
+
+-- ---- what counts of foreign bytes
+
+-- a frame, zero but for the bytes named
+pub frame : List At → List ℕ
+frame holds = bytes 96 holds
+
+pub frames : List (List At)
+frames =
+    (at 0 1 ∷ at 16 3 ∷ at 32 3 ∷ [])
+    ∷ (at 0 1 ∷ at 2 9 ∷ at 16 3 ∷ at 32 3 ∷ [])
+    ∷ (at 0 1 ∷ at 16 7 ∷ at 32 3 ∷ [])
+    ∷ (at 0 1 ∷ at 16 3 ∷ at 32 7 ∷ [])
+    ∷ (at 0 2 ∷ at 36 4 ∷ [])
+    ∷ (at 0 2 ∷ at 32 4 ∷ [])
+    ∷ []
+
+-- a kind of 7 is an array's
+pub kind-of-seven : kindNumber (frame (at 0 7 ∷ [])) ≡ 2
+unfolding kindNumber isObject frame bytes
+kind-of-seven = refl
+
+-- a current key of 128 is unknown: an array that rule 2 fits adds no edge, though edge 2 asks for rule 2 and has no key
+pub no-edge-of-key-128 : T (same (valued edges kinds forms (Done.Rules 4) (frame (at 0 1 ∷ at 1 128 ∷ []))) (frame (at 0 1 ∷ at 1 128 ∷ [])))
+unfolding isObject currentKey fitsCode fitting withEdges valued bitAt setBit setAll same kindOf ruleFits edges kinds forms frame bytes
+no-edge-of-key-128 = tt
+
+-- the rules that each frame fits: both keys and their edges; the same with a mark of 9; with a third key that no edge has; with the third edge too;
+-- an array in state 2 of rule 2; in state 2 of rule 0, an end state of an obj rule
+pub closed-foreign : T (same (tab (λ i. closed edges forms ends (frame (getD frames i []))) 0 6) (1 ∷ 0 ∷ 0 ∷ 1 ∷ 4 ∷ 0 ∷ []))
+unfolding isObject marked seenIn heldIn hasForm stateNumber walking startStates keyStates walked ended accepting ruleSet closed bitAt setBit setAll any same edges forms ends frame frames bytes
+closed-foreign = tt
 
 -- every row of the table is right
 pub frames-under-book-b : T (all right table)

@@ -1,22 +1,20 @@
 -- A mask has the code of each kind that the value fits, and no other. Assumes nothing.
-use mathlib.Core.Bool.{Bool, true, false, cond, Bool·beq}
-use mathlib.Core.Path.{_≡_, refl, sym, ap, _∙_}
+use mathlib.Core.Bool.{Bool·beq}
+use mathlib.Core.Path.{_≡_, sym, ap, _∙_}
 use Prim.Native.Nat.{ℕ, zero, suc, _+_, _-_, _*_, _/_, _%_, _^_, _<_, _≤_}
 use native.Mathlib.Decide.{decLt}
 use native.Mathlib.Nat.{div-eq-of-lt, lt-of-lt-of-le}
 use native.Mathlib.Omega.{arith}
-use lib.Dec.{T, eqb, ltb}
+use lib.Dec.{T, eqb}
 use lib.Pow.{shl-shr, shr-shr, pow-mono}
 use borrow.Author.Tests.{lt-ltb, le-ltb, ne-eqb}
 use Rattle.laws.specs.Tab.{every}
 use Rattle.laws.proofs.BitLaws.{eq-of-beq}
 use Rattle.laws.proofs.TabLaws.{T-of-every}
-use Rattle.table.specs.Kind.{kindOf, ruleFits, fitsKind}
+use Rattle.table.specs.Kind.{kindOf, ruleFits}
 use Rattle.table.specs.declared.kind.Scalar.{Scalar}
 use Rattle.table.specs.declared.kind.Scalar.the-variants.{Null, True, False, Str, Num, Int}
-use Rattle.table.specs.declared.kind.ValueKind.{ValueKind}
-use Rattle.table.specs.declared.kind.ValueKind.the-variants.{Plain, Rule}
-use Rattle.table.specs.declared.kind.Finished.{Finished}
+use Rattle.table.specs.declared.kind.ValueKind.the-variants.{Rule}
 use Rattle.table.specs.declared.kind.Finished.the-variants as Done
 use Rattle.frame.specs.Edges.{fitsCode}
 use Rattle.frame.specs.Mask.{maskHas, scalarMask}

@@ -4,14 +4,14 @@ use mathlib.Core.List.{List, [], _∷_, _++_}
 use mathlib.Core.Logic.{⊎-elim, _↔_}
 use mathlib.Core.Path.{_≡_, refl, sym, ap, subst, _∙_}
 use Prim.Native.Nat.{ℕ, zero, suc, _+_, _*_, _/_, _%_, _^_, _<_, _≤_}
-use native.Mathlib.Nat.{zero-div, eq-or-lt-of-le, add-zero, add-suc, suc-add, one-mul, mod-eq-of-lt, lt-of-le-of-lt, lt-of-lt-of-le}
+use native.Mathlib.Nat.{zero-div, eq-or-lt-of-le, add-zero, add-suc, suc-add, one-mul, lt-of-le-of-lt, lt-of-lt-of-le}
 use native.Mathlib.Decide.{decLt}
 use native.Mathlib.Numerals.{unary-clauses}
 use native.Mathlib.Omega.{arith}
 use lib.Bits.{bitAnd, bitOr, or-shifted-r, and-le-l, and-zero-l}
-use lib.Dec.{T, eqb, ltb, ltb→lt, lit<}
+use lib.Dec.{T, eqb, ltb, lit<}
 use lib.ListN.{getD}
-use lib.Pow.{pow-lt, pow-mono, pow-pos, add-lt-pow}
+use lib.Pow.{pow-mono}
 use borrow.Author.Tests.{lt-ltb, le-ltb, eqb-true, eqb-false}
 use Rattle.laws.specs.Bits.{bitAt}
 use Rattle.laws.specs.Lists.{any}
@@ -21,18 +21,6 @@ use Rattle.laws.proofs.TestLaws.{T-of-true, T-and, T-and-left, T-and-right, T-o
 use Rattle.table.specs.Kind.{ruleFits}
 use Rattle.frame.specs.Edges.{hasForm}
 use Rattle.frame.specs.Ops.{ended, accepting, ruleSet}
-
--- ---- forms
-
--- the form of a rule below 32
-pub hasForm-below : (forms : List ℕ) (form r : ℕ) → r < 32 → hasForm forms form r ≡ eqb (getD forms r 0) form
-unfolding hasForm
-hasForm-below forms form r h = rw (lt-ltb r 32 h)
-
--- a rule that has a form is below 32
-pub below-of-hasForm : (forms : List ℕ) (form r : ℕ) → T (hasForm forms form r) → r < 32
-unfolding hasForm
-below-of-hasForm forms form r t = ltb→lt r 32 (T-and-left (ltb r 32) (eqb (getD forms r 0) form) t)
 
 -- ---- some number of a run
 

@@ -1,22 +1,23 @@
 -- What a finished value leaves in each part of a frame. Assumes nothing.
-use mathlib.Core.Bool.{Bool, true, false, cond, _&&_}
-use mathlib.Core.List.{List, [], _++_}
+use mathlib.Core.Bool.{Bool, true, false, cond}
+use mathlib.Core.List.{List, _++_}
 use mathlib.Core.Logic.{_⊎_, inl, inr, ⊎-elim, _↔_}
-use mathlib.Core.Path.{_≡_, refl, sym, ap, subst, _∙_}
+use mathlib.Core.Path.{_≡_, refl, subst, _∙_}
 use Prim.Native.Nat.{ℕ, _+_, _/_, _<_, _≤_}
 use native.Mathlib.Decide.{decLt}
 use native.Mathlib.Omega.{arith}
-use lib.Dec.{T, eqb, ltb, eqb→eq, eqb-refl, lit<}
-use lib.ListN.{length, getD, take, drop, replicate, length-append, List·getD-append}
+use lib.Dec.{T, ltb, lit<}
+use lib.ListN.{length, getD, take, replicate, length-append, List·getD-append}
 use lib.Seq.{getD-take, length-take-le}
 use borrow.Author.Tests.{lt-ltb, le-ltb, eq-eqb, ne-eqb}
 use Rattle.laws.specs.Bits.{bitAt, setAll}
 use Rattle.laws.proofs.BitLaws.{bitAt-of-byte, length-setAll, getD-setAll-other, bitAt-setAll-of-bitAt, bitAt-setAll-of-test, test-or-bitAt-of-setAll, test-of-setAll-zeros}
-use Rattle.laws.proofs.TestLaws.{T-and, T-and-left, T-and-right, T-of-true, cond-elim}
+use Rattle.laws.proofs.TestLaws.{cond-elim}
 use Rattle.table.specs.declared.kind.Finished.{Finished}
 use Rattle.frame.specs.Frame.{isObject, currentKey, marked, seenIn, heldIn}
 use Rattle.frame.specs.Edges.{Edges, edgeCount, hasForm, stateNumber, fitsCode, fitting, stepping}
 use Rattle.frame.specs.Ops.{withEdges, withStates, valued}
+use Rattle.frame.proofs.EdgeLaws.{fitting-iff, stepping-iff}
 use Rattle.frame.proofs.PartLaws.{heldIn-of-append}
 
 -- ---- by case
@@ -43,29 +44,6 @@ module _ (t : Edges) (kinds forms : List ℕ) (v : Finished) (f : List ℕ) wher
   valued-array fits g next same o h q =
       let e : fits ≡ fitsCode v = λ i c. same c i in
       rw (ne-eqb (getD f 0 0) 1 o, ← e, ← h) q
-
--- ---- what the tests of an edge say
-
--- an edge of key k whose kind passes
-pub fitting-iff : (fits : ℕ → Bool) (keys kinds : List ℕ) (k e : ℕ) → T (fitting fits keys kinds k e) ↔ ((getD keys e 0 ≡ k) × T (fits (getD kinds e 0)))
-unfolding fitting
-fitting-iff fits keys kinds k e = (
-  (λ t. (eqb→eq (getD keys e 0) k (T-and-left (eqb (getD keys e 0) k) (fits (getD kinds e 0)) t), T-and-right (eqb (getD keys e 0) k) (fits (getD kinds e 0)) t)),
-  (λ p. T-and (eqb (getD keys e 0) k) (fits (getD kinds e 0)) (T-of-true (eqb (getD keys e 0) k) (eq-eqb (getD keys e 0) k (p .0))) (p .1)),
-)
-
--- an edge of an `arr` rule whose kind passes and whose state the array has
-pub stepping-iff : (fits : ℕ → Bool) (rules states kinds forms f : List ℕ) (e : ℕ)
-    → T (stepping fits rules states kinds forms f e)
-    ↔ (T (fits (getD kinds e 0)) × T (hasForm forms 2 (getD rules e 0)) × T (heldIn f (stateNumber rules states e)))
-unfolding stepping
-stepping-iff fits rules states kinds forms f e =
-    let a = fits (getD kinds e 0) in
-    let b = hasForm forms 2 (getD rules e 0) in
-    let c = heldIn f (stateNumber rules states e) in (
-      (λ t. (T-and-left a (b && c) t, T-and-left b c (T-and-right a (b && c) t), T-and-right b c (T-and-right a (b && c) t))),
-      (λ p. T-and a (b && c) (p .0) (T-and b c (p .1) (p .2))),
-    )
 
 -- ---- the parts of the frame
 

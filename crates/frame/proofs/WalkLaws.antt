@@ -1,20 +1,22 @@
 -- The walk over the keys seen, in steps of any size. Assumes nothing.
-use mathlib.Core.Bool.{Bool, true, false, cond, _&&_}
+use mathlib.Core.Bool.{Bool, true, false, cond}
 use mathlib.Core.List.{List}
 use mathlib.Core.Logic.{_↔_}
-use mathlib.Core.Path.{_≡_, refl, sym, ap, _∙_}
-use Prim.Native.Nat.{ℕ, zero, suc, _+_, _*_, _/_, _%_, _^_, _<_, _≤_}
+use mathlib.Core.Path.{_≡_, refl, sym, ap, subst, _∙_}
+use Prim.Native.Nat.{ℕ, zero, suc, _+_, _*_, _/_, _<_}
 use native.Mathlib.Nat.{zero-div, zero-add, add-zero, add-suc, add-assoc, le-refl}
+use native.Mathlib.Decide.{decLt}
 use native.Mathlib.Omega.{arith}
-use lib.Dec.{T, eqb, eqb→eq}
-use lib.ListN.{getD, replicate}
-use borrow.Author.Tests.{eq-eqb}
+use lib.Dec.{T}
+use lib.ListN.{length, getD, replicate}
 use Rattle.laws.specs.Bits.{bitAt}
-use Rattle.laws.proofs.BitLaws.{bitAt-setAll-of-test, test-of-setAll-zeros}
-use Rattle.laws.proofs.TestLaws.{T-and, T-and-left, T-and-right, T-of-true}
+use Rattle.laws.proofs.BitLaws.{bitAt-out, length-setAll, bitAt-setAll-of-test, test-of-setAll-zeros}
+use Rattle.laws.proofs.TestLaws.{cond-elim}
 use Rattle.frame.specs.Edges.{Edges, edgeCount, stateNumber, walking}
 use Rattle.frame.specs.Frame.{seenIn, heldIn}
+use Rattle.frame.proofs.EdgeLaws.{walking-iff}
 use Rattle.frame.specs.Ops.{keyStates, walked}
+use Rattle.frame.specs.Reached.{Reached, begun, passed, taken}
 
 -- n keys and then m keys are n + m keys
 pub walked-add : (t : Edges) (f : List ℕ) (a : ℕ) (s : List ℕ) (n m : ℕ) → walked t f a s (n + m) ≡ walked t f (a + n) (walked t f a s n) m
@@ -48,18 +50,7 @@ walked-next-byte t f s cur next i e h =
     h ∙ ap (λ (x : List ℕ). walked t f (8 * i) x 8) e ∙ ap (λ (a : ℕ). walked t f a (walked t f 0 s (8 * i)) 8) (sym (zero-add (8 * i)))
     ∙ sym (ap (walked t f 0 s) k ∙ walked-add t f 0 s (8 * i) 8)
 
--- ---- what an edge of the walk says
-
-pub walking-iff : (rules states keys f s : List ℕ) (k e : ℕ)
-    → T (walking rules states keys f s k e) ↔ ((getD keys e 0 ≡ k) × T (heldIn f e) × T (bitAt s (stateNumber rules states e)))
-unfolding walking
-walking-iff rules states keys f s k e =
-    let a = eqb (getD keys e 0) k in
-    let b = heldIn f e in
-    let c = bitAt s (stateNumber rules states e) in (
-      (λ t. (eqb→eq (getD keys e 0) k (T-and-left a (b && c) t), T-and-left b c (T-and-right a (b && c) t), T-and-right b c (T-and-right a (b && c) t))),
-      (λ p. T-and a (b && c) (T-of-true a (eq-eqb (getD keys e 0) k (p .0))) (T-and b c (p .1) (p .2))),
-    )
+-- ---- by membership
 
 -- the states after key k: those that a fitting edge of the key leads to from one of the states
 pub bitAt-keyStates : (t : Edges) (f s : List ℕ) (k j : ℕ) → j < 512 → T (bitAt (keyStates t f s k) j)
@@ -94,3 +85,48 @@ walked-seen t f s k e = rw (zero-add k, e)
 pub walked-unseen : (t : Edges) (f s : List ℕ) (k : ℕ) → seenIn f k ≡ false → walked t f 0 s (suc k) ≡ walked t f 0 s k
 unfolding walked
 walked-unseen t f s k e = rw (zero-add k, e)
+
+-- a state that is held in 64 bytes has a number below 512
+below-of-bitAt : (s : List ℕ) (j : ℕ) → length s ≡ 64 → T (bitAt s j) → j < 512
+below-of-bitAt s j l t = go (decLt j 512)
+  where
+    go : Dec (j < 512) → j < 512
+    go (yes h) = h
+    go (no h) = absurd (subst T (bitAt-out s j (omega arith)) t)
+
+pub length-walked : (t : Edges) (f : List ℕ) (a : ℕ) (s : List ℕ) (n : ℕ) → length s ≡ 64 → length (walked t f a s n) ≡ 64
+unfolding walked keyStates
+length-walked t f a s zero l = l
+length-walked t f a s (suc n) l =
+    cond-elim (λ (x : List ℕ). length x ≡ 64) (seenIn f (a + n))
+    (λ h. length-setAll (walking (t .rules) (t .states) (t .keys) f (walked t f a s n) (a + n)) (stateNumber (t .rules) (t .nexts)) (edgeCount (t .count)) (replicate 64 0))
+    (λ h. length-walked t f a s n l)
+
+-- the states after the seen keys below k are those that are reached
+module _ (t : Edges) (f s : List ℕ) (long : length s ≡ 64) where
+  pub reached-of-walked : (k j : ℕ) → T (bitAt (walked t f 0 s k) j) → Reached t f s k j
+  unfolding walked
+  reached-of-walked zero j h = begun h
+  reached-of-walked (suc k) j h =
+      step (seenIn f k) refl (reached-of-walked k j)
+      (λ w. reached-of-walked k (stateNumber (t .rules) (t .states) w))
+    where
+      step : (b : Bool) → seenIn f k ≡ b → (T (bitAt (walked t f 0 s k) j) → Reached t f s k j)
+          → ((e : ℕ) → T (bitAt (walked t f 0 s k) (stateNumber (t .rules) (t .states) e)) → Reached t f s k (stateNumber (t .rules) (t .states) e))
+          → Reached t f s (suc k) j
+      step true e same from =
+          let l = below-of-bitAt (walked t f 0 s (suc k)) j (length-walked t f 0 s (suc k) long) h in
+          let w = bitAt-keyStates t f (walked t f 0 s k) k j l .0 (subst (λ (x : List ℕ). T (bitAt x j)) (walked-seen t f s k e) h) in
+          taken (w .0) e (w .1) (w .2) (w .3) (from (w .0) (w .4)) (w .5) l
+      step false e same from = passed e (same (subst (λ (x : List ℕ). T (bitAt x j)) (walked-unseen t f s k e) h))
+
+  pub walked-of-reached : {k j : ℕ} → Reached t f s k j → T (bitAt (walked t f 0 s k) j)
+  unfolding walked
+  walked-of-reached (begun h) = h
+  walked-of-reached {k = suc k} {j = j} (passed e r) = subst (λ (x : List ℕ). T (bitAt x j)) (sym (walked-unseen t f s k e)) (walked-of-reached r)
+  walked-of-reached {k = suc k} {j = j} (taken e q l h b r i m) =
+      subst (λ (x : List ℕ). T (bitAt x j)) (sym (walked-seen t f s k q))
+      (bitAt-keyStates t f (walked t f 0 s k) k j m .1 (e, l, h, b, walked-of-reached r, i))
+
+  pub bitAt-walked : (k j : ℕ) → T (bitAt (walked t f 0 s k) j) ↔ Reached t f s k j
+  bitAt-walked k j = (reached-of-walked k j, walked-of-reached)

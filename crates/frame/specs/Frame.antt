@@ -1,6 +1,6 @@
 -- The frames of a work buffer and the parts of a frame: 01, "Frames". Stated. Assumes nothing.
-use mathlib.Core.Bool.{Bool, true, false, cond, _&&_}
-use mathlib.Core.List.{List, [], _∷_, _++_}
+use mathlib.Core.Bool.{Bool, cond, _&&_}
+use mathlib.Core.List.{List, [], _++_}
 use Prim.Native.Nat.{ℕ, _+_, _*_, _-_, _/_, min}
 use lib.Dec.{eqb, ltb, leb}
 use lib.ListN.{length, getD, take, drop}
@@ -12,21 +12,21 @@ use Rattle.laws.specs.Bits.{bitAt}
 abbrev pub frameCount : ℕ → ℕ
 frameCount n = min (n / 96) 64
 
--- there is a frame of level l; the first is level 1
-unfoldable pub hasFrame : List ℕ → ℕ → Bool
-hasFrame w l = ltb 0 l && leb l (frameCount (length w))
+-- a buffer of n bytes has a frame of level l; the first is level 1
+unfoldable pub hasFrame : ℕ → ℕ → Bool
+hasFrame n l = ltb 0 l && leb l (frameCount n)
 
--- the place of a level's first byte
+-- the place of a frame's first byte
 abbrev pub frameStart : ℕ → ℕ
 frameStart l = 96 * (l - 1)
 
 -- the 96 bytes of a level; of a level without a frame nothing is read
 unfoldable pub frameAt : List ℕ → ℕ → List ℕ
-frameAt w l = cond (hasFrame w l) (take 96 (drop (frameStart l) w)) []
+frameAt w l = cond (hasFrame (length w) l) (take 96 (drop (frameStart l) w)) []
 
 -- the buffer with the frame f at a level; at a level without a frame nothing changes
 unfoldable pub putFrame : List ℕ → ℕ → List ℕ → List ℕ
-putFrame w l f = cond (hasFrame w l) (take (frameStart l) w ++ (f ++ drop 96 (drop (frameStart l) w))) w
+putFrame w l f = cond (hasFrame (length w) l) (take (frameStart l) w ++ (f ++ drop 96 (drop (frameStart l) w))) w
 
 -- ---- the frame
 

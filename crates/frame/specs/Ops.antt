@@ -1,9 +1,9 @@
 -- What opening, a finished key, a finished value and closing do to a frame: 01, "Frames". Stated. Assumes nothing.
 use mathlib.Core.Bool.{Bool, true, false, cond, _&&_}
-use mathlib.Core.List.{List, [], _∷_, _++_}
+use mathlib.Core.List.{List, _∷_, _++_}
 use Prim.Native.Nat.{ℕ, zero, suc, _+_, _*_, _^_}
-use lib.Dec.{eqb, ltb}
-use lib.ListN.{getD, set, take, drop, replicate}
+use lib.Dec.{ltb}
+use lib.ListN.{set, take, drop, replicate}
 use Rattle.laws.specs.Bits.{bitAt, setBit, setAll}
 use Rattle.laws.specs.Lists.{any}
 use Rattle.laws.specs.Tab.{tab}
@@ -24,7 +24,7 @@ opened forms false = 2 ∷ (replicate 31 0 ++ startStates forms 2)
 
 -- ---- a finished key
 
--- byte 1 and the key's bit are set, or byte 2 where the key was seen already; a number above 127 is an unknown key
+-- byte 1 is set to the key and its bit is set, or byte 2 where it was seen already; an unknown key, a number above 127, sets byte 1 to 255 and byte 2
 unfoldable pub keyed : ℕ → List ℕ → List ℕ
 keyed k f =
     cond (ltb k 128)

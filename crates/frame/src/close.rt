@@ -6,9 +6,8 @@ ghost use mathlib.Core.Bool.{cond};
 ghost use mathlib.Core.Path.{_≡_};
 ghost use Prim.Native.Nat.{_+_, _*_, _^_, _<_};
 ghost use lib.ListN.{length};
-ghost use Rattle.frame.specs.Edges.{edgesOf, hasForm};
+ghost use Rattle.frame.specs.Edges.{edgesOf};
 ghost use Rattle.frame.specs.Ops.{keyStates, walked, startStates, ended, accepting, ruleSet, closed};
-ghost use Rattle.frame.specs.Frame.{seenIn};
 
 // The states that the object's fitting edges of the key lead to.
 fn key_states<'a>(

@@ -5,7 +5,6 @@ ghost use mathlib.Core.Bool.{_&&_};
 ghost use mathlib.Core.Path.{_≡_};
 ghost use Prim.Native.Nat.{_+_, _*_, _<_};
 ghost use lib.Dec.{eqb};
-ghost use lib.ListN.{getD};
 ghost use Rattle.laws.specs.Bits.{bitAt};
 ghost use Rattle.frame.specs.Edges.{edgeCount, hasForm};
 ghost use Rattle.frame.specs.Frame.{heldIn};

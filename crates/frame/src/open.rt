@@ -2,8 +2,7 @@
 use crate::bits;
 ghost use mathlib.Core.Path.{_≡_};
 ghost use Prim.Native.Nat.{_*_};
-ghost use lib.Dec.{eqb};
-ghost use lib.ListN.{length, replicate, getD};
+ghost use lib.ListN.{length, replicate};
 ghost use Rattle.laws.specs.Bits.{setAll};
 ghost use Rattle.frame.specs.Edges.{hasForm};
 ghost use Rattle.frame.specs.Ops.{opened};

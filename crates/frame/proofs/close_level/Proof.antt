@@ -1,19 +1,25 @@
 -- `close_level` meets its contract: without a frame no rule fits, and the frame that is lent is that of the level. Assumes nothing.
-use Rattle.frame.proofs.CloseLaws.{closed-nil, closed-marked, closed-object, closed-array}
-use Rattle.frame.proofs.LevelLaws.{hasFrame-of-le, hasFrame-zero, hasFrame-beyond, frameAt-none, putFrame-none, lent-frameAt, lent-putFrame}
+use Rattle.frame.proofs.CloseLaws.{closed-nil}
+use Rattle.frame.proofs.LevelLaws.{fits-of-place, none-of-place, frameAt-none, frameAt-of-lent}
 use borrow.Author.Needs.{needs}
 use native.Mathlib.Omega.{arith}
 use Rattle.frame.proofs.close_level.Statement.{statement}
 use Rattle.frame.proofs.close_level.Tie as tie
 
+add-b : tie.Need-add-b
+add-b c = omega (arith, fits-of-place _ _ _ (c .before .place .ensures) (c .if1 .taken))
+
+part-close-frame-end : tie.Need-part-close-frame-end
+part-close-frame-end c = omega (arith, fits-of-place _ _ _ (c .before .place .ensures) (c .if1 .taken))
+
+close-frame-requires : tie.Need-close-frame-requires
+close-frame-requires c κs = omega (arith, fits-of-place _ _ _ (c .before .before .place .ensures) (c .before .if1 .taken))
+
 returns : tie.Need-returns
-returns c = rw (frameAt-none _ _ (hasFrame-zero _ _ (c .if1 .taken))) (closed-nil _ _ _)
+returns c = let a = c .before .before .before .before .before .args in rw (← frameAt-of-lent (a .work .now) (a .level) _ (c .before .before .before .place .ensures) (c .before .before .if1 .taken)) (c .close-frame .ensures)
 
 returns-2 : tie.Need-returns-2
-returns-2 c = let a = c .before .before .before .before .args in rw (frameAt-none (a .work .now) (a .level) (hasFrame-beyond (a .work .now) (a .level) (c .before .before .if1 .left) (omega arith))) (closed-nil _ _ _)
-
-returns-3 : tie.Need-returns-3
-returns-3 c = let a = c .before .before .before .before .before .before .args in rw (← lent-frameAt (a .work .now) (a .level) (hasFrame-of-le (a .work .now) (a .level) (c .before .before .before .before .if1 .left) (omega arith))) (c .close-frame .ensures)
+returns-2 c = let a = c .before .before .before .args in rw (frameAt-none (a .work .now) (a .level) (none-of-place _ _ _ (c .before .place .ensures) (c .if1 .left))) (closed-nil _ _ _)
 
 pub close-level-spec : {M : Type 1} → statement M
-close-level-spec = tie.close (tie.spec returns (λ c κs. search needs) returns-2 (λ c. search needs) (λ c. search needs) (λ c. search needs) (λ c. search needs) (λ c. search needs) (λ c. search needs) (λ c κs. search needs) returns-3)
+close-level-spec = tie.close (tie.spec (λ c κs. search needs) add-b (λ c. search needs) (λ c. search needs) part-close-frame-end close-frame-requires returns returns-2)

@@ -1,8 +1,8 @@
 -- `bits::get_bit` meets its contract: in the list it is the shifted bit, past its end no bit is set. Assumes nothing.
-use Rattle.laws.proofs.BitLaws.{one-shl, bitAt-out, setBit-out, setAll-more}
-use Rattle.laws.specs.Bits.{bitAt, setBit, setAll}
+use Rattle.laws.proofs.BitLaws.{bitAt-out}
+use Rattle.laws.specs.Bits.{bitAt}
 use borrow.Author.Needs.{needs}
-use mathlib.Core.Path.{_≡_, refl, sym, ap, _∙_}
+use mathlib.Core.Path.{sym}
 use Rattle.frame.proofs.bits.get_bit.Statement.{statement}
 use Rattle.frame.proofs.bits.get_bit.Tie as tie
 

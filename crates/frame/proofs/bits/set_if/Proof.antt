@@ -1,9 +1,9 @@
 -- `bits::set_if` meets its contract: in the list the bit is set, past its end nothing is. Assumes nothing.
-use Prim.Native.Nat.{ℕ, _+_, _-_, _*_, _/_, _%_, _≤_}
-use Rattle.laws.proofs.BitLaws.{one-shl, bitAt-out, setBit-out, setAll-more}
-use Rattle.laws.specs.Bits.{bitAt, setBit, setAll}
+use Prim.Native.Nat.{_%_}
+use Rattle.laws.proofs.BitLaws.{one-shl, setBit-out}
+use Rattle.laws.specs.Bits.{setBit}
 use borrow.Author.Needs.{needs}
-use mathlib.Core.Path.{_≡_, refl, sym, ap, _∙_}
+use mathlib.Core.Path.{sym}
 use native.Mathlib.Omega.{arith}
 use Rattle.frame.proofs.bits.set_if.Statement.{statement}
 use Rattle.frame.proofs.bits.set_if.Tie as tie

@@ -1,5 +1,5 @@
 -- `close::close_frame` meets its contract: a law for each of the three cases. Assumes nothing.
-use Rattle.frame.proofs.CloseLaws.{closed-nil, closed-marked, closed-object, closed-array}
+use Rattle.frame.proofs.CloseLaws.{closed-marked, closed-object, closed-array}
 use borrow.Author.Needs.{needs}
 use Rattle.frame.proofs.close.close_frame.Statement.{statement}
 use Rattle.frame.proofs.close.close_frame.Tie as tie

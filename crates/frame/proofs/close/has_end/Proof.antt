@@ -1,9 +1,8 @@
 -- `close::has_end` meets its contract: the rule is its two bytes of states. Assumes nothing.
-use Prim.Native.Nat.{ℕ, _+_, _-_, _*_, _/_, _%_, _≤_}
-use Rattle.frame.proofs.RuleLaws.{hasForm-below, ended-of-bytes, ruleSet-lt, with-bit-lt}
+use Prim.Native.Nat.{_+_, _*_}
+use Rattle.frame.proofs.RuleLaws.{ended-of-bytes}
 use borrow.Author.Needs.{needs}
 use borrow.Author.Tests.{eq-eqb, ne-eqb}
-use mathlib.Core.Path.{_≡_, refl, sym, ap, _∙_}
 use native.Mathlib.Omega.{arith}
 use Rattle.frame.proofs.close.has_end.Statement.{statement}
 use Rattle.frame.proofs.close.has_end.Tie as tie

@@ -1,9 +1,9 @@
 -- `close::rule_set` meets its contract. The loop has the set of the rules below r. Assumes nothing.
-use Prim.Native.Nat.{ℕ, _+_, _-_, _*_, _/_, _%_, _≤_}
-use Rattle.frame.proofs.RuleLaws.{hasForm-below, ended-of-bytes, ruleSet-lt, with-bit-lt}
-use Rattle.frame.specs.Ops.{startStates, opened, keyed, withEdges, withStates, valued, keyStates, walked, ended, accepting, ruleSet, closed}
+use Prim.Native.Nat.{_-_, _≤_}
+use Rattle.frame.proofs.RuleLaws.{ruleSet-lt}
+use Rattle.frame.specs.Ops.{accepting, ruleSet}
 use borrow.Author.Needs.{needs}
-use mathlib.Core.Path.{_≡_, refl, sym, ap, _∙_}
+use mathlib.Core.Path.{_≡_}
 use native.Mathlib.Numerals.{add-one}
 use native.Mathlib.Omega.{arith}
 use Rattle.frame.proofs.close.rule_set.Statement.{statement}

@@ -1,12 +1,10 @@
 -- `close::walk` meets its contract. The loop has walked the keys of the bytes below i. Assumes nothing.
-use Prim.Native.Nat.{ℕ, _+_, _-_, _*_, _/_, _%_, _≤_}
-use Rattle.frame.proofs.WalkLaws.{walked-byte-zero, walked-next-byte}
-use Rattle.frame.specs.Edges.{edgesOf, edgeCount, hasForm, stateNumber, fitting, stepping, walking, fitsCode}
-use Rattle.frame.specs.Ops.{startStates, opened, keyed, withEdges, withStates, valued, keyStates, walked, ended, accepting, ruleSet, closed}
+use Prim.Native.Nat.{_-_, _*_, _≤_}
+use Rattle.frame.proofs.WalkLaws.{walked-next-byte}
+use Rattle.frame.specs.Edges.{edgesOf}
+use Rattle.frame.specs.Ops.{startStates, walked}
 use borrow.Author.Needs.{needs}
-use lib.ListN.{length, getD, set, take, drop, replicate}
-use mathlib.Core.Path.{_≡_, refl, sym, ap, _∙_}
-use native.Mathlib.Numerals.{add-one}
+use mathlib.Core.Path.{_≡_, ap, _∙_}
 use native.Mathlib.Omega.{arith}
 use Rattle.frame.proofs.close.walk.Statement.{statement}
 use Rattle.frame.proofs.close.walk.Tie as tie

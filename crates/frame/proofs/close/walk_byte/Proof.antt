@@ -1,11 +1,11 @@
 -- `close::walk_byte` meets its contract. The loop has walked the keys of the byte below j. Assumes nothing.
-use Prim.Native.Nat.{ℕ, _+_, _-_, _*_, _/_, _%_, _≤_}
-use Rattle.frame.proofs.WalkLaws.{walked-byte-zero, walked-next-byte}
-use Rattle.frame.specs.Edges.{edgesOf, edgeCount, hasForm, stateNumber, fitting, stepping, walking, fitsCode}
-use Rattle.frame.specs.Frame.{seenIn, heldIn, isObject, marked, currentKey, kindNumber, frameAt}
-use Rattle.frame.specs.Ops.{startStates, opened, keyed, withEdges, withStates, valued, keyStates, walked, ended, accepting, ruleSet, closed}
+use Prim.Native.Nat.{_-_, _*_, _≤_}
+use Rattle.frame.proofs.WalkLaws.{walked-byte-zero}
+use Rattle.frame.specs.Edges.{edgesOf}
+use Rattle.frame.specs.Frame.{seenIn}
+use Rattle.frame.specs.Ops.{walked}
 use borrow.Author.Needs.{needs}
-use mathlib.Core.Path.{_≡_, refl, sym, ap, _∙_}
+use mathlib.Core.Path.{_≡_}
 use native.Mathlib.Numerals.{add-one}
 use native.Mathlib.Omega.{arith}
 use Rattle.frame.proofs.close.walk_byte.Statement.{statement}

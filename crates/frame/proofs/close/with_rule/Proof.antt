@@ -1,12 +1,10 @@
 -- `close::with_rule` meets its contract: each branch is an arm of the choice, and the new bit lies above the set. Assumes nothing.
-use Prim.Native.Nat.{ℕ, _+_, _-_, _*_, _/_, _%_, _≤_}
-use Rattle.frame.proofs.RuleLaws.{hasForm-below, ended-of-bytes, ruleSet-lt, with-bit-lt}
-use Rattle.frame.specs.Edges.{edgesOf, edgeCount, hasForm, stateNumber, fitting, stepping, walking, fitsCode}
-use Rattle.frame.specs.Ops.{startStates, opened, keyed, withEdges, withStates, valued, keyStates, walked, ended, accepting, ruleSet, closed}
+use Rattle.frame.proofs.EdgeLaws.{hasForm-below}
+use Rattle.frame.proofs.RuleLaws.{with-bit-lt}
+use Rattle.frame.specs.Ops.{accepting}
 use Rattle.laws.proofs.BitLaws.{one-shl}
 use borrow.Author.Needs.{needs}
 use borrow.Author.Tests.{eq-eqb, ne-eqb}
-use mathlib.Core.Path.{_≡_, refl, sym, ap, _∙_}
 use native.Mathlib.Omega.{arith}
 use Rattle.frame.proofs.close.with_rule.Statement.{statement}
 use Rattle.frame.proofs.close.with_rule.Tie as tie

@@ -1,5 +1,5 @@
 -- `edge::is_arr` meets its contract: the tests are those of the definition. Assumes nothing.
-use Rattle.frame.specs.Edges.{edgesOf, edgeCount, hasForm, stateNumber, fitting, stepping, walking, fitsCode}
+use Rattle.frame.specs.Edges.{hasForm}
 use Rattle.laws.proofs.Tests.{tests}
 use borrow.Author.Needs.{needs}
 use Rattle.frame.proofs.edge.is_arr.Statement.{statement}

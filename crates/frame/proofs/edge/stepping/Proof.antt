@@ -1,7 +1,6 @@
 -- `edge::stepping` meets its contract: each branch is a side of the conjunction. Assumes nothing.
-use Rattle.frame.specs.Frame.{seenIn, heldIn, isObject, marked, currentKey, kindNumber, frameAt}
+use Rattle.frame.specs.Frame.{heldIn}
 use borrow.Author.Needs.{needs}
-use mathlib.Core.Path.{_≡_, refl, sym, ap, _∙_}
 use Rattle.frame.proofs.edge.stepping.Statement.{statement}
 use Rattle.frame.proofs.edge.stepping.Tie as tie
 

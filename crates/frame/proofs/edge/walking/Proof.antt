@@ -1,8 +1,7 @@
 -- `edge::walking` meets its contract: each branch is a side of the conjunction. Assumes nothing.
-use Rattle.frame.specs.Frame.{seenIn, heldIn, isObject, marked, currentKey, kindNumber, frameAt}
+use Rattle.frame.specs.Frame.{heldIn}
 use borrow.Author.Needs.{needs}
 use borrow.Author.Tests.{eq-eqb, ne-eqb}
-use mathlib.Core.Path.{_≡_, refl, sym, ap, _∙_}
 use Rattle.frame.proofs.edge.walking.Statement.{statement}
 use Rattle.frame.proofs.edge.walking.Tie as tie
 

@@ -2,7 +2,7 @@
 use Rattle.frame.proofs.KeyLaws.{keyed-unknown, keyed-again, keyed-new}
 use borrow.Author.Needs.{needs}
 use lib.ListN.{length-set}
-use mathlib.Core.Path.{_≡_, refl, sym, ap, _∙_}
+use mathlib.Core.Path.{sym, _∙_}
 use native.Mathlib.Omega.{arith}
 use Rattle.frame.proofs.key.key_frame.Statement.{statement}
 use Rattle.frame.proofs.key.key_frame.Tie as tie

@@ -1,5 +1,5 @@
 -- `mask::mask_has` meets its contract: below 64 it is the shifted bit. Assumes nothing.
-use Rattle.frame.specs.Mask.{maskHas, scalarMask}
+use Rattle.frame.specs.Mask.{maskHas}
 use Rattle.laws.proofs.Tests.{tests}
 use borrow.Author.Needs.{needs}
 use Rattle.frame.proofs.mask.mask_has.Statement.{statement}

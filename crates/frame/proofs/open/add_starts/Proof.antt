@@ -1,12 +1,12 @@
 -- `open::add_starts` meets its contract. The loop has set the bits of the rules below r. Assumes nothing.
-use Prim.Native.Nat.{ℕ, _+_, _-_, _*_, _/_, _%_, _≤_}
-use Rattle.frame.proofs.RuleLaws.{hasForm-below}
-use Rattle.frame.specs.Edges.{edgesOf, edgeCount, hasForm, stateNumber, fitting, stepping, walking, fitsCode}
-use Rattle.laws.proofs.BitLaws.{one-shl, bitAt-out, setBit-out, setAll-more}
-use Rattle.laws.specs.Bits.{bitAt, setBit, setAll}
+use Prim.Native.Nat.{_-_, _*_, _≤_}
+use Rattle.frame.proofs.EdgeLaws.{hasForm-below}
+use Rattle.frame.specs.Edges.{hasForm}
+use Rattle.laws.proofs.BitLaws.{setAll-more}
+use Rattle.laws.specs.Bits.{setAll}
 use borrow.Author.Needs.{needs}
-use lib.ListN.{length, getD, set, take, drop, replicate}
-use mathlib.Core.Path.{_≡_, refl, sym, ap, _∙_}
+use lib.ListN.{length}
+use mathlib.Core.Path.{_≡_, refl, sym}
 use native.Mathlib.Omega.{arith}
 use Rattle.frame.proofs.open.add_starts.Statement.{statement}
 use Rattle.frame.proofs.open.add_starts.Tie as tie

@@ -1,11 +1,11 @@
 -- `open::clear` meets its contract. The loop has filled the bytes below i. Assumes nothing.
-use Prim.Native.Nat.{ℕ, _+_, _-_, _*_, _/_, _%_, _≤_}
+use Prim.Native.Nat.{_-_, _≤_}
 use Rattle.frame.proofs.ListLaws.{fill-all}
 use borrow.Author.Fill.{fill-more}
 use borrow.Author.Needs.{needs}
-use lib.ListN.{length, getD, set, take, drop, replicate}
+use lib.ListN.{length, drop, replicate}
 use mathlib.Core.List.{_++_}
-use mathlib.Core.Path.{_≡_, refl, sym, ap, _∙_}
+use mathlib.Core.Path.{_≡_, _∙_}
 use native.Mathlib.Omega.{arith}
 use Rattle.frame.proofs.open.clear.Statement.{statement}
 use Rattle.frame.proofs.open.clear.Tie as tie

@@ -1,10 +1,10 @@
 -- `open::open_frame` meets its contract: the cleared frame with its first bytes and its start states. Assumes nothing.
-use Prim.Native.Nat.{ℕ, _+_, _-_, _*_, _/_, _%_, _≤_}
-use Rattle.frame.specs.Ops.{startStates, opened, keyed, withEdges, withStates, valued, keyStates, walked, ended, accepting, ruleSet, closed}
+use Prim.Native.Nat.{ℕ}
+use Rattle.frame.specs.Ops.{startStates, opened}
 use borrow.Author.Needs.{needs}
 use lib.ListN.{replicate, length-set}
 use mathlib.Core.List.{List, _∷_, _++_, append-nil}
-use mathlib.Core.Path.{_≡_, refl, sym, ap, _∙_}
+use mathlib.Core.Path.{_≡_, ap, _∙_}
 use native.Mathlib.Omega.{arith}
 use Rattle.frame.proofs.open.open_frame.Statement.{statement}
 use Rattle.frame.proofs.open.open_frame.Tie as tie

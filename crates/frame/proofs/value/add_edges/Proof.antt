@@ -1,11 +1,11 @@
 -- `value::add_edges` meets its contract. The loop has set the bits of the edges below e. Assumes nothing.
-use Prim.Native.Nat.{ℕ, _+_, _-_, _*_, _/_, _%_, _≤_}
-use Rattle.frame.specs.Edges.{edgesOf, edgeCount, hasForm, stateNumber, fitting, stepping, walking, fitsCode}
-use Rattle.frame.specs.Mask.{maskHas, scalarMask}
-use Rattle.laws.specs.Bits.{bitAt, setBit, setAll}
+use Prim.Native.Nat.{_+_, _-_, _≤_}
+use Rattle.frame.specs.Edges.{edgeCount, fitting}
+use Rattle.frame.specs.Mask.{maskHas}
+use Rattle.laws.specs.Bits.{setAll}
 use borrow.Author.Needs.{needs}
-use lib.ListN.{length, getD, set, take, drop, replicate}
-use mathlib.Core.Path.{_≡_, refl, sym, ap, _∙_}
+use lib.ListN.{length}
+use mathlib.Core.Path.{_≡_}
 use native.Mathlib.Numerals.{add-one}
 use native.Mathlib.Omega.{arith}
 use Rattle.frame.proofs.value.add_edges.Statement.{statement}

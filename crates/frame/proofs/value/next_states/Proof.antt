@@ -1,12 +1,12 @@
 -- `value::next_states` meets its contract. The loop has set the states of the edges below e. Assumes nothing.
-use Prim.Native.Nat.{ℕ, _+_, _-_, _*_, _/_, _%_, _≤_}
-use Rattle.frame.specs.Edges.{edgesOf, edgeCount, hasForm, stateNumber, fitting, stepping, walking, fitsCode}
-use Rattle.frame.specs.Mask.{maskHas, scalarMask}
-use Rattle.laws.proofs.BitLaws.{one-shl, bitAt-out, setBit-out, setAll-more}
-use Rattle.laws.specs.Bits.{bitAt, setBit, setAll}
+use Prim.Native.Nat.{_-_, _≤_}
+use Rattle.frame.specs.Edges.{edgeCount, stateNumber, stepping}
+use Rattle.frame.specs.Mask.{maskHas}
+use Rattle.laws.proofs.BitLaws.{setAll-more}
+use Rattle.laws.specs.Bits.{setAll}
 use borrow.Author.Needs.{needs}
-use lib.ListN.{length, getD, set, take, drop, replicate}
-use mathlib.Core.Path.{_≡_, refl, sym, ap, _∙_}
+use lib.ListN.{length, replicate}
+use mathlib.Core.Path.{_≡_}
 use native.Mathlib.Omega.{arith}
 use Rattle.frame.proofs.value.next_states.Statement.{statement}
 use Rattle.frame.proofs.value.next_states.Tie as tie

@@ -1,10 +1,10 @@
 -- `value::put_states` meets its contract. The loop has copied the bytes below i. Assumes nothing.
-use Prim.Native.Nat.{ℕ, _+_, _-_, _*_, _/_, _%_, _≤_}
+use Prim.Native.Nat.{_-_, _≤_}
 use Rattle.frame.proofs.ListLaws.{paste-more, paste-all}
 use borrow.Author.Needs.{needs}
-use lib.ListN.{length, getD, set, take, drop, replicate}
+use lib.ListN.{length}
 use lib.Seq.{paste, paste-zero}
-use mathlib.Core.Path.{_≡_, refl, sym, ap, _∙_}
+use mathlib.Core.Path.{_≡_, _∙_}
 use native.Mathlib.Omega.{arith}
 use Rattle.frame.proofs.value.put_states.Statement.{statement}
 use Rattle.frame.proofs.value.put_states.Tie as tie

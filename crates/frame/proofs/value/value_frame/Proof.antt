@@ -1,6 +1,6 @@
 -- `value::value_frame` meets its contract: a law for each of the three cases. Assumes nothing.
 use Rattle.frame.proofs.ValueLaws.{valued-known, valued-unknown, valued-array}
-use Rattle.frame.specs.Mask.{maskHas, scalarMask}
+use Rattle.frame.specs.Mask.{maskHas}
 use borrow.Author.Needs.{needs}
 use Rattle.frame.proofs.value.value_frame.Statement.{statement}
 use Rattle.frame.proofs.value.value_frame.Tie as tie

@@ -1,2 +1,6 @@
 pub mod LoopLaws
 pub mod StoreLaws
+pub mod ProperLaws
+pub mod WithinLaws
+pub mod ReadLaws
+pub mod CheckLaws

@@ -4,3 +4,4 @@ pub mod ProperLaws
 pub mod WithinLaws
 pub mod ReadLaws
 pub mod CheckLaws
+pub mod TableLaws

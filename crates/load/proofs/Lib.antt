@@ -5,3 +5,4 @@ pub mod WithinLaws
 pub mod ReadLaws
 pub mod CheckLaws
 pub mod TableLaws
+pub mod KeptLaws

@@ -6,3 +6,4 @@ pub mod ReadLaws
 pub mod CheckLaws
 pub mod TableLaws
 pub mod KeptLaws
+pub mod OrderLaws

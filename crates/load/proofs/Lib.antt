@@ -7,3 +7,4 @@ pub mod CheckLaws
 pub mod TableLaws
 pub mod KeptLaws
 pub mod OrderLaws
+pub mod AgreeLaws

@@ -133,7 +133,8 @@ lines-agree n es (l ∷ (x ∷ ls)) q kept =
     (λ e k. lines-agree (suc n) (es ++ (e ∷ [])) (x ∷ ls) (rw (length-append es (e ∷ [])) (omega arith)) k) (sayLine l) (sayLine-proper l) (sayLine-bad l)
 
 -- ---- a book
-kept-none : Kept (tableOf []) []
+-- no entries
+pub kept-none : Kept (tableOf []) []
 unfolding tableOf tableFrom
 kept-none = kept-empty
 

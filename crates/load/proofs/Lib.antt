@@ -8,3 +8,4 @@ pub mod TableLaws
 pub mod KeptLaws
 pub mod OrderLaws
 pub mod AgreeLaws
+pub mod LoadedLaws

@@ -1,2 +1,4 @@
 pub mod KeyLaws
 pub mod HoldLaws
+pub mod Ascii
+pub mod Examples

@@ -4,12 +4,12 @@ use mathlib.Core.List.{List, [], _∷_, _++_}
 use mathlib.Core.Path.{_≡_, refl}
 use Prim.Native.Nat.{ℕ}
 use lib.Dec.{eqb}
+use Rattle.laws.specs.Ascii.{ascii}
 use Rattle.laws.specs.Lists.{same, all, any}
 use Rattle.table.specs.declared.kind.Scalar.the-variants.{Str, Int}
 use Rattle.table.specs.declared.kind.ValueKind.the-variants.{Plain, Rule}
 use Rattle.table.specs.Kind.{codeOf}
 use Rattle.book.specs.Entry.{obj, arr, Entry, edge, end-state, withKey, keysFrom, keysOf, numberOf, clash}
-use Rattle.book.proofs.Ascii.{ascii}
 use Rattle.book.specs.Text.{isEmpty, onto, split, isDigit, isNumber, numberFrom, number}
 use Rattle.book.specs.Line.{isForm, formOf, isVisible, isKey, keyOf, behindR, isPlain, isKind, kindIn, smallKind, formed, small, entryOf, sayFields, sayParts, sayLine}
 use Rattle.book.specs.Load.{ruleOf, formIn, sameForm, sameEntry, changesForm, isEdge, edgeCount, tooMany, faultOf, readOn, readLines, names, readBook, firstLine, hasRule, dangles, clashes, firstClash, checkBook, checked, loads}

@@ -1,4 +1,3 @@
 pub mod KeyLaws
 pub mod HoldLaws
-pub mod Ascii
 pub mod Examples

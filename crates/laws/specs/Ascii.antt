@@ -1,4 +1,4 @@
--- Texts as bytes, for worked examples: the codes of the characters. Assumes nothing.
+-- Texts as bytes: a byte string may be written as a quoted text. Stated. Assumes nothing.
 use mathlib.Core.List as L
 use Prim.Native.Char.{code}
 use Prim.Native.Nat.{ℕ}

@@ -1,11 +1,12 @@
 -- Worked examples of load, by computation: the books of 01 and near misses of its refusals. Assumes nothing.
-use mathlib.Core.Bool.{Bool, true, not, _&&_}
+use mathlib.Core.Bool.{Bool, true, false, not, _&&_}
 use mathlib.Core.List.{List, [], _∷_, _++_}
 use mathlib.Core.Path.{_≡_, refl}
 use Prim.Native.Nat.{ℕ}
 use lib.Dec.{eqb}
 use Rattle.laws.specs.Ascii.{ascii}
 use Rattle.laws.specs.Lists.{same, all, any}
+use Rattle.laws.specs.Tab.{tab}
 use Rattle.table.specs.declared.kind.Scalar.the-variants.{Str, Int}
 use Rattle.table.specs.declared.kind.ValueKind.the-variants.{Plain, Rule}
 use Rattle.table.specs.Kind.{codeOf}
@@ -27,7 +28,7 @@ case k n b = record { book = b; number = k; line = n }
 abbrev pub linesOfB : List ℕ
 linesOfB = ascii "0 obj 0 corners r1 1\n0 obj 1 name str 2\n0 obj 2 - end -\n1 arr 0 - r2 0\n1 arr 0 - end -\n2 arr 0 - int 1\n2 arr 1 - int 2\n2 arr 2 - end -\n"
 
-abbrev cases : List Case
+abbrev pub cases : List Case
 cases =
     case 1 0 ([]) -- 1: nothing
     ∷ case 2 1 (ascii "rule form state key value next") -- 2: the names line without LF
@@ -81,6 +82,19 @@ cases =
 pub cases-answered : all (λ (c : Case). eqb (loads (c .book) .number) (c .number) && eqb (loads (c .book) .line) (c .line)) cases ≡ true
 unfolding same all any isEmpty onto split isDigit isNumber numberFrom number isForm formOf isVisible isKey keyOf behindR isPlain isKind kindIn smallKind formed small entryOf sayFields sayParts sayLine ruleOf formIn sameForm sameEntry changesForm isEdge edgeCount tooMany faultOf readOn readLines readBook firstLine hasRule dangles clashes firstClash checkBook checked loads withKey keysFrom keysOf numberOf clash codeOf
 cases-answered = refl
+
+-- edges that differ in their next alone, and edges that differ in their key alone
+abbrev pub nextEdge : ℕ → Entry
+nextEdge n = edge 0 arr 0 [] (Plain Int) n
+
+abbrev pub keyEdge : ℕ → Entry
+keyEdge n = edge 0 obj 0 (n ∷ []) (Plain Int) 1
+
+-- refusal 5: the 513th edge and the 129th key, and not the 512th and the 128th
+pub too-many : (tooMany (tab nextEdge 0 512) (nextEdge 512) && (not (tooMany (tab nextEdge 0 511) (nextEdge 511))
+    && (tooMany (tab keyEdge 0 128) (keyEdge 128) && not (tooMany (tab keyEdge 0 127) (keyEdge 127))))) ≡ true
+unfolding same any isEdge edgeCount tooMany withKey keysFrom keysOf
+too-many = refl
 
 -- `corners`
 abbrev pub corners : List ℕ

@@ -116,9 +116,10 @@ ruleForm-last (x ∷ es) e n = go (eqb (ruleOf x) n) (ruleForm-last es e n)
   where
     last : ℕ
     last = cond (eqb (ruleOf e) n) (formCode (formIn e)) 0
+
     go : (b : Bool) → ruleForm (es ++ (e ∷ [])) n ≡ cond (eqb (ruleForm es n) 0) last (ruleForm es n)
         → cond b (formCode (formIn x)) (ruleForm (es ++ (e ∷ [])) n)
-          ≡ cond (eqb (cond b (formCode (formIn x)) (ruleForm es n)) 0) last (cond b (formCode (formIn x)) (ruleForm es n))
+        ≡ cond (eqb (cond b (formCode (formIn x)) (ruleForm es n)) 0) last (cond b (formCode (formIn x)) (ruleForm es n))
     go true h = rw (formCode-some (formIn x))
     go false h = h
 
@@ -147,6 +148,7 @@ changes-of e g (x ∷ l) h = rw (eqb-sym (ruleOf e) (ruleOf x)) (go (eqb (ruleOf
   where
     rest : Bool
     rest = any (λ y. eqb (ruleOf y) (ruleOf e)) l
+
     go : (b : Bool) → eqb (ruleOf x) (ruleOf e) ≡ b → any (changesForm e) l ≡ (rest && not (eqb g (formCode (formIn e))))
         → ((b && not (sameForm (formIn e) (formIn x))) || any (changesForm e) l) ≡ ((b || rest) && not (eqb g (formCode (formIn e))))
     go true p ih =

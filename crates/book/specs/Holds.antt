@@ -33,7 +33,8 @@ edgeAt t e = record {
   key = getD (t .«edge_key») e 0;
   kind = getD (t .«edge_kind») e 0;
   next = getD (t .«edge_next») e 0;
-  line = getD (t .«edge_line») e 0 }
+  line = getD (t .«edge_line») e 0;
+}
 
 -- the edges of a table
 unfoldable pub tableEdges : Table → List Edge

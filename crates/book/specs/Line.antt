@@ -103,10 +103,10 @@ unfoldable pub formed : List ℕ → List ℕ → List ℕ → List ℕ → List
 formed r f q k v m =
     isNumber r
     && (isForm f
-        && (isNumber q
-            && cond (same v word-end)
-               (same k dash && same m dash)
-               (isKind v && (isNumber m && cond (same f word-obj) (isKey k) (same k dash)))))
+    && (isNumber q
+    && cond (same v word-end)
+    (same k dash && same m dash)
+    (isKind v && (isNumber m && cond (same f word-obj) (isKey k) (same k dash)))))
 
 -- its numbers are within their limits; any other is refusal 4
 unfoldable pub small : List ℕ → List ℕ → List ℕ → List ℕ → Bool

@@ -132,10 +132,10 @@ unfoldable pub checkBook : List Entry → Answer
 checkBook es =
     cond (eqb (firstLine (dangles es) 2 es) 0)
     (cond (hasRule es 0)
-      (cond (eqb (firstClash (keysOf es) 2 [] es) 0)
-        (record { number = 0; line = 0; entries = es })
-        (refuse 9 (firstClash (keysOf es) 2 [] es)))
-      (refuse 8 0))
+    (cond (eqb (firstClash (keysOf es) 2 [] es) 0)
+    (record { number = 0; line = 0; entries = es })
+    (refuse 9 (firstClash (keysOf es) 2 [] es)))
+    (refuse 8 0))
     (refuse 8 (firstLine (dangles es) 2 es))
 
 unfoldable pub checked : Read → Answer

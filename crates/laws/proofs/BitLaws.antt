@@ -1,39 +1,68 @@
 -- What reading and setting bits of a list of bytes gives: laws of `bitAt`, `setBit` and `setAll`. Assumes nothing.
 use mathlib.Core.Bool.{Bool, true, false, cond, _&&_, _||_, not, Bool·beq}
-use mathlib.Core.List.{List, [], _∷_}
+use mathlib.Core.List.{List}
 use mathlib.Core.Logic.{_⊎_, inl, inr, ⊎-elim}
 use mathlib.Core.Path.{_≡_, refl, sym, ap, subst, _∙_}
-use Prim.Native.Nat.{ℕ, zero, suc, _+_, _*_, _/_, _%_, _^_, _<_, _≤_}
+use Prim.Native.Nat.{ℕ, zero, suc, _+_, _-_, _*_, _/_, _%_, _^_, _<_, _≤_}
 use native.Mathlib.Decide.{decLt}
-use native.Mathlib.Nat.{zero-div, mod-lt, one-mul, mod-eq-of-lt, eq-or-lt-of-le, not-suc-le-zero, le-of-suc-le-suc, le-refl}
+use native.Mathlib.Nat.{zero-div, div-eq-of-lt, mod-lt, one-mul, mul-comm, mod-eq-of-lt, eq-or-lt-of-le, not-suc-le-zero, le-of-suc-le-suc, le-refl, lt-of-not-le, not-le-of-lt}
+use native.Mathlib.Numerals.{add-one}
 use native.Mathlib.Omega.{arith}
-use lib.Bits.{bitAnd, bitOr, or-shr, or-mod, and-shr, and-mod, and-le-l}
-use lib.Dec.{T, eqb, eqb-refl, lit<}
+use lib.Bits.{bitAnd, bitOr, or-shr, or-mod, and-shr, and-mod, shifted-even}
+use lib.Dec.{T, eqb, ltb, eqb-refl, lit<}
 use lib.ListN.{length, getD, set, length-set, replicate, List·getD-eq-default}
-use lib.Pow.{pow-lt}
+use lib.Pow.{pow-lt, pow-add, shl-shr}
 use lib.Seq.{getD-set-same, getD-set-other, set-out}
-use borrow.Author.Tests.{eq-eqb, ne-eqb, eqb-true, eqb-false}
+use borrow.Author.Tests.{eq-eqb, ne-eqb, eqb-true, eqb-false, lt-ltb, le-ltb, ltb-true, ltb-false}
 use Rattle.laws.specs.Bits.{bitAt, setBit, setAll}
 use Rattle.laws.specs.Lists.{any}
-use Rattle.laws.specs.Tab.{tab, every}
-use Rattle.laws.proofs.TabLaws.{T-of-every, eq-of-every}
+use Rattle.laws.specs.Tab.{tab}
+use Rattle.laws.proofs.TabLaws.{T-of-every}
 use Rattle.laws.proofs.TestLaws.{true-of-T, T-or-elim, cond-elim, cond-yes}
 
--- ---- one byte
+-- two tests that are computed to be the same are equal
+pub eq-of-beq : (a b : Bool) → T (Bool·beq a b) → a ≡ b
+eq-of-beq true true t = refl
+eq-of-beq true false t = absurd t
+eq-of-beq false true t = absurd t
+eq-of-beq false false t = refl
 
--- what `1u8 << k` gives
-pub one-shl : (k : ℕ) → k < 8 → (1 * 2 ^ k) % 2 ^ 8 ≡ 2 ^ k
-one-shl k h = rw one-mul (mod-eq-of-lt (pow-lt h))
+-- either of two tests gives the disjunction
+pub T-or-left : (a b : Bool) → T a → T (a || b)
+T-or-left true b t = tt
+T-or-left false b t = absurd t
+
+pub T-or-right : (a b : Bool) → T b → T (a || b)
+T-or-right true b t = tt
+T-or-right false b t = t
+
+-- ---- the bits of a number
+
+-- what `1 << k` gives in a number of w bits
+pub one-shl : (w k : ℕ) → k < w → (1 * 2 ^ k) % 2 ^ w ≡ 2 ^ k
+one-shl w k h = rw one-mul (mod-eq-of-lt (pow-lt h))
 
 -- the number of a test
 abbrev pub bitOf : Bool → ℕ
 bitOf true = 1
 bitOf false = 0
 
-power-bit : (k j : ℕ) → k < 8 → j < 8 → 2 ^ k / 2 ^ j % 2 ≡ bitOf (eqb k j)
-power-bit k j hk hj =
-    eq-of-every (λ j. 2 ^ k / 2 ^ j % 2) (λ j. bitOf (eqb k j)) 8
-    (T-of-every (λ k. every (λ j. eqb (2 ^ k / 2 ^ j % 2) (bitOf (eqb k j))) 0 8) 8 tt k hk) j hj
+-- bit j of a power of two
+pub power-bit : (k j : ℕ) → 2 ^ k / 2 ^ j % 2 ≡ bitOf (eqb k j)
+power-bit k j = go (decLt k j) (decLt j k)
+  where
+    go : Dec (k < j) → Dec (j < k) → 2 ^ k / 2 ^ j % 2 ≡ bitOf (eqb k j)
+    go (yes h) d = rw (div-eq-of-lt (pow-lt h), ne-eqb k j (λ e. omega arith))
+    go (no h) (yes l) =
+        let e : j + suc (k - suc j) ≡ k = omega arith in
+        rw (ne-eqb k j (λ q. omega arith))
+        (ap (λ (n : ℕ). 2 ^ n / 2 ^ j % 2) (sym e)
+        ∙ ap (λ (n : ℕ). n / 2 ^ j % 2) (pow-add 2 j (suc (k - suc j)) ∙ mul-comm (2 ^ j) (2 ^ suc (k - suc j)))
+        ∙ ap (λ (n : ℕ). n % 2) (shl-shr (2 ^ suc (k - suc j)) j ∙ sym (one-mul (2 ^ suc (k - suc j))))
+        ∙ shifted-even 1 (k - suc j))
+    go (no h) (no l) =
+        let e : k ≡ j = omega arith in
+        rw (eq-eqb k j e) (ap (λ (n : ℕ). 2 ^ n / 2 ^ j % 2) e ∙ ap (λ (n : ℕ). n / 2 ^ j % 2) (sym (one-mul (2 ^ j))) ∙ ap (λ (n : ℕ). n % 2) (shl-shr 1 j))
 
 or-bit : (m : ℕ) → m < 2 → (b : Bool) → eqb (bitOr m (bitOf b)) 1 ≡ (b || eqb m 1)
 or-bit zero h true = refl
@@ -42,11 +71,12 @@ or-bit (suc zero) h true = refl
 or-bit (suc zero) h false = refl
 or-bit (suc (suc m)) h b = absurd (not-suc-le-zero (le-of-suc-le-suc (le-of-suc-le-suc h)))
 
-byte-or : (x k j : ℕ) → k < 8 → j < 8 → eqb (bitOr x (2 ^ k) / 2 ^ j % 2) 1 ≡ (eqb k j || eqb (x / 2 ^ j % 2) 1)
-byte-or x k j hk hj =
+-- bit j of a number with bit k set
+pub bit-bitOr : (x k j : ℕ) → eqb (bitOr x (2 ^ k) / 2 ^ j % 2) 1 ≡ (eqb k j || eqb (x / 2 ^ j % 2) 1)
+bit-bitOr x k j =
     ap (λ (n : ℕ). eqb (n % 2) 1) (or-shr x (2 ^ k) j)
     ∙ ap (λ (n : ℕ). eqb n 1) (or-mod (x / 2 ^ j) (2 ^ k / 2 ^ j) 1)
-    ∙ ap (λ (n : ℕ). eqb (bitOr (x / 2 ^ j % 2) n) 1) (power-bit k j hk hj)
+    ∙ ap (λ (n : ℕ). eqb (bitOr (x / 2 ^ j % 2) n) 1) (power-bit k j)
     ∙ or-bit (x / 2 ^ j % 2) (mod-lt (x / 2 ^ j) (lit< tt)) (eqb k j)
 
 and-bit : (m n : ℕ) → m < 2 → n < 2 → eqb (bitAnd m n) 1 ≡ (eqb m 1 && eqb n 1)
@@ -71,12 +101,6 @@ unfolding any
 nonzero-bits x h =
     eq-of-beq (not (eqb x 0)) (any (λ j. eqb (x / 2 ^ j % 2) 1) (tab (λ j. j) 0 8))
     (T-of-every (λ y. Bool·beq (not (eqb y 0)) (any (λ j. eqb (y / 2 ^ j % 2) 1) (tab (λ j. j) 0 8))) 256 tt x h)
-  where
-    eq-of-beq : (a b : Bool) → T (Bool·beq a b) → a ≡ b
-    eq-of-beq true true t = refl
-    eq-of-beq true false t = absurd t
-    eq-of-beq false true t = absurd t
-    eq-of-beq false false t = refl
 
 -- ---- one bit of a list
 
@@ -126,6 +150,14 @@ eqb-iff a b c d f g = go (eqb a b) refl
     go true e = e ∙ sym (eq-eqb c d (f (eqb-true a b e)))
     go false e = e ∙ sym (ne-eqb c d (λ q. eqb-false a b e (g q)))
 
+-- two bounds that hold together are one test
+pub ltb-iff : (a b c : ℕ) → (a < b → a < c) → (a < c → a < b) → ltb a b ≡ ltb a c
+ltb-iff a b c f g = go (ltb a b) refl
+  where
+    go : (t : Bool) → ltb a b ≡ t → ltb a b ≡ ltb a c
+    go true e = e ∙ sym (lt-ltb a c (f (ltb-true a b e)))
+    go false e = e ∙ sym (le-ltb a c (le-of-suc-le-suc (lt-of-not-le (λ l. not-le-of-lt (g l) (ltb-false a b e)))))
+
 -- a bit that is set in the list is set, and each other is as it was
 pub bitAt-setBit : (xs : List ℕ) (i j : ℕ) → i / 8 < length xs → bitAt (setBit xs i) j ≡ (eqb i j || bitAt xs j)
 unfolding bitAt setBit
@@ -139,7 +171,7 @@ bitAt-setBit xs i j h = go (eqb (j / 8) (i / 8)) refl
         let e : j / 8 ≡ i / 8 = eqb-true (j / 8) (i / 8) t in
         ap (λ (n : ℕ). eqb (getD (set xs (i / 8) v) n 0 / 2 ^ (j % 8) % 2) 1) e
         ∙ ap (λ (n : ℕ). eqb (n / 2 ^ (j % 8) % 2) 1) (getD-set-same xs (i / 8) v 0 h)
-        ∙ byte-or (getD xs (i / 8) 0) (i % 8) (j % 8) (omega arith) (omega arith)
+        ∙ bit-bitOr (getD xs (i / 8) 0) (i % 8) (j % 8)
         ∙ ap (λ (n : ℕ). eqb (i % 8) (j % 8) || eqb (getD xs n 0 / 2 ^ (j % 8) % 2) 1) (sym e)
         ∙ ap (λ (b : Bool). b || bitAt xs j) (eqb-iff (i % 8) (j % 8) i j (λ q. omega arith) (λ q. omega arith))
     go false t =
@@ -158,11 +190,7 @@ in-or-out {A} xs i f g = go (decLt (i / 8) (length xs))
 -- setting a bit unsets none
 pub bitAt-setBit-of-bitAt : (xs : List ℕ) (i j : ℕ) → T (bitAt xs j) → T (bitAt (setBit xs i) j)
 bitAt-setBit-of-bitAt xs i j t =
-    in-or-out xs i (λ h. rw (bitAt-setBit xs i j h) (right (eqb i j) (bitAt xs j) t)) (λ h. rw (setBit-out xs i h) t)
-  where
-    right : (a b : Bool) → T b → T (a || b)
-    right true b t = tt
-    right false b t = t
+    in-or-out xs i (λ h. rw (bitAt-setBit xs i j h) (T-or-right (eqb i j) (bitAt xs j) t)) (λ h. rw (setBit-out xs i h) t)
 
 -- the bit that was set is set
 pub bitAt-setBit-same : (xs : List ℕ) (i : ℕ) → i / 8 < length xs → T (bitAt (setBit xs i) i)
@@ -180,6 +208,12 @@ same-or-bitAt-of-setBit xs i j t =
 -- tests that agree below n set the same bits
 pub setAll-same : (p q : ℕ → Bool) (f : ℕ → ℕ) (n : ℕ) (xs : List ℕ) → ((e : ℕ) → p e ≡ q e) → setAll p f n xs ≡ setAll q f n xs
 setAll-same p q f n xs h = ap (λ (r : ℕ → Bool). setAll r f n xs) (λ i e. h e i)
+
+-- one number more, as a loop sets its bit: the test b of number e, and the number i of its bit
+pub setAll-more : (p : ℕ → Bool) (f : ℕ → ℕ) (e i : ℕ) (b : Bool) (xs ys zs : List ℕ) → ys ≡ setAll p f e xs → b ≡ p e → i ≡ f e
+    → zs ≡ cond b (setBit ys i) ys → zs ≡ setAll p f (e + 1) xs
+unfolding setAll
+setAll-more p f e i b xs ys zs y h k z = rw (add-one, ← y, ← h, ← k) z
 
 pub length-setAll : (p : ℕ → Bool) (f : ℕ → ℕ) (n : ℕ) (xs : List ℕ) → length (setAll p f n xs) ≡ length xs
 unfolding setAll
@@ -212,8 +246,8 @@ bitAt-setAll-of-test p f zero xs e l h i = absurd (not-suc-le-zero l)
 bitAt-setAll-of-test p f (suc n) xs e l h i =
     ⊎-elim (λ q. last n q)
     (λ m.
-      let s = bitAt-setAll-of-test p f n xs e m h i in
-      cond-elim (λ (ys : List ℕ). T (bitAt ys (f e))) (p n) (λ t. bitAt-setBit-of-bitAt (setAll p f n xs) (f n) (f e) s) (λ t. s))
+    let s = bitAt-setAll-of-test p f n xs e m h i in
+    cond-elim (λ (ys : List ℕ). T (bitAt ys (f e))) (p n) (λ t. bitAt-setBit-of-bitAt (setAll p f n xs) (f n) (f e) s) (λ t. s))
     (eq-or-lt-of-le (le-of-suc-le-suc l))
   where
     last : (m : ℕ) → e ≡ m → T (bitAt (cond (p m) (setBit (setAll p f m xs) (f m)) (setAll p f m xs)) (f e))
@@ -230,8 +264,8 @@ test-or-bitAt-of-setAll p f zero xs j t = inr t
 test-or-bitAt-of-setAll p f (suc n) xs j t =
     cond-elim (λ (ys : List ℕ). T (bitAt ys j) → ((e : ℕ) × (e < suc n) × T (p e) × (f e ≡ j)) ⊎ T (bitAt xs j)) (p n)
     (λ h s.
-      ⊎-elim (λ q. inl (n, le-refl (suc n), h, q)) (λ r. later (test-or-bitAt-of-setAll p f n xs j r))
-      (same-or-bitAt-of-setBit (setAll p f n xs) (f n) j s))
+    ⊎-elim (λ q. inl (n, le-refl (suc n), h, q)) (λ r. later (test-or-bitAt-of-setAll p f n xs j r))
+    (same-or-bitAt-of-setBit (setAll p f n xs) (f n) j s))
     (λ h s. later (test-or-bitAt-of-setAll p f n xs j s)) t
   where
     later : ((e : ℕ) × (e < n) × T (p e) × (f e ≡ j)) ⊎ T (bitAt xs j) → ((e : ℕ) × (e < suc n) × T (p e) × (f e ≡ j)) ⊎ T (bitAt xs j)

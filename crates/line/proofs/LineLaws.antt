@@ -163,23 +163,35 @@ module _ (x f s k v m : List ℕ) (at : ℕ) (a : Bool) (qa : a ≡ formed x f s
             record {
               says = rw (sym qa ∙ not-false a ea, ci .0, cj .0, sym qe ∙ h, qg, ci .1, cj .1);
               place = refl;
-              len = omega arith }
+              len = omega arith;
+            }
 
         module _ (c : ℕ) (he : e ≡ false) (qc : c ≡ capped 38 (codeOf (kindIn v))) where
           pub says-kind : (r : Line) → 38 ≤ c → r ≡ faulty 4 at → Judged k at (sayFields x f s k v m) r
           unfolding small
           says-kind r h p =
               over r ea
-              (rw (eq-of-capped-lt 32 (number x) i qi hi .0, eq-of-capped-lt 16 (number s) j qj hj .0, sym qe ∙ he, smallKind-codeOf (kindIn v),
-                   ltb-of-capped-ge 38 (codeOf (kindIn v)) c qc h)) p
+              (rw (
+                eq-of-capped-lt 32 (number x) i qi hi .0,
+                eq-of-capped-lt 16 (number s) j qj hj .0,
+                sym qe ∙ he,
+                smallKind-codeOf (kindIn v),
+                ltb-of-capped-ge 38 (codeOf (kindIn v)) c qc h,
+              )) p
 
           module _ (n : ℕ) (hc : c < 38) (qn : n ≡ capped 16 (number m)) where
             pub says-next : (r : Line) → 16 ≤ n → r ≡ faulty 4 at → Judged k at (sayFields x f s k v m) r
             unfolding small
             says-next r h p =
                 over r ea
-                (rw (eq-of-capped-lt 32 (number x) i qi hi .0, eq-of-capped-lt 16 (number s) j qj hj .0, sym qe ∙ he, smallKind-codeOf (kindIn v),
-                     eq-of-capped-lt 38 (codeOf (kindIn v)) c qc hc .0, ltb-of-capped-ge 16 (number m) n qn h)) p
+                (rw (
+                  eq-of-capped-lt 32 (number x) i qi hi .0,
+                  eq-of-capped-lt 16 (number s) j qj hj .0,
+                  sym qe ∙ he,
+                  smallKind-codeOf (kindIn v),
+                  eq-of-capped-lt 38 (codeOf (kindIn v)) c qc hc .0,
+                  ltb-of-capped-ge 16 (number m) n qn h,
+                )) p
 
             pub says-edge : (w : ℕ) → n < 16 → w ≡ length (keyOf k)
                 → Judged k at (sayFields x f s k v m) (record { fault = 0; rule = i; obj = g; state = j; kind = c; next = n; «key_at» = at; «key_len» = w })
@@ -192,9 +204,10 @@ module _ (x f s k v m : List ℕ) (at : ℕ) (a : Bool) (qa : a ≡ formed x f s
                 let kk : kindOf c ≡ kindIn v = ap kindOf (sym (ck .1)) ∙ kindOf-codeOf (kindIn v) in
                 record {
                   says =
-                    rw (sym qa ∙ not-false a ea, ci .0, cj .0, sym qe ∙ he, smallKind-codeOf (kindIn v), ck .0, cn .0, lt-ltb c 38 hc, qg, qw, take-keyOf k, kk, ci .1, cj .1, cn .1);
+                      rw (sym qa ∙ not-false a ea, ci .0, cj .0, sym qe ∙ he, smallKind-codeOf (kindIn v), ck .0, cn .0, lt-ltb c 38 hc, qg, qw, take-keyOf k, kk, ci .1, cj .1, cn .1);
                   place = refl;
-                  len = omega (arith, keyOf-le k) }
+                  len = omega (arith, keyOf-le k);
+                }
 
 -- ---- a line
 
@@ -206,7 +219,7 @@ key-in-line l a b s r h k j =
     let q = j .len in
     let p = j .place in
     let e : take (r .«key_len») (drop (r .«key_at») l) ≡ take (r .«key_len») (seg a b l) =
-        rw p (sym (take-take (r .«key_len») (b - a) (drop a l) (omega (arith, q, n)))) in
+    rw p (sym (take-take (r .«key_len») (b - a) (drop a l) (omega (arith, q, n)))) in
     (rw e (j .says), omega (arith, p, q, n))
 
 module _ (l : List ℕ) (c : Cuts) (q : Cut l c) where
@@ -215,8 +228,8 @@ module _ (l : List ℕ) (c : Cuts) (q : Cut l c) where
 
   pub line-six : (r : Line) → c .six ≡ true
       → (said r l
-         ≡ sayFields (seg 0 (c .p1) l) (seg (c .p1 + 1) (c .p2) l) (seg (c .p2 + 1) (c .p3) l) (seg (c .p3 + 1) (c .p4) l) (seg (c .p4 + 1) (c .p5) l)
-           (seg (c .p5 + 1) (length l) l))
-        × (r .«key_at» + r .«key_len» ≤ length l)
+      ≡ sayFields (seg 0 (c .p1) l) (seg (c .p1 + 1) (c .p2) l) (seg (c .p2 + 1) (c .p3) l) (seg (c .p3 + 1) (c .p4) l) (seg (c .p4 + 1) (c .p5) l)
+      (seg (c .p5 + 1) (length l) l))
+      × (r .«key_at» + r .«key_len» ≤ length l)
       → (said r l ≡ sayLine l) × (r .«key_at» + r .«key_len» ≤ length l)
   line-six r e w = (w .0 ∙ sym (q .some e), w .1)

@@ -89,22 +89,41 @@ module _ (l : List ℕ) (p1 : ℕ) (e1 : p1 ≡ 0 + until 32 (drop 0 l)) where
           pub five-parts : length l ≤ p5 → sayLine l ≡ bad 3
           unfolding sayLine sayParts
           five-parts h =
-              rw (split-more 32 l 0 p1 e1 h1, split-more 32 l (p1 + 1) p2 e2 h2, split-more 32 l (p2 + 1) p3 e3 h3, split-more 32 l (p3 + 1) p4 e4 h4,
-                  split-last 32 l (p4 + 1) p5 e5 h)
+              rw (
+                split-more 32 l 0 p1 e1 h1,
+                split-more 32 l (p1 + 1) p2 e2 h2,
+                split-more 32 l (p2 + 1) p3 e3 h3,
+                split-more 32 l (p3 + 1) p4 e4 h4,
+                split-last 32 l (p4 + 1) p5 e5 h,
+              )
 
           module _ (h5 : p5 < length l) (p6 : ℕ) (e6 : p6 ≡ p5 + 1 + until 32 (drop (p5 + 1) l)) where
             pub more-parts : p6 < length l → sayLine l ≡ bad 3
             unfolding sayLine sayParts
             more-parts h =
                 let z = split-some 32 (drop (p6 + 1) l) in
-                rw (split-more 32 l 0 p1 e1 h1, split-more 32 l (p1 + 1) p2 e2 h2, split-more 32 l (p2 + 1) p3 e3 h3, split-more 32 l (p3 + 1) p4 e4 h4,
-                    split-more 32 l (p4 + 1) p5 e5 h5, split-more 32 l (p5 + 1) p6 e6 h, z .2)
+                rw (
+                  split-more 32 l 0 p1 e1 h1,
+                  split-more 32 l (p1 + 1) p2 e2 h2,
+                  split-more 32 l (p2 + 1) p3 e3 h3,
+                  split-more 32 l (p3 + 1) p4 e4 h4,
+                  split-more 32 l (p4 + 1) p5 e5 h5,
+                  split-more 32 l (p5 + 1) p6 e6 h,
+                  z .2,
+                )
 
             pub six-parts : length l ≤ p6 → Cut l (record { six = true; p1 = p1; p2 = p2; p3 = p3; p4 = p4; p5 = p5 })
             unfolding sayLine sayParts
             six-parts h = record {
               none = λ t. absurd (let z : _≡_ {A = ℕ} 0 1 = cc in omega arith);
               some = λ t.
-                rw (split-more 32 l 0 p1 e1 h1, split-more 32 l (p1 + 1) p2 e2 h2, split-more 32 l (p2 + 1) p3 e3 h3, split-more 32 l (p3 + 1) p4 e4 h4,
-                    split-more 32 l (p4 + 1) p5 e5 h5, split-last 32 l (p5 + 1) p6 e6 h);
-              rising = λ t. record { a = omega arith; b = omega arith; c = omega arith; d = omega arith; e = omega arith } }
+                  rw (
+                    split-more 32 l 0 p1 e1 h1,
+                    split-more 32 l (p1 + 1) p2 e2 h2,
+                    split-more 32 l (p2 + 1) p3 e3 h3,
+                    split-more 32 l (p3 + 1) p4 e4 h4,
+                    split-more 32 l (p4 + 1) p5 e5 h5,
+                    split-last 32 l (p5 + 1) p6 e6 h,
+                  );
+              rising = λ t. record { a = omega arith; b = omega arith; c = omega arith; d = omega arith; e = omega arith };
+            }

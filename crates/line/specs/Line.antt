@@ -30,8 +30,8 @@ pub record Cut (l : List ℕ) (r : Cuts) : Type 0 where
   pub none : r .six ≡ false → sayLine l ≡ bad 3
   pub some : r .six ≡ true
       → sayLine l
-        ≡ sayFields (seg 0 (r .p1) l) (seg (r .p1 + 1) (r .p2) l) (seg (r .p2 + 1) (r .p3) l) (seg (r .p3 + 1) (r .p4) l) (seg (r .p4 + 1) (r .p5) l)
-          (seg (r .p5 + 1) (length l) l)
+      ≡ sayFields (seg 0 (r .p1) l) (seg (r .p1 + 1) (r .p2) l) (seg (r .p2 + 1) (r .p3) l) (seg (r .p3 + 1) (r .p4) l) (seg (r .p4 + 1) (r .p5) l)
+      (seg (r .p5 + 1) (length l) l)
   pub rising : r .six ≡ true → Rising (length l) r
 
 -- the form of a line

@@ -7,7 +7,9 @@ ghost use Rattle.book.specs.Line.{formed as isFormed, keyOf, sayFields, sayLine
 ghost use Rattle.line.specs.Line.{Cut, Judged, said, faulty, seg, formedEnd, formedEdge};
 
 const OBJ: [u8; 3] = *b"obj";
+
 const END: [u8; 3] = *b"end";
+
 const DASH: [u8; 1] = *b"-";
 
 // Where the five spaces of a line are, if it has exactly five.
@@ -147,7 +149,15 @@ fn key_length(key: &[u8]) -> usize
 }
 
 // What six fields say, the key's field being at `at`.
-fn judge_fields(rule: &[u8], form: &[u8], state: &[u8], key: &[u8], value: &[u8], next: &[u8], at: usize) -> Line
+fn judge_fields(
+    rule: &[u8],
+    form: &[u8],
+    state: &[u8],
+    key: &[u8],
+    value: &[u8],
+    next: &[u8],
+    at: usize,
+) -> Line
     ensures { λ r. ⌜ Judged (now (key .entry)) at (sayFields (now (rule .entry)) (now (form .entry)) (now (state .entry)) (now (key .entry)) (now (value .entry)) (now (next .entry))) r ⌝ }
 {
     if !formed(rule, form, state, key, value, next) {
@@ -201,7 +211,15 @@ fn judge_six(l: &[u8], p1: usize, p2: usize, p3: usize, p4: usize, p5: usize) ->
     ensures { λ r. ⌜ (said r (now (l .entry)) ≡ sayFields (seg 0 p1 (now (l .entry))) (seg (p1 + 1) p2 (now (l .entry))) (seg (p2 + 1) p3 (now (l .entry))) (seg (p3 + 1) p4 (now (l .entry))) (seg (p4 + 1) p5 (now (l .entry))) (seg (p5 + 1) (length (now (l .entry))) (now (l .entry)))) × (r .«key_at» + r .«key_len» ≤ length (now (l .entry))) ⌝ }
 {
     let at = p3 + 1;
-    judge_fields(&l[0..p1], &l[p1 + 1..p2], &l[p2 + 1..p3], &l[at..p4], &l[p4 + 1..p5], &l[p5 + 1..], at)
+    judge_fields(
+        &l[0..p1],
+        &l[p1 + 1..p2],
+        &l[p2 + 1..p3],
+        &l[at..p4],
+        &l[p4 + 1..p5],
+        &l[p5 + 1..],
+        at,
+    )
 }
 
 // What a line without its LF says, or its fault. The key lies within the line.

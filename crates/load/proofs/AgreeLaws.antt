@@ -144,7 +144,7 @@ book-agrees b = go (isEmpty b || ltb 65536 (length b)) (same (take 31 b) names)
   where
     go : (x y : Bool)
         → Agree (cond x (refusal Size) (cond y (takeLines 2 emptyTable (split 10 (drop 31 b))) (refusal Names)))
-          (cond x (refused 1 0) (cond y (readLines [] (split 10 (drop 31 b))) (refused 2 1)))
+        (cond x (refused 1 0) (cond y (readLines [] (split 10 (drop 31 b))) (refused 2 1)))
     go true y = (Size, refl, refl, λ z. omega arith)
     go false false = (Names, refl, refl, λ z. omega arith)
     go false true = lines-agree 2 [] (split 10 (drop 31 b)) refl kept-none
@@ -173,11 +173,13 @@ check-as es kept =
   where
     d : ℕ
     d = firstLine (dangles es) 2 es
+
     c : ℕ
     c = firstClash (keysOf es) 2 [] es
+
     go : (x y z : Bool)
         → As (cond x (cond y (refusal NoRoot) (cond z (loaded (tableOf es)) (refusal (NotAscending c)))) (refusal (NoRule d)))
-          (cond x (cond (not y) (cond z (record { number = 0; line = 0; entries = es }) (refuse 9 c)) (refuse 8 0)) (refuse 8 d))
+        (cond x (cond (not y) (cond z (record { number = 0; line = 0; entries = es }) (refuse 9 c)) (refuse 8 0)) (refuse 8 d))
     go false y z = refusal-as (NoRule d) 8 d refl
     go true true z = refusal-as NoRoot 8 0 refl
     go true false true = (refl, refl)

@@ -79,6 +79,7 @@ module _ (es : List Entry) (e : Entry) where
         none : (f : ℕ) (b : Bool) → eqb f 0 ≡ b → f ≡ cond b 0 f
         none f true z = eqb-true f 0 z
         none f false z = refl
+
         go : (b : Bool) → eqb (ruleOf e) n ≡ b
             → getD (set forms (ruleOf e) (formCode (formIn e))) n 0 ≡ cond (eqb (ruleForm es n) 0) (cond b (formCode (formIn e)) 0) (ruleForm es n)
         go true z =
@@ -130,9 +131,10 @@ repeated-edge ks r f q k v m n (edge r′ f′ q′ k′ v′ m′ ∷ l) i h = 
   where
     rest : Bool
     rest = any (sameEntry (edge r f q k v m)) l
+
     go : (b : Bool) → eqb r r′ ≡ b
         → ((b && (eqb q q′ && (eqb (keyNumber ks k) (keyNumber ks k′) && (eqb (codeOf v) (codeOf v′) && eqb m m′)))) || rest)
-          ≡ ((b && (sameForm f f′ && (eqb q q′ && (same k k′ && (eqb (codeOf v) (codeOf v′) && eqb m m′))))) || rest)
+        ≡ ((b && (sameForm f f′ && (eqb q q′ && (same k k′ && (eqb (codeOf v) (codeOf v′) && eqb m m′))))) || rest)
     go true e =
         let u : f′ ≡ f = h .0 .2 (sym (eqb-true r r′ e)) in
         let w : isEmpty k ≡ isEmpty k′ = i ∙ sym (h .0 .0 .keyed ∙ ap isArr u) in
@@ -149,6 +151,7 @@ repeated-end r f q (end-state r′ f′ q′ ∷ l) h = rw (repeated-end r f q l
   where
     rest : Bool
     rest = any (sameEntry (end-state r f q)) l
+
     go : (b : Bool) → eqb r r′ ≡ b → ((b && eqb q q′) || rest) ≡ ((b && (sameForm f f′ && eqb q q′)) || rest)
     go true e =
         let u : f′ ≡ f = h .0 (sym (eqb-true r r′ e)) in
@@ -235,6 +238,7 @@ module _ (t : Table) (es : List Entry) (kept : Kept t es) where
       where
         rest : Bool
         rest = any (endsAt a b) es
+
         go : (x y : Bool) → eqb r a ≡ x → eqb q b ≡ y → (eqb (16 * r + q) (16 * a + b) || rest) ≡ (rest || (x && y))
         go true true e g =
             let i = eqb-true r a e in
@@ -261,13 +265,15 @@ module _ (t : Table) (es : List Entry) (kept : Kept t es) where
       holds = record {
         keyed = tableKeys-withEnd t r (formCode f) q ∙ kept .holds .keyed ∙ sym (keysOf-last es (end-state r f q));
         edged =
-          tableEdges-withEnd t r (formCode f) q ∙ kept .holds .edged
-          ∙ sym (edgesOf-last es (end-state r f q) (kept .keys) ∙ append-nil (edgesOf es));
+            tableEdges-withEnd t r (formCode f) q ∙ kept .holds .edged
+            ∙ sym (edgesOf-last es (end-state r f q) (kept .keys) ∙ append-nil (edgesOf es));
         formed = forms-now (end-state r f q) (p .0) same-form;
-        ended = end-bits };
+        ended = end-bits;
+      };
       proper = proper-now (end-state r f q) (p .0) same-form p;
       forms = forms-last es (end-state r f q) (unchanged (end-state r f q) (p .0) same-form) (kept .forms);
-      keys = keys-now (end-state r f q) (p .0) same-form tt }
+      keys = keys-now (end-state r f q) (p .0) same-form tt;
+    }
 
   -- ---- an edge
   module _ (n r : ℕ) (f : Form) (q : ℕ) (k : List ℕ) (v : ValueKind) (m : ℕ) (p : ProperEdge r f q k v m)
@@ -289,14 +295,16 @@ module _ (t : Table) (es : List Entry) (kept : Kept t es) where
       holds = record {
         keyed = tableKeys-withEdge u (formCode f) (cellFor t r q k (codeOf v) m) n ∙ ku ∙ sym (keysOf-last es (edge r f q k v m));
         edged =
-          tableEdges-withEdge u (formCode f) (cellFor t r q k (codeOf v) m) n su lu
-          ∙ rw (eu, kept .holds .keyed, ln) (sym (edgesOf-last es (edge r f q k v m) (kept .keys) ∙ rw (keyNumber-withKey (keysOf es) k)));
+            tableEdges-withEdge u (formCode f) (cellFor t r q k (codeOf v) m) n su lu
+            ∙ rw (eu, kept .holds .keyed, ln) (sym (edgesOf-last es (edge r f q k v m) (kept .keys) ∙ rw (keyNumber-withKey (keysOf es) k)));
         formed = λ i l. rw fu (forms-now (edge r f q k v m) (p .rule) same-form i l);
         ended = λ a b ha hb.
-          rw nu (kept .holds .ended a b ha hb ∙ sym (any-last (endsAt a b) es (edge r f q k v m) ∙ or-false (any (endsAt a b) es))) };
+            rw nu (kept .holds .ended a b ha hb ∙ sym (any-last (endsAt a b) es (edge r f q k v m) ∙ or-false (any (endsAt a b) es)));
+      };
       proper = proper-now (edge r f q k v m) (p .rule) same-form p;
       forms = forms-last es (edge r f q k v m) (unchanged (edge r f q k v m) (p .rule) same-form) (kept .forms);
-      keys = keys-now (edge r f q k v m) (p .rule) same-form (rw (keysOf-last es (edge r f q k v m)) (key-among-added (keysOf es) k)) }
+      keys = keys-now (edge r f q k v m) (p .rule) same-form (rw (keysOf-last es (edge r f q k v m)) (key-among-added (keysOf es) k));
+    }
 
 -- ---- one entry
 edge-shape : (t x y : Table) (c7 a w k : Bool) → cond c7 (taken 7 t) (cond a (taken 5 t) (cond w (cond k (taken 5 t) (taken 0 x)) (taken 0 y))) .fault
@@ -314,15 +322,17 @@ fault-same n t es (edge r f q k v m) kept p = rw (sym (forms-same t es kept (edg
   where
     e : Entry
     e = edge r f q k v m
+
     c : Cell
     c = cellFor t r q k (codeOf v) m
+
     go : (b : Bool) → formChanges (getD (t .forms) r 0) (formCode f) ≡ b
         → cond b (taken 6 t)
-          (cond (hasCell t c) (taken 7 t)
-          (cond (leb 512 (t .edges)) (taken 5 t)
-          (cond (isNew (length k) (keyNumber (tableKeys t) k) (t .keys))
-            (cond (leb 128 (t .keys)) (taken 5 t) (taken 0 (withEdge (withKey t k) (formCode f) c n))) (taken 0 (withEdge t (formCode f) c n))))) .fault
-          ≡ cond b 6 (cond (any (sameEntry e) es) 7 (cond (leb 512 (edgeCount es) || ltb 128 (length (keysOf (es ++ (e ∷ []))))) 5 0))
+        (cond (hasCell t c) (taken 7 t)
+        (cond (leb 512 (t .edges)) (taken 5 t)
+        (cond (isNew (length k) (keyNumber (tableKeys t) k) (t .keys))
+        (cond (leb 128 (t .keys)) (taken 5 t) (taken 0 (withEdge (withKey t k) (formCode f) c n))) (taken 0 (withEdge t (formCode f) c n))))) .fault
+        ≡ cond b 6 (cond (any (sameEntry e) es) 7 (cond (leb 512 (edgeCount es) || ltb 128 (length (keysOf (es ++ (e ∷ []))))) 5 0))
     go true z = refl
     go false z =
         edge-shape t (withEdge (withKey t k) (formCode f) c n) (withEdge t (formCode f) c n) (hasCell t c) (leb 512 (t .edges))
@@ -333,9 +343,10 @@ fault-same n t es (end-state r f q) kept p = rw (sym (forms-same t es kept (end-
     shape : (x : Table) (b : Bool) → cond b (taken 7 t) (taken 0 x) .fault ≡ cond b 7 0
     shape x true = refl
     shape x false = refl
+
     go : (b : Bool) → formChanges (getD (t .forms) r 0) (formCode f) ≡ b
         → cond b (taken 6 t) (cond (bitAt (t .ends) (16 * r + q)) (taken 7 t) (taken 0 (withEnd t r (formCode f) q))) .fault
-          ≡ cond b 6 (cond (any (sameEntry (end-state r f q)) es) 7 0)
+        ≡ cond b 6 (cond (any (sameEntry (end-state r f q)) es) 7 0)
     go true z = refl
     go false z = shape (withEnd t r (formCode f) q) (bitAt (t .ends) (16 * r + q)) ∙ rw (end-repeated t es kept r f q p z)
 
@@ -352,16 +363,19 @@ entry-kept n t es (edge r f q k v m) ln kept p =
   where
     c : Cell
     c = cellFor t r q k (codeOf v) m
+
     added : (b : Bool) → isNew (length k) (keyNumber (tableKeys t) k) (t .keys) ≡ b → addedKey (keysOf es) k ≡ cond b (keysOf es ++ (k ∷ [])) (keysOf es)
     added b z =
         addedKey-isNew (keysOf es) k (t .keys) (keys-count t es kept)
         ∙ ap (λ (x : Bool). cond x (keysOf es ++ (k ∷ [])) (keysOf es)) (ap (λ (ks : List (List ℕ)). isNew (length k) (keyNumber ks k) (t .keys)) (sym (kept .holds .keyed)) ∙ z)
+
     result : Bool → Bool → Bool → Bool → Bool → Taken
     result c6 c7 a w k128 =
         cond c6 (taken 6 t)
         (cond c7 (taken 7 t)
         (cond a (taken 5 t)
         (cond w (cond k128 (taken 5 t) (taken 0 (withEdge (withKey t k) (formCode f) c n))) (taken 0 (withEdge t (formCode f) c n)))))
+
     go : (c6 c7 a w k128 : Bool) → formChanges (getD (t .forms) r 0) (formCode f) ≡ c6 → leb 512 (t .edges) ≡ a
         → isNew (length k) (keyNumber (tableKeys t) k) (t .keys) ≡ w → leb 128 (t .keys) ≡ k128
         → WithinLimits (result c6 c7 a w k128 .table) → result c6 c7 a w k128 .fault ≡ 0 → Kept (result c6 c7 a w k128 .table) (es ++ (edge r f q k v m ∷ []))
@@ -381,6 +395,7 @@ entry-kept n t es (end-state r f q) ln kept p =
   where
     result : Bool → Bool → Taken
     result c6 c7 = cond c6 (taken 6 t) (cond c7 (taken 7 t) (taken 0 (withEnd t r (formCode f) q)))
+
     go : (c6 c7 : Bool) → formChanges (getD (t .forms) r 0) (formCode f) ≡ c6 → WithinLimits (result c6 c7 .table) → result c6 c7 .fault ≡ 0
         → Kept (result c6 c7 .table) (es ++ (end-state r f q ∷ []))
     go true c7 z lim e = zero-not 5 e
@@ -399,4 +414,7 @@ kept-empty = record {
   sized = sized-empty;
   within = within-empty;
   holds = record { keyed = refl; edged = refl; formed = λ r l. zeros 32 r; ended = λ r q l m. bitAt-zeros 64 (16 * r + q) };
-  proper = tt; forms = tt; keys = tt }
+  proper = tt;
+  forms = tt;
+  keys = tt;
+}

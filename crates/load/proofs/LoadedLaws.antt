@@ -59,8 +59,8 @@ module _ (ks : List (List ℕ)) where
       go false p z ih =
           let c = none-of-any x (seen ++ (x ∷ [])) p in
           let here : Apart (seen ++ (x ∷ [])) (seen ++ (x ∷ [])) =
-              each-append (λ u. Each (λ b. clash ks u b ≡ false) (seen ++ (x ∷ []))) seen (x ∷ [])
-              (apart-last seen seen x a (each-left _ seen (x ∷ []) c)) (each-map _ (λ b. clash ks x b ≡ false) (λ y q. q .1) (seen ++ (x ∷ [])) c, tt) in
+          each-append (λ u. Each (λ b. clash ks u b ≡ false) (seen ++ (x ∷ []))) seen (x ∷ [])
+          (apart-last seen seen x a (each-left _ seen (x ∷ []) c)) (each-map _ (λ b. clash ks x b ≡ false) (λ y q. q .1) (seen ++ (x ∷ [])) c, tt) in
           rw (append-assoc seen (x ∷ []) l) at (ih z here)
 
   -- the same as a test
@@ -83,6 +83,7 @@ checked-elim P none es h = go (eqb (firstLine (dangles es) 2 es) 0) (hasRule es 
   where
     c : ℕ
     c = firstClash (keysOf es) 2 [] es
+
     go : (x y z : Bool) → eqb c 0 ≡ z
         → P (cond x (cond y (cond z (record { number = 0; line = 0; entries = es }) (refuse 9 c)) (refuse 8 0)) (refuse 8 (firstLine (dangles es) 2 es)) .entries)
     go true true true e = h (eqb-true c 0 e)

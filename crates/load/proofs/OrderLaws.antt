@@ -105,7 +105,7 @@ firstLate fs seen (x ∷ xs) = cond (any (clashesEdges fs x) (seen ++ (x ∷ [])
 module _ (t : Table) where
   late-any : (i : ℕ)
       → lateAt (t .«edge_rule») (t .«edge_state») (t .«edge_key») (t .«edge_next») (t .forms) i
-        ≡ any (clashesEdges (t .forms) (edgeAt t i)) (tab (edgeAt t) 0 i ++ (edgeAt t i ∷ []))
+      ≡ any (clashesEdges (t .forms) (edgeAt t i)) (tab (edgeAt t) 0 i ++ (edgeAt t i ∷ []))
   unfolding lateAt clashesAt clashAt clashesEdges clashEdges
   late-any i =
       some-tab (clashesAt (t .«edge_rule») (t .«edge_state») (t .«edge_key») (t .«edge_next») (t .forms) i) (clashesEdges (t .forms) (edgeAt t i)) (edgeAt t) 0 (i + 1) (λ k. refl)
@@ -113,7 +113,7 @@ module _ (t : Table) where
 
   firstAt-late : (i n : ℕ)
       → firstAt (lateAt (t .«edge_rule») (t .«edge_state») (t .«edge_key») (t .«edge_next») (t .forms)) (lineAt (t .«edge_line»)) i n
-        ≡ firstLate (t .forms) (tab (edgeAt t) 0 i) (tab (edgeAt t) i n)
+      ≡ firstLate (t .forms) (tab (edgeAt t) 0 i) (tab (edgeAt t) i n)
   unfolding firstAt firstLate
   firstAt-late i zero = refl
   firstAt-late i (suc n) =
@@ -181,14 +181,14 @@ module _ (t : Table) (es : List Entry) (kept : Kept t es) where
       let x = edge r f q k v m in
       let fine : Each Fine (seen ++ (x ∷ [])) = each-append Fine seen (x ∷ []) s (h .0, tt) in
       let a : edgesFrom (keysOf es) 2 seen ++ (edgeIn (keysOf es) r q k v m n ∷ []) ≡ edgesFrom (keysOf es) 2 (seen ++ (x ∷ [])) =
-          rw e (sym (edgesFrom-append (keysOf es) 2 seen (x ∷ []))) in
+      rw e (sym (edgesFrom-append (keysOf es) 2 seen (x ∷ []))) in
       let ih = firstLate-line (suc n) (seen ++ (x ∷ [])) l (rw (length-append seen (x ∷ [])) (omega arith)) fine (h .1) in
       rw (a, clash-any r f q k v m n 2 (seen ++ (x ∷ [])) (h .0) fine, ih)
   firstLate-line n seen (end-state r f q ∷ l) e s h =
       let x = end-state r f q in
       let fine : Each Fine (seen ++ (x ∷ [])) = each-append Fine seen (x ∷ []) s (h .0, tt) in
       let a : edgesFrom (keysOf es) 2 seen ≡ edgesFrom (keysOf es) 2 (seen ++ (x ∷ [])) =
-          sym (edgesFrom-append (keysOf es) 2 seen (x ∷ []) ∙ append-nil (edgesFrom (keysOf es) 2 seen)) in
+      sym (edgesFrom-append (keysOf es) 2 seen (x ∷ []) ∙ append-nil (edgesFrom (keysOf es) 2 seen)) in
       let ih = firstLate-line (suc n) (seen ++ (x ∷ [])) l (rw (length-append seen (x ∷ [])) (omega arith)) fine (h .1) in
       rw (end-any r f q (seen ++ (x ∷ [])), a) ih
 

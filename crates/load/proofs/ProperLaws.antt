@@ -46,6 +46,7 @@ module _ (r f q k v m : List ℕ) where
       some : (s : List ℕ) → 1 ≤ length s → isEmpty s ≡ false
       some [] h = absurd (omega arith)
       some (b ∷ s) h = refl
+
       go : (b d : Bool) → cond b (leb 1 (length k) && (leb (length k) 32 && (all isVisible k && not d))) d ≡ true
           → (length (cond d [] k) ≤ 32) × (isEmpty (cond d [] k) ≡ isArr (cond b obj arr))
       go true true h =
@@ -74,8 +75,13 @@ module _ (r f q k v m : List ℕ) where
       let u = and-true (isNumber m) _ (w .1) in
       let k' = key-proper (u .1) in
       record {
-        rule = ltb-true (number r) 32 (a .0); state = ltb-true (number q) 16 (b .0); len = k' .0; keyed = k' .1;
-        kind = codeOf-lt (kindIn v) (c .0); next = ltb-true (number m) 16 (c .1) }
+        rule = ltb-true (number r) 32 (a .0);
+        state = ltb-true (number q) 16 (b .0);
+        len = k' .0;
+        keyed = k' .1;
+        kind = codeOf-lt (kindIn v) (c .0);
+        next = ltb-true (number m) 16 (c .1);
+      }
 
   end-proper : small r q v m ≡ true → (number r < 32) × (number q < 16)
   unfolding small
@@ -90,9 +96,9 @@ module _ (r f q k v m : List ℕ) where
     where
       go : (a b c : Bool) → formed r f q k v m ≡ a → small r q v m ≡ b → same v word-end ≡ c
           → ProperSaid
-            (cond a
-              (cond b (good (cond c (end-state (number r) (formOf f) (number q)) (edge (number r) (formOf f) (number q) (keyOf k) (kindIn v) (number m)))) (bad 4))
-              (bad 3))
+          (cond a
+          (cond b (good (cond c (end-state (number r) (formOf f) (number q)) (edge (number r) (formOf f) (number q) (keyOf k) (kindIn v) (number m)))) (bad 4))
+          (bad 3))
       go false b c x y z = tt
       go true false c x y z = tt
       go true true true x y z = end-proper y

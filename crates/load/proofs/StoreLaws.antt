@@ -47,12 +47,21 @@ keyNumber-some f n (x ∷ k) r h e q = (q, omega (arith, numberOf-tab-le f 0 n (
 
 pub withKey-eq : (t : Table) (k w : List ℕ) → w ≡ written (t .«key_bytes») (32 * t .keys) k → length k ≤ 32
     → _≡_ {A = Table}
-      (record {
-        edges = t .edges; keys = t .keys + 1;
-        «edge_rule» = t .«edge_rule»; «edge_state» = t .«edge_state»; «edge_key» = t .«edge_key»;
-        «edge_kind» = t .«edge_kind»; «edge_next» = t .«edge_next»; «edge_line» = t .«edge_line»;
-        «key_bytes» = w; «key_len» = set (t .«key_len») (t .keys) (length k % 256); ends = t .ends; forms = t .forms })
-      (withKey t k)
+    (record {
+      edges = t .edges;
+      keys = t .keys + 1;
+      «edge_rule» = t .«edge_rule»;
+      «edge_state» = t .«edge_state»;
+      «edge_key» = t .«edge_key»;
+      «edge_kind» = t .«edge_kind»;
+      «edge_next» = t .«edge_next»;
+      «edge_line» = t .«edge_line»;
+      «key_bytes» = w;
+      «key_len» = set (t .«key_len») (t .keys) (length k % 256);
+      ends = t .ends;
+      forms = t .forms;
+    })
+    (withKey t k)
 withKey-eq t k w e h = let m : length k % 256 ≡ length k = omega arith in rw (e, m)
 
 -- ---- end lines
@@ -131,6 +140,7 @@ module _ (n : ℕ) (t : Table) (l : Line) (k : List ℕ) (f : ℕ) (qf : f ≡ f
     where
       z : formChanges (getD (t .forms) (l .rule) 0) (formCode (formWith (l .obj))) ≡ true
       z = sym (ap (formChanges (getD (t .forms) (l .rule) 0)) qf) ∙ sym qb ∙ e
+
       go : (c : Bool) → taken 6 t ≡ takeEntry n t (cond c (edge (l .rule) (formWith (l .obj)) (l .state) k (kindOf (l .kind)) (l .next)) (end-state (l .rule) (formWith (l .obj)) (l .state)))
       go true = rw z
       go false = rw z

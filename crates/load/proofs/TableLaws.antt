@@ -65,10 +65,17 @@ pub record Sized (t : Table) : Type 0 where
 pub sized-empty : Sized emptyTable
 unfolding emptyTable
 sized-empty = record {
-  rule = length-replicate {A = ℕ} 512 0; state = length-replicate {A = ℕ} 512 0; key = length-replicate {A = ℕ} 512 0;
-  kind = length-replicate {A = ℕ} 512 0; next = length-replicate {A = ℕ} 512 0; line = length-replicate {A = ℕ} 512 0;
-  bytes = length-replicate {A = ℕ} 4096 0; lens = length-replicate {A = ℕ} 128 0; ends = length-replicate {A = ℕ} 64 0;
-  forms = length-replicate {A = ℕ} 32 0 }
+  rule = length-replicate {A = ℕ} 512 0;
+  state = length-replicate {A = ℕ} 512 0;
+  key = length-replicate {A = ℕ} 512 0;
+  kind = length-replicate {A = ℕ} 512 0;
+  next = length-replicate {A = ℕ} 512 0;
+  line = length-replicate {A = ℕ} 512 0;
+  bytes = length-replicate {A = ℕ} 4096 0;
+  lens = length-replicate {A = ℕ} 128 0;
+  ends = length-replicate {A = ℕ} 64 0;
+  forms = length-replicate {A = ℕ} 32 0;
+}
 
 written-sets : (w : List ℕ) (a : ℕ) (k : List ℕ) → written w a k ≡ sets w a k
 unfolding written
@@ -78,21 +85,45 @@ written-sets w a (x ∷ k) = written-sets (set w a x) (suc a) k
 module _ (t : Table) (s : Sized t) where
   pub sized-withEnd : (r f q : ℕ) → Sized (withEnd t r f q)
   sized-withEnd r f q = record {
-    rule = s .rule; state = s .state; key = s .key; kind = s .kind; next = s .next; line = s .line; bytes = s .bytes; lens = s .lens;
-    ends = length-setBit (t .ends) (16 * r + q) ∙ s .ends; forms = length-set (t .forms) r f ∙ s .forms }
+    rule = s .rule;
+    state = s .state;
+    key = s .key;
+    kind = s .kind;
+    next = s .next;
+    line = s .line;
+    bytes = s .bytes;
+    lens = s .lens;
+    ends = length-setBit (t .ends) (16 * r + q) ∙ s .ends;
+    forms = length-set (t .forms) r f ∙ s .forms;
+  }
 
   pub sized-withEdge : (f : ℕ) (c : Cell) (n : ℕ) → Sized (withEdge t f c n)
   sized-withEdge f c n = record {
-    rule = length-set (t .«edge_rule») _ _ ∙ s .rule; state = length-set (t .«edge_state») _ _ ∙ s .state;
-    key = length-set (t .«edge_key») _ _ ∙ s .key; kind = length-set (t .«edge_kind») _ _ ∙ s .kind;
-    next = length-set (t .«edge_next») _ _ ∙ s .next; line = length-set (t .«edge_line») _ _ ∙ s .line;
-    bytes = s .bytes; lens = s .lens; ends = s .ends; forms = length-set (t .forms) _ _ ∙ s .forms }
+    rule = length-set (t .«edge_rule») _ _ ∙ s .rule;
+    state = length-set (t .«edge_state») _ _ ∙ s .state;
+    key = length-set (t .«edge_key») _ _ ∙ s .key;
+    kind = length-set (t .«edge_kind») _ _ ∙ s .kind;
+    next = length-set (t .«edge_next») _ _ ∙ s .next;
+    line = length-set (t .«edge_line») _ _ ∙ s .line;
+    bytes = s .bytes;
+    lens = s .lens;
+    ends = s .ends;
+    forms = length-set (t .forms) _ _ ∙ s .forms;
+  }
 
   pub sized-withKey : (k : List ℕ) → Sized (withKey t k)
   sized-withKey k = record {
-    rule = s .rule; state = s .state; key = s .key; kind = s .kind; next = s .next; line = s .line;
+    rule = s .rule;
+    state = s .state;
+    key = s .key;
+    kind = s .kind;
+    next = s .next;
+    line = s .line;
     bytes = ap length (written-sets (t .«key_bytes») (32 * t .keys) k) ∙ length-sets (t .«key_bytes») (32 * t .keys) k ∙ s .bytes;
-    lens = length-set (t .«key_len») _ _ ∙ s .lens; ends = s .ends; forms = s .forms }
+    lens = length-set (t .«key_len») _ _ ∙ s .lens;
+    ends = s .ends;
+    forms = s .forms;
+  }
 
 -- ---- edges
 earlier : (l : List ℕ) (n k v : ℕ) → k < n → getD (set l n v) k 0 ≡ getD l k 0
@@ -107,12 +138,23 @@ unfolding tableEdges
 tableEdges-withEdge t f c n s h =
     tab-add (edgeAt (withEdge t f c n)) (edgeAt t) (t .edges) (edgeOn c n)
     (λ k l.
-      rw (earlier (t .«edge_rule») (t .edges) k (c .rule) l, earlier (t .«edge_state») (t .edges) k (c .state) l, earlier (t .«edge_key») (t .edges) k (c .key) l,
-          earlier (t .«edge_kind») (t .edges) k (c .kind) l, earlier (t .«edge_next») (t .edges) k (c .next) l, earlier (t .«edge_line») (t .edges) k n l))
+    rw (
+      earlier (t .«edge_rule») (t .edges) k (c .rule) l,
+      earlier (t .«edge_state») (t .edges) k (c .state) l,
+      earlier (t .«edge_key») (t .edges) k (c .key) l,
+      earlier (t .«edge_kind») (t .edges) k (c .kind) l,
+      earlier (t .«edge_next») (t .edges) k (c .next) l,
+      earlier (t .«edge_line») (t .edges) k n l,
+    ))
     (let a = s .rule in let b = s .state in let d = s .key in let e = s .kind in let g = s .next in let i = s .line in
-     rw (getD-set-same (t .«edge_rule») (t .edges) (c .rule) 0 (omega arith), getD-set-same (t .«edge_state») (t .edges) (c .state) 0 (omega arith),
-         getD-set-same (t .«edge_key») (t .edges) (c .key) 0 (omega arith), getD-set-same (t .«edge_kind») (t .edges) (c .kind) 0 (omega arith),
-         getD-set-same (t .«edge_next») (t .edges) (c .next) 0 (omega arith), getD-set-same (t .«edge_line») (t .edges) n 0 (omega arith)))
+    rw (
+      getD-set-same (t .«edge_rule») (t .edges) (c .rule) 0 (omega arith),
+      getD-set-same (t .«edge_state») (t .edges) (c .state) 0 (omega arith),
+      getD-set-same (t .«edge_key») (t .edges) (c .key) 0 (omega arith),
+      getD-set-same (t .«edge_kind») (t .edges) (c .kind) 0 (omega arith),
+      getD-set-same (t .«edge_next») (t .edges) (c .next) 0 (omega arith),
+      getD-set-same (t .«edge_line») (t .edges) n 0 (omega arith),
+    ))
 
 pub length-tableEdges : (t : Table) → length (tableEdges t) ≡ t .edges
 unfolding tableEdges
@@ -144,7 +186,7 @@ module _ (w : List ℕ) (a : ℕ) (k : List ℕ) (fits : a + length k ≤ length
       (ap (take m) (drop-append-le b (take a w) (k ++ drop (a + length k) w) (omega arith))
       ∙ take-append-le m (drop b (take a w)) (k ++ drop (a + length k) w) (rw length-drop (omega arith))
       ∙ sym (ap (take m) (ap (drop b) (sym (take-append-drop a w)) ∙ drop-append-le b (take a w) (drop a w) (omega arith))
-             ∙ take-append-le m (drop b (take a w)) (drop a w) (rw length-drop (omega arith))))
+      ∙ take-append-le m (drop b (take a w)) (drop a w) (rw length-drop (omega arith))))
 
 pub tableKeys-withKey : (t : Table) (k : List ℕ) → Sized t → WithinLimits t → t .keys < 128 → length k ≤ 32 → tableKeys (withKey t k) ≡ tableKeys t ++ (k ∷ [])
 unfolding tableKeys
@@ -153,9 +195,9 @@ tableKeys-withKey t k s w h l =
     let sl = s .lens in
     tab-add (keyAt (withKey t k .«key_bytes») (withKey t k .«key_len»)) (keyAt (t .«key_bytes») (t .«key_len»)) (t .keys) k
     (λ i b.
-      let q = w .len i in
-      rw (earlier (t .«key_len») (t .keys) i (length k) b)
-      (written-before (t .«key_bytes») (32 * t .keys) k (omega arith) (32 * i) (getD (t .«key_len») i 0) (omega (arith, q))))
+    let q = w .len i in
+    rw (earlier (t .«key_len») (t .keys) i (length k) b)
+    (written-before (t .«key_bytes») (32 * t .keys) k (omega arith) (32 * i) (getD (t .«key_len») i 0) (omega (arith, q))))
     (rw (getD-set-same (t .«key_len») (t .keys) (length k) 0 (omega arith)) (written-here (t .«key_bytes») (32 * t .keys) k (omega arith)))
 
 pub length-tableKeys : (t : Table) → length (tableKeys t) ≡ t .keys

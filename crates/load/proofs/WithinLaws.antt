@@ -39,8 +39,16 @@ zeros-le (suc n) m (suc j) = zeros-le n m j
 pub within-empty : WithinLimits emptyTable
 unfolding emptyTable
 within-empty = record {
-  edges = omega arith; keys = omega arith; rule = zeros-le 512 31; state = zeros-le 512 15; key = zeros-le 512 128;
-  kind = zeros-le 512 37; next = zeros-le 512 15; len = zeros-le 128 32; form = zeros-le 32 2 }
+  edges = omega arith;
+  keys = omega arith;
+  rule = zeros-le 512 31;
+  state = zeros-le 512 15;
+  key = zeros-le 512 128;
+  kind = zeros-le 512 37;
+  next = zeros-le 512 15;
+  len = zeros-le 128 32;
+  form = zeros-le 32 2;
+}
 
 formCode-le : (f : Form) → formCode f ≤ 2
 unfolding formCode
@@ -55,20 +63,30 @@ keyNumber-le t (b ∷ k) h = omega (arith, numberOf-tab-le (keyAt (t .«key_byte
 pub within-withEdge : (t : Table) → WithinLimits t → (f n : ℕ) (c : Cell) → t .edges < 512 → f ≤ 2 → c .rule ≤ 31 → c .state ≤ 15 → c .key ≤ 128 → c .kind ≤ 37 → c .next ≤ 15
     → WithinLimits (withEdge t f c n)
 within-withEdge t w f n c h a b d e g i = record {
-  edges = omega arith; keys = w .keys;
+  edges = omega arith;
+  keys = w .keys;
   rule = set-le 31 (t .«edge_rule») (t .edges) (c .rule) b (w .rule);
   state = set-le 15 (t .«edge_state») (t .edges) (c .state) d (w .state);
   key = set-le 128 (t .«edge_key») (t .edges) (c .key) e (w .key);
   kind = set-le 37 (t .«edge_kind») (t .edges) (c .kind) g (w .kind);
   next = set-le 15 (t .«edge_next») (t .edges) (c .next) i (w .next);
   len = w .len;
-  form = set-le 2 (t .forms) (c .rule) f a (w .form) }
+  form = set-le 2 (t .forms) (c .rule) f a (w .form);
+}
 
 module _ (t : Table) (w : WithinLimits t) where
   pub within-withKey : (k : List ℕ) → t .keys < 128 → length k ≤ 32 → WithinLimits (withKey t k)
   within-withKey k h l = record {
-    edges = w .edges; keys = omega arith; rule = w .rule; state = w .state; key = w .key; kind = w .kind; next = w .next;
-    len = set-le 32 (t .«key_len») (t .keys) (length k) l (w .len); form = w .form }
+    edges = w .edges;
+    keys = omega arith;
+    rule = w .rule;
+    state = w .state;
+    key = w .key;
+    kind = w .kind;
+    next = w .next;
+    len = set-le 32 (t .«key_len») (t .keys) (length k) l (w .len);
+    form = w .form;
+  }
 
   within-takeEnd : (r f q : ℕ) → f ≤ 2 → WithinLimits (takeEnd t r f q .table)
   unfolding takeEnd
@@ -77,8 +95,16 @@ module _ (t : Table) (w : WithinLimits t) where
       go : (b : Bool) → WithinLimits (cond b (taken 7 t) (taken 0 (withEnd t r f q)) .table)
       go true = w
       go false = record {
-        edges = w .edges; keys = w .keys; rule = w .rule; state = w .state; key = w .key; kind = w .kind; next = w .next; len = w .len;
-        form = set-le 2 (t .forms) r f h (w .form) }
+        edges = w .edges;
+        keys = w .keys;
+        rule = w .rule;
+        state = w .state;
+        key = w .key;
+        kind = w .kind;
+        next = w .next;
+        len = w .len;
+        form = set-le 2 (t .forms) r f h (w .form);
+      }
 
   within-takeEdge : (n f : ℕ) (c : Cell) (k : List ℕ) → length k ≤ 32 → f ≤ 2 → c .rule ≤ 31 → c .state ≤ 15 → c .key ≤ 128 → c .kind ≤ 37 → c .next ≤ 15
       → WithinLimits (takeEdge n t f c k .table)
@@ -87,7 +113,7 @@ module _ (t : Table) (w : WithinLimits t) where
     where
       go : (p q r s : Bool) → leb 512 (t .edges) ≡ q → leb 128 (t .keys) ≡ s
           → WithinLimits
-            (cond p (taken 7 t) (cond q (taken 5 t) (cond r (cond s (taken 5 t) (taken 0 (withEdge (withKey t k) f c n))) (taken 0 (withEdge t f c n)))) .table)
+          (cond p (taken 7 t) (cond q (taken 5 t) (cond r (cond s (taken 5 t) (taken 0 (withEdge (withKey t k) f c n))) (taken 0 (withEdge t f c n)))) .table)
       go true q r s x y = w
       go false true r s x y = w
       go false false true true x y = w

@@ -52,7 +52,6 @@ unfoldable pub checkTable : Table → Loaded
 checkTable t =
     cond (eqb (danglingLine t) 0)
     (cond (eqb (getD (t .forms) 0 0) 0)
-      (refusal NoRoot)
-      (cond (eqb (clashLine t) 0) (loaded t) (refusal (NotAscending (clashLine t)))))
+    (refusal NoRoot)
+    (cond (eqb (clashLine t) 0) (loaded t) (refusal (NotAscending (clashLine t)))))
     (refusal (NoRule (danglingLine t)))
-

@@ -38,27 +38,53 @@ firstAt f g i (suc n) = cond (f i) (g i) (firstAt f g (suc i) n)
 -- the table of a refusal
 unfoldable pub emptyTable : Table
 emptyTable = record {
-  edges = 0; keys = 0;
-  «edge_rule» = replicate 512 0; «edge_state» = replicate 512 0; «edge_key» = replicate 512 0;
-  «edge_kind» = replicate 512 0; «edge_next» = replicate 512 0; «edge_line» = replicate 512 0;
-  «key_bytes» = replicate 4096 0; «key_len» = replicate 128 0; ends = replicate 64 0; forms = replicate 32 0 }
+  edges = 0;
+  keys = 0;
+  «edge_rule» = replicate 512 0;
+  «edge_state» = replicate 512 0;
+  «edge_key» = replicate 512 0;
+  «edge_kind» = replicate 512 0;
+  «edge_next» = replicate 512 0;
+  «edge_line» = replicate 512 0;
+  «key_bytes» = replicate 4096 0;
+  «key_len» = replicate 128 0;
+  ends = replicate 64 0;
+  forms = replicate 32 0;
+}
 
 -- one end state more, of a rule with form f
 abbrev pub withEnd : Table → ℕ → ℕ → ℕ → Table
 withEnd t r f q = record {
-  edges = t .edges; keys = t .keys;
-  «edge_rule» = t .«edge_rule»; «edge_state» = t .«edge_state»; «edge_key» = t .«edge_key»;
-  «edge_kind» = t .«edge_kind»; «edge_next» = t .«edge_next»; «edge_line» = t .«edge_line»;
-  «key_bytes» = t .«key_bytes»; «key_len» = t .«key_len»; ends = setBit (t .ends) (16 * r + q); forms = set (t .forms) r f }
+  edges = t .edges;
+  keys = t .keys;
+  «edge_rule» = t .«edge_rule»;
+  «edge_state» = t .«edge_state»;
+  «edge_key» = t .«edge_key»;
+  «edge_kind» = t .«edge_kind»;
+  «edge_next» = t .«edge_next»;
+  «edge_line» = t .«edge_line»;
+  «key_bytes» = t .«key_bytes»;
+  «key_len» = t .«key_len»;
+  ends = setBit (t .ends) (16 * r + q);
+  forms = set (t .forms) r f;
+}
 
 -- one edge more, of a rule with form f, on line n
 abbrev pub withEdge : Table → ℕ → Cell → ℕ → Table
 withEdge t f c n = record {
-  edges = t .edges + 1; keys = t .keys;
-  «edge_rule» = set (t .«edge_rule») (t .edges) (c .rule); «edge_state» = set (t .«edge_state») (t .edges) (c .state);
-  «edge_key» = set (t .«edge_key») (t .edges) (c .key); «edge_kind» = set (t .«edge_kind») (t .edges) (c .kind);
-  «edge_next» = set (t .«edge_next») (t .edges) (c .next); «edge_line» = set (t .«edge_line») (t .edges) n;
-  «key_bytes» = t .«key_bytes»; «key_len» = t .«key_len»; ends = t .ends; forms = set (t .forms) (c .rule) f }
+  edges = t .edges + 1;
+  keys = t .keys;
+  «edge_rule» = set (t .«edge_rule») (t .edges) (c .rule);
+  «edge_state» = set (t .«edge_state») (t .edges) (c .state);
+  «edge_key» = set (t .«edge_key») (t .edges) (c .key);
+  «edge_kind» = set (t .«edge_kind») (t .edges) (c .kind);
+  «edge_next» = set (t .«edge_next») (t .edges) (c .next);
+  «edge_line» = set (t .«edge_line») (t .edges) n;
+  «key_bytes» = t .«key_bytes»;
+  «key_len» = t .«key_len»;
+  ends = t .ends;
+  forms = set (t .forms) (c .rule) f;
+}
 
 -- the bytes k from place a on
 unfoldable pub written : List ℕ → ℕ → List ℕ → List ℕ
@@ -68,10 +94,19 @@ written w a (b ∷ k) = written (set w a b) (suc a) k
 -- one key more
 abbrev pub withKey : Table → List ℕ → Table
 withKey t k = record {
-  edges = t .edges; keys = t .keys + 1;
-  «edge_rule» = t .«edge_rule»; «edge_state» = t .«edge_state»; «edge_key» = t .«edge_key»;
-  «edge_kind» = t .«edge_kind»; «edge_next» = t .«edge_next»; «edge_line» = t .«edge_line»;
-  «key_bytes» = written (t .«key_bytes») (32 * t .keys) k; «key_len» = set (t .«key_len») (t .keys) (length k); ends = t .ends; forms = t .forms }
+  edges = t .edges;
+  keys = t .keys + 1;
+  «edge_rule» = t .«edge_rule»;
+  «edge_state» = t .«edge_state»;
+  «edge_key» = t .«edge_key»;
+  «edge_kind» = t .«edge_kind»;
+  «edge_next» = t .«edge_next»;
+  «edge_line» = t .«edge_line»;
+  «key_bytes» = written (t .«key_bytes») (32 * t .keys) k;
+  «key_len» = set (t .«key_len») (t .keys) (length k);
+  ends = t .ends;
+  forms = t .forms;
+}
 
 -- all lengths of keys are at most 32
 pub record Lens (lens : List ℕ) : Type 0 where
@@ -110,8 +145,8 @@ takeEdge n t f c k =
     cond (hasCell t c) (taken 7 t)
     (cond (leb 512 (t .edges)) (taken 5 t)
     (cond (isNew (length k) (c .key) (t .keys))
-      (cond (leb 128 (t .keys)) (taken 5 t) (taken 0 (withEdge (withKey t k) f c n)))
-      (taken 0 (withEdge t f c n))))
+    (cond (leb 128 (t .keys)) (taken 5 t) (taken 0 (withEdge (withKey t k) f c n)))
+    (taken 0 (withEdge t f c n))))
 
 -- refusal 7 of an end line, or the table with it
 unfoldable pub takeEnd : Table → ℕ → ℕ → ℕ → Taken

@@ -30,7 +30,12 @@ fn dangles(kind: u8, forms: &[u8]) -> bool
 }
 
 // The line of the first of n edges that refers to a rule without lines, or 0.
-fn dangling_line<'a>(kinds: &'a [u8; 512], forms: &'a [u8; 32], lines: &'a [u16; 512], n: usize) -> usize
+fn dangling_line<'a>(
+    kinds: &'a [u8; 512],
+    forms: &'a [u8; 32],
+    lines: &'a [u16; 512],
+    n: usize,
+) -> usize
     requires { ⌜ n ≤ 512 ⌝ }
     ensures { λ r. ⌜ r ≡ firstAt (danglesAt (now (kinds .entry)) (now (forms .entry))) (lineAt (now (lines .entry))) 0 n ⌝ }
 {
@@ -70,7 +75,15 @@ fn form_of(forms: &[u8], rule: u8) -> u8
 }
 
 // Edge a leads to edge b, and the keys do not rise.
-fn clash_at<'a>(rules: &'a [u8; 512], states: &'a [u8; 512], keys: &'a [u8; 512], nexts: &'a [u8; 512], forms: &'a [u8; 32], a: usize, b: usize) -> bool
+fn clash_at<'a>(
+    rules: &'a [u8; 512],
+    states: &'a [u8; 512],
+    keys: &'a [u8; 512],
+    nexts: &'a [u8; 512],
+    forms: &'a [u8; 32],
+    a: usize,
+    b: usize,
+) -> bool
     requires { ⌜ (a < 512) × (b < 512) ⌝ }
     ensures { λ r. ⌜ r ≡ clashAt (now (rules .entry)) (now (states .entry)) (now (keys .entry)) (now (nexts .entry)) (now (forms .entry)) a b ⌝ }
 {
@@ -79,7 +92,15 @@ fn clash_at<'a>(rules: &'a [u8; 512], states: &'a [u8; 512], keys: &'a [u8; 512]
 }
 
 // Edges a and b clash, the one way or the other.
-fn clashes_at<'a>(rules: &'a [u8; 512], states: &'a [u8; 512], keys: &'a [u8; 512], nexts: &'a [u8; 512], forms: &'a [u8; 32], b: usize, a: usize) -> bool
+fn clashes_at<'a>(
+    rules: &'a [u8; 512],
+    states: &'a [u8; 512],
+    keys: &'a [u8; 512],
+    nexts: &'a [u8; 512],
+    forms: &'a [u8; 32],
+    b: usize,
+    a: usize,
+) -> bool
     requires { ⌜ (a < 512) × (b < 512) ⌝ }
     ensures { λ r. ⌜ r ≡ clashesAt (now (rules .entry)) (now (states .entry)) (now (keys .entry)) (now (nexts .entry)) (now (forms .entry)) b a ⌝ }
 {
@@ -90,7 +111,14 @@ fn clashes_at<'a>(rules: &'a [u8; 512], states: &'a [u8; 512], keys: &'a [u8; 51
 }
 
 // Edge b clashes with an edge up to it.
-fn late_at<'a>(rules: &'a [u8; 512], states: &'a [u8; 512], keys: &'a [u8; 512], nexts: &'a [u8; 512], forms: &'a [u8; 32], b: usize) -> bool
+fn late_at<'a>(
+    rules: &'a [u8; 512],
+    states: &'a [u8; 512],
+    keys: &'a [u8; 512],
+    nexts: &'a [u8; 512],
+    forms: &'a [u8; 32],
+    b: usize,
+) -> bool
     requires { ⌜ b < 512 ⌝ }
     ensures { λ r. ⌜ r ≡ lateAt (now (rules .entry)) (now (states .entry)) (now (keys .entry)) (now (nexts .entry)) (now (forms .entry)) b ⌝ }
 {
@@ -106,7 +134,15 @@ fn late_at<'a>(rules: &'a [u8; 512], states: &'a [u8; 512], keys: &'a [u8; 512],
 }
 
 // The line of the first of n edges that clashes with one up to it, or 0.
-fn clash_line<'a>(rules: &'a [u8; 512], states: &'a [u8; 512], keys: &'a [u8; 512], nexts: &'a [u8; 512], forms: &'a [u8; 32], lines: &'a [u16; 512], n: usize) -> usize
+fn clash_line<'a>(
+    rules: &'a [u8; 512],
+    states: &'a [u8; 512],
+    keys: &'a [u8; 512],
+    nexts: &'a [u8; 512],
+    forms: &'a [u8; 32],
+    lines: &'a [u16; 512],
+    n: usize,
+) -> usize
     requires { ⌜ n ≤ 512 ⌝ }
     ensures { λ r. ⌜ r ≡ firstAt (lateAt (now (rules .entry)) (now (states .entry)) (now (keys .entry)) (now (nexts .entry)) (now (forms .entry))) (lineAt (now (lines .entry))) 0 n ⌝ }
 {
@@ -133,7 +169,15 @@ pub fn check_table(t: Table) -> Loaded
     if t.forms[0] == 0 {
         return read::refusal(Answer::NoRoot);
     }
-    let c = clash_line(&t.edge_rule, &t.edge_state, &t.edge_key, &t.edge_next, &t.forms, &t.edge_line, n);
+    let c = clash_line(
+        &t.edge_rule,
+        &t.edge_state,
+        &t.edge_key,
+        &t.edge_next,
+        &t.forms,
+        &t.edge_line,
+        n,
+    );
     if c != 0 {
         return read::refusal(Answer::NotAscending(c));
     }

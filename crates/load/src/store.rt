@@ -10,8 +10,8 @@ ghost use Rattle.book.specs.Holds.{keyAt, keyNumber, tableKeys, formCode};
 ghost use Rattle.line.specs.Line.{formWith, entryWith};
 ghost use Rattle.load.specs.Proper.{Proper};
 ghost use Rattle.load.specs.Step.{some, sameAt, emptyTable, withEnd, withEdge, written, withKey, isNew, formChanges, cellFor, takeEdge, takeEnd, takeEntry, Lens};
-use table::Table;
 use line::Line;
+use table::Table;
 
 // The numbers of an edge, but for its line.
 pub struct Cell {
@@ -56,7 +56,15 @@ fn wide(x: u8) -> usize
 // ---- edges
 
 // Edge e has the numbers of the cell.
-fn same_at<'a>(rules: &'a [u8; 512], states: &'a [u8; 512], keys: &'a [u8; 512], kinds: &'a [u8; 512], nexts: &'a [u8; 512], c: Cell, e: usize) -> bool
+fn same_at<'a>(
+    rules: &'a [u8; 512],
+    states: &'a [u8; 512],
+    keys: &'a [u8; 512],
+    kinds: &'a [u8; 512],
+    nexts: &'a [u8; 512],
+    c: Cell,
+    e: usize,
+) -> bool
     requires { ⌜ e < 512 ⌝ }
     ensures { λ r. ⌜ r ≡ sameAt (now (rules .entry)) (now (states .entry)) (now (keys .entry)) (now (kinds .entry)) (now (nexts .entry)) c e ⌝ }
 {
@@ -73,7 +81,15 @@ fn same_at<'a>(rules: &'a [u8; 512], states: &'a [u8; 512], keys: &'a [u8; 512],
 }
 
 // One of the first n edges has the numbers of the cell.
-fn has_cell<'a>(rules: &'a [u8; 512], states: &'a [u8; 512], keys: &'a [u8; 512], kinds: &'a [u8; 512], nexts: &'a [u8; 512], c: Cell, n: usize) -> bool
+fn has_cell<'a>(
+    rules: &'a [u8; 512],
+    states: &'a [u8; 512],
+    keys: &'a [u8; 512],
+    kinds: &'a [u8; 512],
+    nexts: &'a [u8; 512],
+    c: Cell,
+    n: usize,
+) -> bool
     requires { ⌜ n ≤ 512 ⌝ }
     ensures { λ r. ⌜ r ≡ some (sameAt (now (rules .entry)) (now (states .entry)) (now (keys .entry)) (now (kinds .entry)) (now (nexts .entry)) c) 0 n ⌝ }
 {
@@ -237,7 +253,15 @@ fn take_edge(t: Table, line: u16, form: u8, c: Cell, key: &[u8]) -> Taken
 {
     let edges = t.edges;
     let keys = t.keys;
-    if has_cell(&t.edge_rule, &t.edge_state, &t.edge_key, &t.edge_kind, &t.edge_next, c, edges) {
+    if has_cell(
+        &t.edge_rule,
+        &t.edge_state,
+        &t.edge_key,
+        &t.edge_kind,
+        &t.edge_next,
+        c,
+        edges,
+    ) {
         return Taken { fault: 7, table: t };
     }
     if 512 <= edges {

@@ -74,9 +74,9 @@ codeOf-kindIn s = go (same s word-null) (same s word-true) (same s word-false) (
   where
     go : (a b c d e f : Bool)
         → codeOf (cond a (Plain Null) (cond b (Plain True) (cond c (Plain False) (cond d (Plain Str) (cond e (Plain Num) (cond f (Plain Int) (Rule (number (behindR s)))))))))
-          ≡ cond (ltb (cond a 0 (cond b 1 (cond c 2 (cond d 3 (cond e 4 (cond f 5 6)))))) 6)
-            (cond a 0 (cond b 1 (cond c 2 (cond d 3 (cond e 4 (cond f 5 6))))))
-            (6 + number (behindR s))
+        ≡ cond (ltb (cond a 0 (cond b 1 (cond c 2 (cond d 3 (cond e 4 (cond f 5 6)))))) 6)
+        (cond a 0 (cond b 1 (cond c 2 (cond d 3 (cond e 4 (cond f 5 6))))))
+        (6 + number (behindR s))
     go true b c d e f = refl
     go false true c d e f = refl
     go false false true d e f = refl

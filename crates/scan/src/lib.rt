@@ -11,13 +11,21 @@ ghost use Rattle.book.specs.Line.{isVisible, isKey, isKind, isForm, kindIn};
 ghost use Rattle.scan.specs.Scan.{until, capped, plainCode};
 
 const OBJ: [u8; 3] = *b"obj";
+
 const ARR: [u8; 3] = *b"arr";
+
 const NULL: [u8; 4] = *b"null";
+
 const TRUE: [u8; 4] = *b"true";
+
 const FALSE: [u8; 5] = *b"false";
+
 const STR: [u8; 3] = *b"str";
+
 const NUM: [u8; 3] = *b"num";
+
 const INT: [u8; 3] = *b"int";
+
 const DASH: [u8; 1] = *b"-";
 
 // The place of the first byte c from `from` on, or the end.

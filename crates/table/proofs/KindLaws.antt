@@ -22,8 +22,15 @@ kindOf-codeOf (Plain Num) = refl
 kindOf-codeOf (Plain Int) = refl
 kindOf-codeOf (Rule n) =
     let e : 6 + n - 6 ≡ n = omega arith in
-    rw (ne-eqb (6 + n) 0 (λ z. omega arith), ne-eqb (6 + n) 1 (λ z. omega arith), ne-eqb (6 + n) 2 (λ z. omega arith),
-        ne-eqb (6 + n) 3 (λ z. omega arith), ne-eqb (6 + n) 4 (λ z. omega arith), ne-eqb (6 + n) 5 (λ z. omega arith), e)
+    rw (
+      ne-eqb (6 + n) 0 (λ z. omega arith),
+      ne-eqb (6 + n) 1 (λ z. omega arith),
+      ne-eqb (6 + n) 2 (λ z. omega arith),
+      ne-eqb (6 + n) 3 (λ z. omega arith),
+      ne-eqb (6 + n) 4 (λ z. omega arith),
+      ne-eqb (6 + n) 5 (λ z. omega arith),
+      e,
+    )
 
 small : (c : ℕ) → c < 6 → (c ≡ 0 → ⊥) → (c ≡ 1 → ⊥) → (c ≡ 2 → ⊥) → (c ≡ 3 → ⊥) → (c ≡ 4 → ⊥) → (c ≡ 5 → ⊥) → ⊥
 small zero h a b d e f g = a refl

@@ -70,16 +70,21 @@ withinLimits-sound t h =
       kind = at-of-T (t .«edge_kind») 37 (f .0);
       next = at-of-T (t .«edge_next») 15 (g .0);
       len = at-of-T (t .«key_len») 32 (l .0);
-      form = at-of-T (t .forms) 2 (l .1) }
+      form = at-of-T (t .forms) 2 (l .1);
+    }
 
 -- a table that has every number within its limit passes the test
 pub withinLimits-complete : (t : Table) → WithinLimits t → withinLimits t ≡ true
 unfolding withinLimits fitLimits
 withinLimits-complete t w =
-    rw (le-leb (t .edges) 512 (w .edges), le-leb (t .keys) 128 (w .keys), le-leb _ 31 (largest-le 31 (t .«edge_rule») (w .rule)),
-        le-leb _ 15 (largest-le 15 (t .«edge_state») (w .state)),
-        le-leb _ 128 (largest-le 128 (t .«edge_key») (w .key)),
-        le-leb _ 37 (largest-le 37 (t .«edge_kind») (w .kind)),
-        le-leb _ 15 (largest-le 15 (t .«edge_next») (w .next)),
-        le-leb _ 32 (largest-le 32 (t .«key_len») (w .len)),
-        le-leb _ 2 (largest-le 2 (t .forms) (w .form)))
+    rw (
+      le-leb (t .edges) 512 (w .edges),
+      le-leb (t .keys) 128 (w .keys),
+      le-leb _ 31 (largest-le 31 (t .«edge_rule») (w .rule)),
+      le-leb _ 15 (largest-le 15 (t .«edge_state») (w .state)),
+      le-leb _ 128 (largest-le 128 (t .«edge_key») (w .key)),
+      le-leb _ 37 (largest-le 37 (t .«edge_kind») (w .kind)),
+      le-leb _ 15 (largest-le 15 (t .«edge_next») (w .next)),
+      le-leb _ 32 (largest-le 32 (t .«key_len») (w .len)),
+      le-leb _ 2 (largest-le 2 (t .forms) (w .form)),
+    )

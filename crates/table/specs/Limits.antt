@@ -30,10 +30,10 @@ unfoldable pub fitLimits : ℕ → ℕ → List ℕ → List ℕ → List ℕ �
 fitLimits edges keys rules states edgeKeys kinds nexts lens forms =
     leb edges 512
     && (leb keys 128
-        && (leb (largest rules) 31
-            && (leb (largest states) 15
-                && (leb (largest edgeKeys) 128
-                    && (leb (largest kinds) 37 && (leb (largest nexts) 15 && (leb (largest lens) 32 && leb (largest forms) 2)))))))
+    && (leb (largest rules) 31
+    && (leb (largest states) 15
+    && (leb (largest edgeKeys) 128
+    && (leb (largest kinds) 37 && (leb (largest nexts) 15 && (leb (largest lens) 32 && leb (largest forms) 2)))))))
 
 -- a table that refusal 23 lets pass
 unfoldable pub withinLimits : Table → Bool

@@ -9,7 +9,7 @@ use Rattle.load.proofs.store.set_bit.Tie as tie
 
 returns : tie.Need-returns
 unfolding setBit
-returns c = rw (one-shl (c .before .args .i % 8) (omega arith))
+returns c = rw (one-shl 8 (c .before .args .i % 8) (omega arith))
 
 pub set-bit-spec : {M : Type 1} → statement M
 set-bit-spec = tie.close (tie.spec (λ c. search needs) (λ c. search needs) (λ c. search needs) (λ c. search needs) returns)

@@ -1,1 +1,4 @@
 pub mod EntryLaws
+pub mod Examples
+pub mod HoldLaws
+pub mod KeyLaws

@@ -4,6 +4,7 @@ use mathlib.Core.List.{List, [], _∷_}
 use Prim.Native.Nat.{ℕ}
 use lib.Dec.{leb, ltb, eqb}
 use lib.ListN.{length}
+use Rattle.laws.specs.Ascii.{ascii}
 use Rattle.laws.specs.Lists.{same, all}
 use Rattle.table.specs.declared.kind.Scalar.{Scalar}
 use Rattle.table.specs.declared.kind.Scalar.the-variants.{Null, True, False, Str, Num, Int}
@@ -14,45 +15,36 @@ use Rattle.book.specs.Text.{split, isNumber, number}
 
 -- ---- words
 
--- `obj`
 abbrev pub word-obj : List ℕ
-word-obj = 111 ∷ 98 ∷ 106 ∷ []
+word-obj = ascii "obj"
 
--- `arr`
 abbrev pub word-arr : List ℕ
-word-arr = 97 ∷ 114 ∷ 114 ∷ []
+word-arr = ascii "arr"
 
--- `null`
 abbrev pub word-null : List ℕ
-word-null = 110 ∷ 117 ∷ 108 ∷ 108 ∷ []
+word-null = ascii "null"
 
--- `true`
 abbrev pub word-true : List ℕ
-word-true = 116 ∷ 114 ∷ 117 ∷ 101 ∷ []
+word-true = ascii "true"
 
--- `false`
 abbrev pub word-false : List ℕ
-word-false = 102 ∷ 97 ∷ 108 ∷ 115 ∷ 101 ∷ []
+word-false = ascii "false"
 
--- `str`
 abbrev pub word-str : List ℕ
-word-str = 115 ∷ 116 ∷ 114 ∷ []
+word-str = ascii "str"
 
--- `num`
 abbrev pub word-num : List ℕ
-word-num = 110 ∷ 117 ∷ 109 ∷ []
+word-num = ascii "num"
 
--- `int`
 abbrev pub word-int : List ℕ
-word-int = 105 ∷ 110 ∷ 116 ∷ []
+word-int = ascii "int"
 
--- `end`
 abbrev pub word-end : List ℕ
-word-end = 101 ∷ 110 ∷ 100 ∷ []
+word-end = ascii "end"
 
 -- `-`, which means none
 abbrev pub dash : List ℕ
-dash = 45 ∷ []
+dash = ascii "-"
 
 -- ---- fields
 

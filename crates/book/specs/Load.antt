@@ -4,6 +4,7 @@ use mathlib.Core.List.{List, [], _∷_, _++_}
 use Prim.Native.Nat.{ℕ, suc, _+_}
 use lib.Dec.{leb, ltb, eqb}
 use lib.ListN.{length, take, drop}
+use Rattle.laws.specs.Ascii.{ascii}
 use Rattle.laws.specs.Lists.{same, any}
 use Rattle.table.specs.declared.kind.Scalar.{Scalar}
 use Rattle.table.specs.declared.kind.ValueKind.{ValueKind}
@@ -81,11 +82,9 @@ readLines es [] = entries es
 readLines es (l ∷ []) = cond (isEmpty l) (entries es) (refused 3 (length es + 2))
 readLines es (l ∷ (x ∷ ls)) = readOn es (length es + 2) (sayLine l) (λ e. readLines (es ++ (e ∷ [])) (x ∷ ls))
 
--- `rule form state key value next` and LF
+-- the names line of the example, with its LF
 abbrev pub names : List ℕ
-names =
-    114 ∷ 117 ∷ 108 ∷ 101 ∷ 32 ∷ 102 ∷ 111 ∷ 114 ∷ 109 ∷ 32 ∷ 115 ∷ 116 ∷ 97 ∷ 116 ∷ 101 ∷ 32
-    ∷ 107 ∷ 101 ∷ 121 ∷ 32 ∷ 118 ∷ 97 ∷ 108 ∷ 117 ∷ 101 ∷ 32 ∷ 110 ∷ 101 ∷ 120 ∷ 116 ∷ 10 ∷ []
+names = ascii "rule form state key value next\n"
 
 -- refusals 1 and 2, then the lines
 unfoldable pub readBook : List ℕ → Read

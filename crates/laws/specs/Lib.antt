@@ -1,3 +1,4 @@
 pub mod Tab
 pub mod Bits
 pub mod Lists
+pub mod Ascii

@@ -33,9 +33,9 @@ some-start f n = let e : n - 0 ≡ n = omega arith in rw e
 
 -- ---- firstAt: from i on the first comes to v
 module _ (f : ℕ → Bool) (g : ℕ → ℕ) (i n v : ℕ) (inv : firstAt f g i (n - i) ≡ v) where
-  pub firstAt-hit : (r : Bool) → r ≡ f i → i < n → r ≡ true → g i ≡ v
+  pub firstAt-hit : (r : Bool) (x : ℕ) → r ≡ f i → i < n → r ≡ true → x ≡ g i → x ≡ v
   unfolding firstAt
-  firstAt-hit r q h e = let m : n - i ≡ suc (n - (i + 1)) = omega arith in rw (m, sym q ∙ e) at inv
+  firstAt-hit r x q h e w = let m : n - i ≡ suc (n - (i + 1)) = omega arith in w ∙ rw (m, sym q ∙ e) at inv
 
   pub firstAt-more : (r : Bool) → r ≡ f i → i < n → r ≡ false → firstAt f g (i + 1) (n - (i + 1)) ≡ v
   unfolding firstAt

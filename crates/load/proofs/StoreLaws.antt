@@ -24,7 +24,8 @@ use Rattle.load.specs.Proper.{Proper}
 use Rattle.load.specs.Step.{some, sameAt, hasCell, written, withEnd, withEdge, withKey, isNew, formChanges, taken, cellFor, takeEdge, takeEnd, takeEntry, Lens}
 
 -- ---- keys
-numberOf-tab-le : (f : ℕ → List ℕ) (i n : ℕ) (k : List ℕ) → numberOf (tab f i n) k ≤ n
+-- a key has a number up to how many keys there are
+pub numberOf-tab-le : (f : ℕ → List ℕ) (i n : ℕ) (k : List ℕ) → numberOf (tab f i n) k ≤ n
 unfolding numberOf
 numberOf-tab-le f i zero k = omega arith
 numberOf-tab-le f i (suc n) k = go (same (f i) k) (numberOf-tab-le f (suc i) n k)

@@ -1,4 +1,5 @@
 -- The number and line of 01 for each answer of load: 01, "The stream", Load. Stated. Assumes nothing.
+use mathlib.Core.Bool.{Bool, true, false}
 use Prim.Native.Nat.{ℕ}
 use Rattle.load.specs.declared.Answer.{Answer}
 use Rattle.load.specs.declared.Answer.the-variants.{Accepted, Size, Names, Malformed, AboveLimit, TooMany, FormChanged, Repeated, NoRule, NoRoot, NotAscending}
@@ -24,3 +25,17 @@ told (Repeated n) = tell 7 n
 told (NoRule n) = tell 8 n
 told NoRoot = tell 8 0
 told (NotAscending n) = tell 9 n
+
+-- the answer is no refusal
+abbrev pub isAccepted : Answer → Bool
+isAccepted Accepted = true
+isAccepted Size = false
+isAccepted Names = false
+isAccepted (Malformed n) = false
+isAccepted (AboveLimit n) = false
+isAccepted (TooMany n) = false
+isAccepted (FormChanged n) = false
+isAccepted (Repeated n) = false
+isAccepted (NoRule n) = false
+isAccepted NoRoot = false
+isAccepted (NotAscending n) = false

@@ -2,3 +2,4 @@ pub mod Answer
 pub mod Step
 pub mod Check
 pub mod Proper
+pub mod Loads

@@ -158,6 +158,15 @@ takeEntry n t (edge r f q k v m) =
     cond (formChanges (getD (t .forms) r 0) (formCode f)) (taken 6 t) (takeEdge n t (formCode f) (cellFor t r q k (codeOf v) m) k)
 takeEntry n t (end-state r f q) = cond (formChanges (getD (t .forms) r 0) (formCode f)) (taken 6 t) (takeEnd t r (formCode f) q)
 
+-- the table with entries, the first of them on line n
+unfoldable pub tableFrom : ℕ → Table → List Entry → Table
+tableFrom n t [] = t
+tableFrom n t (e ∷ es) = tableFrom (suc n) (takeEntry n t e .table) es
+
+-- the table of a book: its entries begin on line 2. That of no entries is the empty table
+unfoldable pub tableOf : List Entry → Table
+tableOf es = tableFrom 2 emptyTable es
+
 -- a line
 unfoldable pub takeSaid : ℕ → Table → Said → Taken
 takeSaid n t (bad k) = taken k t

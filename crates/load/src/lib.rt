@@ -1,6 +1,7 @@
 // Load: the table that a rule book says, or the refusal that 01 gives it.
 ghost use mathlib.Core.Path.{_≡_};
-ghost use Rattle.load.specs.Step.{emptyTable};
+ghost use Rattle.load.specs.Answer.{isAccepted};
+ghost use Rattle.load.specs.Loads.{LoadsAs};
 
 mod store; // store.rt: the table of a book, one entry after the other
 mod read; // read.rt: a book line by line, refusals 1 to 7
@@ -37,4 +38,36 @@ pub enum Answer {
 pub struct Loaded {
     pub answer: Answer,
     pub table: Table,
+}
+
+fn is_accepted(a: Answer) -> bool
+    ensures { λ r. ⌜ r ≡ isAccepted a ⌝ }
+{
+    match a {
+        Answer::Accepted => true,
+        Answer::Size => false,
+        Answer::Names => false,
+        Answer::Malformed(_) => false,
+        Answer::AboveLimit(_) => false,
+        Answer::TooMany(_) => false,
+        Answer::FormChanged(_) => false,
+        Answer::Repeated(_) => false,
+        Answer::NoRule(_) => false,
+        Answer::NoRoot => false,
+        Answer::NotAscending(_) => false,
+    }
+}
+
+// Loads a rule book, whose bytes stay as they are. Every byte string has an answer: the number and line that the paper's `loads` gives it, and
+// the table of the entries that it gives. Ruled out are, for example, a program that reports the earlier line of a pair of clashing edges, and
+// one that finds a repeated line only where it directly follows.
+pub fn load(book: &[u8]) -> Loaded
+    ensures { λ r. ⌜ LoadsAs (now (book .entry)) r ⌝ }
+{
+    let r = read::take_book(book);
+    let a = r.answer;
+    if is_accepted(a) {
+        return check::check_table(r.table);
+    }
+    r
 }

@@ -1,0 +1,225 @@
+-- Reading a book into a table is reading it on paper, and so is checking it. Assumes nothing.
+use mathlib.Core.Bool.{Bool, true, false, not, cond, _&&_, _||_}
+use mathlib.Core.List.{List, [], _∷_, _++_}
+use mathlib.Core.Path.{_≡_, refl, sym, ap, subst, _∙_}
+use Prim.Native.Nat.{ℕ, zero, suc, _+_, _<_, _≤_}
+use native.Mathlib.Omega.{arith}
+use lib.Dec.{eqb, ltb, leb}
+use lib.ListN.{length, getD, take, drop, length-append}
+use borrow.Author.Tests.{eq-eqb, ne-eqb, eqb-true, eqb-false}
+use Rattle.laws.specs.Lists.{same, any}
+use Rattle.table.specs.declared.Table.{Table}
+use Rattle.table.specs.Limits.{WithinLimits}
+use Rattle.book.specs.Entry.{Entry, keysOf}
+use Rattle.book.specs.Text.{isEmpty, split}
+use Rattle.book.specs.Line.{formed, small, entryOf, Said, bad, good, sayFields, sayParts, sayLine}
+use Rattle.book.specs.Load.{changesForm, sameEntry, tooMany, faultOf, Read, refused, entries, readOn, readLines, names, readBook, hasRule, dangles, firstLine, firstClash, Answer as Paper, refuse, checkBook, checked, loads}
+use Rattle.book.specs.Holds.{ruleForm, Holds}
+use Rattle.book.proofs.HoldLaws.{hasRule-ruleForm}
+use Rattle.load.specs.declared.Answer.{Answer}
+use Rattle.load.specs.declared.Answer.the-variants.{Accepted, Size, Names, Malformed, AboveLimit, TooMany, FormChanged, Repeated, NoRule, NoRoot, NotAscending}
+use Rattle.load.specs.declared.Loaded.{Loaded}
+use Rattle.load.specs.Answer.{Told, tell, told, isAccepted}
+use Rattle.load.specs.Proper.{Proper, ProperSaid}
+use Rattle.load.specs.Step.{emptyTable, taken, takeEntry, tableFrom, tableOf, takeSaid, lineRefusal, loaded, refusal, takeOn, takeLines, takeBook}
+use Rattle.load.specs.Check.{danglingLine, clashLine, checkTable}
+use Rattle.load.specs.Loads.{LoadsAs}
+use Rattle.load.proofs.ProperLaws.{sayLine-proper, true-not-false}
+use Rattle.load.proofs.KeptLaws.{Kept, fault-same, entry-kept, kept-empty}
+use Rattle.load.proofs.OrderLaws.{danglingLine-same, clashLine-same}
+
+-- ---- faults of a line have their answers
+abbrev HasAnswer : ℕ → Type 0
+HasAnswer k = (n : ℕ) → told (lineRefusal k n) ≡ tell k n
+
+abbrev BadSaid : Said → Type 0
+BadSaid (bad k) = HasAnswer k × (k ≡ 0 → ⊥)
+BadSaid (good e) = Unit {0}
+
+bad-3 : BadSaid (bad 3)
+unfolding told lineRefusal
+bad-3 = (λ n. refl, λ z. omega arith)
+
+bad-4 : BadSaid (bad 4)
+unfolding told lineRefusal
+bad-4 = (λ n. refl, λ z. omega arith)
+
+sayFields-bad : (r f q k v m : List ℕ) → BadSaid (sayFields r f q k v m)
+unfolding sayFields
+sayFields-bad r f q k v m = go (formed r f q k v m) (small r q v m)
+  where
+    go : (a b : Bool) → BadSaid (cond a (cond b (good (entryOf r f q k v m)) (bad 4)) (bad 3))
+    go true true = tt
+    go true false = bad-4
+    go false b = bad-3
+
+sayParts-bad : (ps : List (List ℕ)) → BadSaid (sayParts ps)
+unfolding sayParts
+sayParts-bad [] = bad-3
+sayParts-bad (r ∷ []) = bad-3
+sayParts-bad (r ∷ (f ∷ [])) = bad-3
+sayParts-bad (r ∷ (f ∷ (q ∷ []))) = bad-3
+sayParts-bad (r ∷ (f ∷ (q ∷ (k ∷ [])))) = bad-3
+sayParts-bad (r ∷ (f ∷ (q ∷ (k ∷ (v ∷ []))))) = bad-3
+sayParts-bad (r ∷ (f ∷ (q ∷ (k ∷ (v ∷ (m ∷ [])))))) = sayFields-bad r f q k v m
+sayParts-bad (r ∷ (f ∷ (q ∷ (k ∷ (v ∷ (m ∷ (x ∷ ps))))))) = bad-3
+
+sayLine-bad : (l : List ℕ) → BadSaid (sayLine l)
+unfolding sayLine
+sayLine-bad l = sayParts-bad (split 32 l)
+
+faultOf-answer : (es : List Entry) (e : Entry) → (faultOf es e ≡ 0 → ⊥) → HasAnswer (faultOf es e)
+unfolding faultOf told lineRefusal
+faultOf-answer es e = go (any (changesForm e) es) (any (sameEntry e) es) (tooMany es e)
+  where
+    go : (a b c : Bool) → (_≡_ {A = ℕ} (cond a 6 (cond b 7 (cond c 5 0))) 0 → ⊥) → HasAnswer (cond a 6 (cond b 7 (cond c 5 0)))
+    go true b c h = λ n. refl
+    go false true c h = λ n. refl
+    go false false true h = λ n. refl
+    go false false false h = absurd (h refl)
+
+-- ---- lines
+
+-- the table of one entry more
+tableFrom-last : (n : ℕ) (t : Table) (es : List Entry) (e : Entry) → tableFrom n t (es ++ (e ∷ [])) ≡ takeEntry (n + length es) (tableFrom n t es) e .table
+unfolding tableFrom
+tableFrom-last n t [] e = ap (λ (i : ℕ). takeEntry i t e .table) (omega arith)
+tableFrom-last n t (x ∷ es) e =
+    tableFrom-last (suc n) (takeEntry n t x .table) es e
+    ∙ ap (λ (i : ℕ). takeEntry i (tableFrom (suc n) (takeEntry n t x .table) es) e .table) (omega arith)
+
+tableOf-last : (n : ℕ) (es : List Entry) (e : Entry) → n ≡ 2 + length es → tableOf (es ++ (e ∷ [])) ≡ takeEntry n (tableOf es) e .table
+unfolding tableOf
+tableOf-last n es e q = tableFrom-last 2 emptyTable es e ∙ ap (λ (i : ℕ). takeEntry i (tableFrom 2 emptyTable es) e .table) (sym q)
+
+-- the code's answer is the paper's: a refusal with its number and line and the empty table, or the table of the entries
+abbrev pub Agree : Loaded → Read → Type 0
+Agree r (refused k n) = (a : Answer) × (r ≡ refusal a) × (told a ≡ tell k n) × (k ≡ 0 → ⊥)
+Agree r (entries es) = (r ≡ loaded (tableOf es)) × Kept (tableOf es) es
+
+module _ (n : ℕ) (es : List Entry) (q : n ≡ 2 + length es) (kept : Kept (tableOf es) es) (f : Table → Loaded) (g : Entry → Read)
+    (ih : (e : Entry) → Kept (tableOf (es ++ (e ∷ []))) (es ++ (e ∷ [])) → Agree (f (tableOf (es ++ (e ∷ [])))) (g e)) where
+  line-is : (k : ℕ) → tell k n ≡ tell k (length es + 2)
+  line-is k = ap (tell k) (omega arith)
+
+  said-agrees : (s : Said) → ProperSaid s → BadSaid s → Agree (takeOn n (takeSaid n (tableOf es) s) f) (readOn es (length es + 2) s g)
+  unfolding takeOn takeSaid readOn
+  said-agrees (bad k) p b = (lineRefusal k n, rw (ne-eqb k 0 (b .1)), b .0 n ∙ line-is k, b .1)
+  said-agrees (good e) p b = rw (fault-same n (tableOf es) es e kept p) (go (eqb (faultOf es e) 0) refl)
+    where
+      go : (c : Bool) → eqb (faultOf es e) 0 ≡ c
+          → Agree (cond c (f (takeEntry n (tableOf es) e .table)) (refusal (lineRefusal (faultOf es e) n))) (cond c (g e) (refused (faultOf es e) (length es + 2)))
+      go true z =
+          let w : takeEntry n (tableOf es) e .fault ≡ 0 = fault-same n (tableOf es) es e kept p ∙ eqb-true (faultOf es e) 0 z in
+          rw (sym (tableOf-last n es e q)) (ih e (rw (tableOf-last n es e q) (entry-kept n (tableOf es) es e q kept p w)))
+      go false z =
+          let w = eqb-false (faultOf es e) 0 z in
+          (lineRefusal (faultOf es e) n, refl, faultOf-answer es e w n ∙ line-is (faultOf es e), w)
+
+malformed : (n m : ℕ) → n ≡ m → told (Malformed n) ≡ tell 3 m
+unfolding told
+malformed n m q = ap (tell 3) q
+
+lines-agree : (n : ℕ) (es : List Entry) (ls : List (List ℕ)) → n ≡ 2 + length es → Kept (tableOf es) es → Agree (takeLines n (tableOf es) ls) (readLines es ls)
+unfolding takeLines readLines
+lines-agree n es [] q kept = (refl, kept)
+lines-agree n es (l ∷ []) q kept = go (isEmpty l)
+  where
+    go : (b : Bool) → Agree (cond b (loaded (tableOf es)) (refusal (Malformed n))) (cond b (entries es) (refused 3 (length es + 2)))
+    go true = (refl, kept)
+    go false = (Malformed n, refl, malformed n (length es + 2) (omega arith), λ z. omega arith)
+lines-agree n es (l ∷ (x ∷ ls)) q kept =
+    said-agrees n es q kept (λ u. takeLines (suc n) u (x ∷ ls)) (λ e. readLines (es ++ (e ∷ [])) (x ∷ ls))
+    (λ e k. lines-agree (suc n) (es ++ (e ∷ [])) (x ∷ ls) (rw (length-append es (e ∷ [])) (omega arith)) k) (sayLine l) (sayLine-proper l) (sayLine-bad l)
+
+-- ---- a book
+-- no entries
+pub kept-none : Kept (tableOf []) []
+unfolding tableOf tableFrom
+kept-none = kept-empty
+
+pub book-agrees : (b : List ℕ) → Agree (takeBook b) (readBook b)
+unfolding takeBook readBook told tableOf tableFrom
+book-agrees b = go (isEmpty b || ltb 65536 (length b)) (same (take 31 b) names)
+  where
+    go : (x y : Bool)
+        → Agree (cond x (refusal Size) (cond y (takeLines 2 emptyTable (split 10 (drop 31 b))) (refusal Names)))
+        (cond x (refused 1 0) (cond y (readLines [] (split 10 (drop 31 b))) (refused 2 1)))
+    go true y = (Size, refl, refl, λ z. omega arith)
+    go false false = (Names, refl, refl, λ z. omega arith)
+    go false true = lines-agree 2 [] (split 10 (drop 31 b)) refl kept-none
+
+-- what was read is within the limits of a table
+pub book-within : (b : List ℕ) (r : Loaded) → r ≡ takeBook b → WithinLimits (r .table)
+book-within b r q = rw q (go (readBook b) (book-agrees b))
+  where
+    go : (p : Read) → Agree (takeBook b) p → WithinLimits (takeBook b .table)
+    go (refused k n) a = rw (a .1) (kept-empty .within)
+    go (entries es) a = rw (a .0) (a .1 .within)
+
+-- ---- the checks
+abbrev As : Loaded → Paper → Type 0
+As r p = (told (r .answer) ≡ tell (p .number) (p .line)) × (r .table ≡ tableOf (p .entries))
+
+refusal-as : (a : Answer) (k n : ℕ) → told a ≡ tell k n → As (refusal a) (refuse k n)
+unfolding tableOf tableFrom
+refusal-as a k n e = (e, refl)
+
+check-as : (es : List Entry) → Kept (tableOf es) es → As (checkTable (tableOf es)) (checkBook es)
+unfolding checkTable checkBook told
+check-as es kept =
+    rw (danglingLine-same (tableOf es) es kept, clashLine-same (tableOf es) es kept, kept .holds .formed 0 (omega arith), hasRule-ruleForm es 0)
+    (go (eqb (firstLine (dangles es) 2 es) 0) (eqb (ruleForm es 0) 0) (eqb (firstClash (keysOf es) 2 [] es) 0))
+  where
+    d : ℕ
+    d = firstLine (dangles es) 2 es
+
+    c : ℕ
+    c = firstClash (keysOf es) 2 [] es
+
+    go : (x y z : Bool)
+        → As (cond x (cond y (refusal NoRoot) (cond z (loaded (tableOf es)) (refusal (NotAscending c)))) (refusal (NoRule d)))
+        (cond x (cond (not y) (cond z (record { number = 0; line = 0; entries = es }) (refuse 9 c)) (refuse 8 0)) (refuse 8 d))
+    go false y z = refusal-as (NoRule d) 8 d refl
+    go true true z = refusal-as NoRoot 8 0 refl
+    go true false true = (refl, refl)
+    go true false false = refusal-as (NotAscending c) 9 c refl
+
+-- ---- load
+
+-- a refusal is not accepted
+not-accepted : (a : Answer) (k n : ℕ) → told a ≡ tell k n → (k ≡ 0 → ⊥) → isAccepted a ≡ false
+unfolding told
+not-accepted Accepted k n e h = absurd (h (sym (ap (λ (x : Told). x .number) e)))
+not-accepted Size k n e h = refl
+not-accepted Names k n e h = refl
+not-accepted (Malformed m) k n e h = refl
+not-accepted (AboveLimit m) k n e h = refl
+not-accepted (TooMany m) k n e h = refl
+not-accepted (FormChanged m) k n e h = refl
+not-accepted (Repeated m) k n e h = refl
+not-accepted (NoRule m) k n e h = refl
+not-accepted NoRoot k n e h = refl
+not-accepted (NotAscending m) k n e h = refl
+
+module _ (b : List ℕ) (r : Loaded) (q : r ≡ takeBook b) (c : Bool) (w : c ≡ isAccepted (r .answer)) where
+  accepted-is : {x : Bool} {a : Loaded} → c ≡ x → takeBook b ≡ a → isAccepted (a .answer) ≡ x
+  accepted-is h e = sym (w ∙ ap (λ (y : Loaded). isAccepted (y .answer)) (q ∙ e)) ∙ h
+
+  -- a book that is read is checked
+  pub load-checked : (v : Loaded) → c ≡ true → v ≡ checkTable (r .table) → LoadsAs b v
+  unfolding loads checked
+  load-checked v h u = let z = go (readBook b) (book-agrees b) in record { answer = z .0; table = z .1 }
+    where
+      go : (p : Read) → Agree (takeBook b) p → As v (checked p)
+      go (refused k n) a = true-not-false (isAccepted (a .0)) (accepted-is h (a .1)) (not-accepted (a .0) k n (a .2) (a .3))
+      go (entries es) a = rw (u ∙ ap checkTable (ap (λ (x : Loaded). x .table) (q ∙ a .0))) (check-as es (a .1))
+
+  -- a book that is refused as it is read stays refused
+  pub load-refused : c ≡ false → LoadsAs b r
+  unfolding loads checked
+  load-refused h = let z = go (readBook b) (book-agrees b) in record { answer = z .0; table = z .1 }
+    where
+      go : (p : Read) → Agree (takeBook b) p → As r (checked p)
+      go (refused k n) a = rw (q ∙ a .1) (refusal-as (a .0) k n (a .2))
+      go (entries es) a = true-not-false true refl (accepted-is h (a .0))

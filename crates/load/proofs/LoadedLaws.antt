@@ -1,0 +1,132 @@
+-- What a loaded table is: within its limits, and holding the entries of the book, of which no two clash. Assumes nothing.
+use mathlib.Core.Bool.{Bool, true, false, not, cond, _&&_, _||_}
+use mathlib.Core.List.{List, [], _∷_, _++_, append-nil, append-assoc}
+use mathlib.Core.Path.{_≡_, refl, sym, ap, subst, _∙_}
+use Prim.Native.Nat.{ℕ, suc}
+use native.Mathlib.Omega.{arith}
+use lib.Dec.{eqb}
+use borrow.Author.Tests.{eqb-true}
+use Rattle.laws.specs.Lists.{all, any}
+use Rattle.table.specs.declared.Table.{Table}
+use Rattle.table.specs.Limits.{WithinLimits, withinLimits}
+use Rattle.table.proofs.LimitLaws.{withinLimits-complete}
+use Rattle.book.specs.Entry.{Entry, keysOf, clash}
+use Rattle.book.specs.Load.{Read, refused, entries, readBook, hasRule, dangles, firstLine, clashes, firstClash, Answer as Paper, refuse, checkBook, checked, loads}
+use Rattle.book.specs.Holds.{Holds}
+use Rattle.book.proofs.HoldLaws.{Each, each-map, each-append}
+use Rattle.load.specs.declared.Loaded.{Loaded}
+use Rattle.load.specs.Proper.{Proper}
+use Rattle.load.specs.Step.{tableOf, takeBook}
+use Rattle.load.specs.Loads.{LoadsAs}
+use Rattle.load.proofs.ProperLaws.{true-not-false}
+use Rattle.load.proofs.KeptLaws.{Kept}
+use Rattle.load.proofs.AgreeLaws.{Agree, kept-none, book-agrees}
+
+-- ---- no two entries clash
+module _ (ks : List (List ℕ)) where
+  -- no entry of the one list leads to one of the other without its key rising
+  abbrev Apart : List Entry → List Entry → Type 0
+  Apart l r = Each (λ a. Each (λ b. clash ks a b ≡ false) r) l
+
+  or-parts : (a b : Bool) → (a || b) ≡ false → (a ≡ false) × (b ≡ false)
+  or-parts true b e = true-not-false true refl e
+  or-parts false b e = (refl, e)
+
+  none-of-any : (x : Entry) (l : List Entry) → any (clashes ks x) l ≡ false → Each (λ y. (clash ks y x ≡ false) × (clash ks x y ≡ false)) l
+  unfolding any clashes
+  none-of-any x [] e = tt
+  none-of-any x (y ∷ l) e =
+      let p = or-parts (clash ks y x || clash ks x y) (any (clashes ks x) l) e in
+      (or-parts (clash ks y x) (clash ks x y) (p .0), none-of-any x l (p .1))
+
+  each-left : (P : Entry → Type 0) (l r : List Entry) → Each P (l ++ r) → Each P l
+  each-left P [] r h = tt
+  each-left P (x ∷ l) r h = (h .0, each-left P l r (h .1))
+
+  apart-last : (seen l : List Entry) (x : Entry) → Apart l seen → Each (λ y. (clash ks y x ≡ false) × (clash ks x y ≡ false)) l → Apart l (seen ++ (x ∷ []))
+  apart-last seen [] x a c = tt
+  apart-last seen (y ∷ l) x a c = (each-append (λ b. clash ks y b ≡ false) seen (x ∷ []) (a .0) (c .0 .0, tt), apart-last seen l x (a .1) (c .1))
+
+  apart-of-firstClash : (n : ℕ) (seen l : List Entry) → firstClash ks (suc n) seen l ≡ 0 → Apart seen seen → Apart (seen ++ l) (seen ++ l)
+  unfolding firstClash
+  apart-of-firstClash n seen [] e a = rw (append-nil seen) a
+  apart-of-firstClash n seen (x ∷ l) e a = go (any (clashes ks x) (seen ++ (x ∷ []))) refl e (apart-of-firstClash (suc n) (seen ++ (x ∷ [])) l)
+    where
+      go : (b : Bool) → any (clashes ks x) (seen ++ (x ∷ [])) ≡ b → cond b (suc n) (firstClash ks (suc (suc n)) (seen ++ (x ∷ [])) l) ≡ 0
+          → (firstClash ks (suc (suc n)) (seen ++ (x ∷ [])) l ≡ 0 → Apart (seen ++ (x ∷ [])) (seen ++ (x ∷ [])) → Apart ((seen ++ (x ∷ [])) ++ l) ((seen ++ (x ∷ [])) ++ l))
+          → Apart (seen ++ (x ∷ l)) (seen ++ (x ∷ l))
+      go true p z ih = absurd (omega arith)
+      go false p z ih =
+          let c = none-of-any x (seen ++ (x ∷ [])) p in
+          let here : Apart (seen ++ (x ∷ [])) (seen ++ (x ∷ [])) =
+          each-append (λ u. Each (λ b. clash ks u b ≡ false) (seen ++ (x ∷ []))) seen (x ∷ [])
+          (apart-last seen seen x a (each-left _ seen (x ∷ []) c)) (each-map _ (λ b. clash ks x b ≡ false) (λ y q. q .1) (seen ++ (x ∷ [])) c, tt) in
+          rw (append-assoc seen (x ∷ []) l) at (ih z here)
+
+  -- the same as a test
+  all-of-each : (f : Entry → Bool) (l : List Entry) → Each (λ x. f x ≡ true) l → all f l ≡ true
+  unfolding all
+  all-of-each f [] h = refl
+  all-of-each f (x ∷ l) h = rw (h .0, all-of-each f l (h .1))
+
+  all-apart : (l r : List Entry) → Apart l r → all (λ a. all (λ b. not (clash ks a b)) r) l ≡ true
+  all-apart l r h =
+      all-of-each _ l
+      (each-map _ _ (λ a p. all-of-each (λ b. not (clash ks a b)) r (each-map (λ b. clash ks a b ≡ false) _ (λ b q. ap not q) r p)) l h)
+
+-- ---- the entries that load gives
+
+-- what is true of no entries, and of the entries of a book that passes its checks, is true of those that load gives
+checked-elim : (P : List Entry → Type 0) → P [] → (es : List Entry) → (firstClash (keysOf es) 2 [] es ≡ 0 → P es) → P (checkBook es .entries)
+unfolding checkBook
+checked-elim P none es h = go (eqb (firstLine (dangles es) 2 es) 0) (hasRule es 0) (eqb (firstClash (keysOf es) 2 [] es) 0) refl
+  where
+    c : ℕ
+    c = firstClash (keysOf es) 2 [] es
+
+    go : (x y z : Bool) → eqb c 0 ≡ z
+        → P (cond x (cond y (cond z (record { number = 0; line = 0; entries = es }) (refuse 9 c)) (refuse 8 0)) (refuse 8 (firstLine (dangles es) 2 es)) .entries)
+    go true true true e = h (eqb-true c 0 e)
+    go true true false e = none
+    go true false z e = none
+    go false y z e = none
+
+loads-elim : (P : List Entry → Type 0) → P [] → ((es : List Entry) → Kept (tableOf es) es → firstClash (keysOf es) 2 [] es ≡ 0 → P es) → (b : List ℕ) → P (loads b .entries)
+unfolding loads checked
+loads-elim P none h b = go (readBook b) (book-agrees b)
+  where
+    go : (p : Read) → Agree (takeBook b) p → P (checked p .entries)
+    go (refused k n) a = none
+    go (entries es) a = checked-elim P none es (h es (a .1))
+
+loads-kept : (b : List ℕ) → Kept (tableOf (loads b .entries)) (loads b .entries)
+loads-kept = loads-elim (λ es. Kept (tableOf es) es) kept-none (λ es k e. k)
+
+-- the table of the entries holds them
+pub loads-held : (b : List ℕ) → Holds (tableOf (loads b .entries)) (loads b .entries)
+loads-held b = loads-kept b .holds
+
+-- each entry is within the limits of its fields
+pub loads-proper : (b : List ℕ) → Each Proper (loads b .entries)
+loads-proper b = loads-kept b .proper
+
+-- refusal 9 leaves only entries of which no two clash
+pub loads-apart : (b : List ℕ) → Apart (keysOf (loads b .entries)) (loads b .entries) (loads b .entries)
+loads-apart = loads-elim (λ es. Apart (keysOf es) es es) tt (λ es k e. apart-of-firstClash (keysOf es) 1 [] es e tt)
+
+-- the same as a test
+pub loads-apart-test : (b : List ℕ) → all (λ a. all (λ c. not (clash (keysOf (loads b .entries)) a c)) (loads b .entries)) (loads b .entries) ≡ true
+loads-apart-test b = all-apart (keysOf (loads b .entries)) (loads b .entries) (loads b .entries) (loads-apart b)
+
+-- ---- the table that load gives
+module _ (b : List ℕ) (r : Loaded) (l : LoadsAs b r) where
+  -- it holds the entries of the book
+  pub loaded-holds : Holds (r .table) (loads b .entries)
+  loaded-holds = rw (l .table) (loads-held b)
+
+  -- it is within its limits, and so never meets refusal 23
+  pub loaded-within : WithinLimits (r .table)
+  loaded-within = rw (l .table) (loads-kept b .within)
+
+  pub loaded-withinLimits : withinLimits (r .table) ≡ true
+  loaded-withinLimits = withinLimits-complete (r .table) loaded-within

@@ -1,0 +1,30 @@
+-- `check::clash_line` meets its contract: what is left gives the line that all give. Assumes nothing.
+use mathlib.Core.Path.{_≡_}
+use Prim.Native.Nat.{_≤_, _-_}
+use Rattle.load.specs.Step.{firstAt}
+use Rattle.load.specs.Check.{lateAt, lineAt}
+use Rattle.load.proofs.LoopLaws.{firstAt-hit, firstAt-more, firstAt-end, firstAt-start}
+use borrow.Author.Needs.{needs}
+use Rattle.load.proofs.check.clash_line.Statement.{statement}
+use Rattle.load.proofs.check.clash_line.Tie as tie
+
+abbrev Inv-loop : tie.InvT-loop
+Inv-loop rules states keys nexts forms lines n b₀ b = (b ≤ n) × (firstAt (lateAt rules states keys nexts forms) (lineAt lines) b (n - b) ≡ firstAt (lateAt rules states keys nexts forms) (lineAt lines) 0 n)
+
+abbrev μ-loop : tie.MeasureT-loop
+μ-loop rules states keys nexts forms lines n b₀ b = n - b
+
+loop-holds : tie.Need-loop-holds Inv-loop μ-loop
+loop-holds c = (search needs, firstAt-start _ _ _)
+
+returns : tie.Need-returns Inv-loop μ-loop
+returns c = search (needs, firstAt-hit)
+
+loop-again : tie.Need-loop-again Inv-loop μ-loop
+loop-again c = (search needs, search (needs, firstAt-more))
+
+returns-2 : tie.Need-returns-2 Inv-loop μ-loop
+returns-2 c = search (needs, firstAt-end)
+
+pub clash-line-spec : {M : Type 1} → statement M
+clash-line-spec = tie.close (tie.spec Inv-loop μ-loop loop-holds (λ c κs. search needs) (λ c. search needs) (λ c. search needs) (λ c κs. search needs) returns (λ c. search needs) (λ c. search needs) loop-again returns-2)

@@ -1,0 +1,17 @@
+-- `check::dangles` meets its contract. Assumes nothing.
+use Rattle.load.proofs.CheckLaws.{dangles-plain, dangles-rule, dangles-past}
+use borrow.Author.Needs.{needs}
+use Rattle.load.proofs.check.dangles.Statement.{statement}
+use Rattle.load.proofs.check.dangles.Tie as tie
+
+returns : tie.Need-returns
+returns c = search (needs, dangles-plain)
+
+returns-2 : tie.Need-returns-2
+returns-2 c = search (needs, dangles-rule)
+
+returns-3 : tie.Need-returns-3
+returns-3 c = search (needs, dangles-past)
+
+pub dangles-spec : {M : Type 1} → statement M
+dangles-spec = tie.close (tie.spec returns (λ c. search needs) (λ c. search needs) returns-2 returns-3)

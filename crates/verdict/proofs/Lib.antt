@@ -1,2 +1,3 @@
 pub mod TrackLaws
 pub mod JudgedLaws
+pub mod Examples

@@ -19,7 +19,7 @@ use Rattle.verdict.specs.declared.Verdict.{Verdict}
 use Rattle.verdict.specs.Verdict.{Judged}
 use Rattle.verdict.specs.Track.{trackTo, trackByte, track, trackStart, verdictOf, trackEnd}
 use Rattle.verdict.specs.Examples.{Row, rows}
-use Rattle.verdict.proofs.TrackLaws.{judged-of-track}
+use Rattle.verdict.proofs.FoundLaws.{judged-of-track}
 
 bookB-sound : Sound bookB
 unfolding isSound isKeyed clash all any same withKey keysFrom keysOf numberOf

@@ -18,7 +18,7 @@ use Rattle.verdict.specs.declared.Verdict.{Verdict}
 use Rattle.verdict.specs.declared.Verdict.the-variants as Is
 use Rattle.verdict.specs.Verdict.{DeepAt, Fault, too-long, malformed, too-deep, rank, NotLater, earlier, at-one-byte, Judged, by-fault, by-end, by-book, not-by-book}
 use Rattle.verdict.specs.Track.{track, trackStart, trackEnd}
-use Rattle.verdict.proofs.TrackLaws.{judged-of-track}
+use Rattle.verdict.proofs.FoundLaws.{judged-of-track}
 
 -- ---- one verdict
 

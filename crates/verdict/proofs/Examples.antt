@@ -1,18 +1,17 @@
 -- The examples hold, by computation of the verdict that the machine finds. Assumes nothing.
-use mathlib.Core.Bool.{Bool}
-use mathlib.Core.List.{List, [], _∷_, map, List·Memᴰ, List·Memᴰ·head, List·Memᴰ·tail}
-use mathlib.Core.Path.{_≡_, refl, sym, _∙_, ap}
+use mathlib.Core.List.{List, map, List·Memᴰ, List·Memᴰ·head, List·Memᴰ·tail}
+use mathlib.Core.Path.{_≡_, refl}
 use Rattle.laws.specs.Lists.{same, all, any}
 use Rattle.json.specs.Bytes.{within, isBlank}
 use Rattle.json.specs.Classes.{isBreak, isStructure, highClass, classOf}
 use Rattle.json.specs.Grammar.{spelling}
 use Rattle.json.specs.Numbers.{isDigit, isDigit1-9, isE}
-use Rattle.json.specs.Lexer.{unescape, escapeMove, hexOf, anyHex, unit1, unitD, only, ranged, leadBits, hexBits, orExp, afterMinus, afterZero, afterInt, afterFrac, digitOnly, letterMove, valueStart, atValue, atFirstElement, atFirstKey, atKey, atColon, afterRoot, afterElement as behindElement, afterPair}
+use Rattle.json.specs.Lexer.{escapeMove, hexOf, anyHex, unit1, unitD, ranged, hexBits, orExp, afterZero, afterInt, afterFrac, digitOnly, letterMove, valueStart, atValue, atFirstElement, atFirstKey, atKey, atColon, afterRoot, afterElement as behindElement, afterPair}
 use Rattle.json.specs.Machine.{step}
 use Rattle.book.specs.Entry.{withKey, keysFrom, keysOf, numberOf, clash}
 use Rattle.runs.specs.Runs.{beginsPart}
 use Rattle.runs.specs.Sound.{Sound, isKeyed, isSound}
-use Rattle.runs.specs.Walk.{ofScalar, ofRules, ofWord, sameForm, isOf, asks, ofArray, hasKey, anyEdge, leads, endsIn, startOf, moved, ended, afterElement, keyCount, numberIn, atOpening, afterKey, fitsEdge, afterValue, useKey, walk, objectFits}
+use Rattle.runs.specs.Walk.{ofScalar, ofRules, sameForm, isOf, asks, ofArray, hasKey, anyEdge, leads, endsIn, startOf, moved, ended, afterElement, keyCount, numberIn, atOpening, afterKey, fitsEdge, afterValue, useKey, walk, objectFits}
 use Rattle.runs.specs.Examples.{bookB}
 use Rattle.runs.proofs.SoundLaws.{sound-of-isSound}
 use Rattle.verdict.specs.declared.Verdict.{Verdict}
@@ -30,7 +29,7 @@ found : Row → Verdict
 found x = trackEnd bookB (track bookB (x .frames) (trackStart bookB) (x .part))
 
 rows-found : map found rows ≡ map (λ (x : Row). x .verdict) rows
-unfolding found within isBlank isBreak isStructure highClass classOf spelling isDigit isDigit1-9 isE unescape escapeMove hexOf anyHex unit1 unitD only ranged leadBits hexBits orExp afterMinus afterZero afterInt afterFrac digitOnly letterMove valueStart atValue atFirstElement atFirstKey atKey atColon afterRoot behindElement afterPair step same any withKey keysFrom keysOf numberOf beginsPart ofScalar ofRules ofWord sameForm isOf asks ofArray hasKey anyEdge leads endsIn startOf moved ended afterElement keyCount numberIn atOpening afterKey fitsEdge afterValue useKey walk objectFits trackTo trackByte verdictOf trackEnd
+unfolding found within isBlank isBreak isStructure highClass classOf spelling isDigit isDigit1-9 isE escapeMove hexOf anyHex unit1 unitD ranged hexBits orExp afterZero afterInt afterFrac digitOnly letterMove valueStart atValue atFirstElement atFirstKey atKey atColon afterRoot behindElement afterPair step same any withKey keysFrom keysOf numberOf beginsPart ofScalar ofRules sameForm isOf asks ofArray hasKey anyEdge leads endsIn startOf moved ended afterElement keyCount numberIn atOpening afterKey fitsEdge afterValue useKey walk objectFits trackTo trackByte verdictOf trackEnd
 rows-found = refl
 
 -- where two maps agree on a list, they agree at each member

@@ -1,9 +1,9 @@
--- A part has one verdict: `judged-unique`. So it is the one that the machine finds, `judged-iff-track`, and too deep is found exactly when the
--- part's own first fault is to open more levels than there are frames, `tooDeep-iff`. Assumes nothing.
+-- A part has one verdict: `judged-unique`. So it is the one that the machine finds: `judged-iff-track`, and in the customer's words `valid-iff`,
+-- `invalid-iff` (demand 2) and `tooDeep-iff` (demand 3). Assumes nothing.
 use mathlib.Core.List.{List}
 use mathlib.Core.Logic.{_↔_}
-use mathlib.Core.Path.{_≡_, refl, sym, _∙_, ap}
-use Prim.Native.Nat.{ℕ, _≤_}
+use mathlib.Core.Path.{_≡_, refl, sym, ap}
+use Prim.Native.Nat.{ℕ}
 use native.Mathlib.Omega.{arith}
 use Rattle.json.specs.Tree.{Json}
 use Rattle.json.specs.Meaning.{meaning}
@@ -50,16 +50,32 @@ module _ {n : ℕ} {p : List ℕ} where
   same-first-fault : {v w : Verdict} {i j : ℕ} → Fault n p v i → Fault n p w j → NotLater v i w j → NotLater w j v i → v ≡ w
   same-first-fault x y a b = same-fault x y (same-byte a b) (same-rank a b)
 
+-- ---- what a verdict says of the part
+
+-- a part is a text within the limits, and P holds of its tree
+pub record TextWithin (P : Json → Type 0) (n : ℕ) (p : List ℕ) : Type 0 where
+  pub tree : Json
+  pub faultless : (w : Verdict) (j : ℕ) → Fault n p w j → ⊥
+  pub text : Text p tree
+  pub holds : P tree
+
 -- the first fault of a part is to open more levels than n, with byte i
 pub record FirstIsDeep (n : ℕ) (p : List ℕ) (i : ℕ) : Type 0 where
   pub deep : DeepAt n p i
   pub first : (w : Verdict) (j : ℕ) → Fault n p w j → NotLater (Is.TooDeep i) i w j
 
-first-of-judged : {es : List Entry} {n : ℕ} {p : List ℕ} {i : ℕ} → Judged es n p (Is.TooDeep i) → FirstIsDeep n p i
-first-of-judged {n} {p} {i} (by-fault {i = k} x f) = go x f
-  where
-    go : {k : ℕ} → Fault n p (Is.TooDeep i) k → ((w : Verdict) (j : ℕ) → Fault n p w j → NotLater (Is.TooDeep i) k w j) → FirstIsDeep n p i
-    go (too-deep d) f = record { deep = d; first = f }
+module _ {es : List Entry} {n : ℕ} {p : List ℕ} where
+  text-of-valid : Judged es n p Is.Valid → TextWithin (Valid es) n p
+  text-of-valid (by-book {t} f x v) = record { tree = t; faultless = f; text = x; holds = v }
+
+  text-of-invalid : Judged es n p Is.Invalid → TextWithin (λ (t : Json). Valid es t → ⊥) n p
+  text-of-invalid (not-by-book {t} f x v) = record { tree = t; faultless = f; text = x; holds = v }
+
+  first-of-tooDeep : {i : ℕ} → Judged es n p (Is.TooDeep i) → FirstIsDeep n p i
+  first-of-tooDeep {i} (by-fault x f) = go x f
+    where
+      go : {k : ℕ} → Fault n p (Is.TooDeep i) k → ((w : Verdict) (j : ℕ) → Fault n p w j → NotLater (Is.TooDeep i) k w j) → FirstIsDeep n p i
+      go (too-deep d) f = record { deep = d; first = f }
 
 module _ {es : List Entry} (sound-book : Sound es) where
   -- two trees of one text are both valid, or neither
@@ -100,6 +116,16 @@ module _ {es : List Entry} (sound-book : Sound es) where
         found : Judged es n p (trackEnd es (track es n (trackStart es) p))
         found = judged-of-track sound-book n p
 
-    -- too deep is found exactly when the part's own first fault is to open more levels than n
+    -- valid is found exactly when the part is a text within the limits that is valid by the book
+    pub valid-iff : (trackEnd es (track es n (trackStart es) p) ≡ Is.Valid) ↔ TextWithin (Valid es) n p
+    valid-iff = (λ e. text-of-valid (judged-iff-track Is.Valid .1 (sym e)), λ x. sym (judged-iff-track Is.Valid .0 (by-book (x .faultless) (x .text) (x .holds))))
+
+    -- invalid exactly when it is another text within the limits
+    pub invalid-iff : (trackEnd es (track es n (trackStart es) p) ≡ Is.Invalid) ↔ TextWithin (λ (t : Json). Valid es t → ⊥) n p
+    invalid-iff =
+        (λ e. text-of-invalid (judged-iff-track Is.Invalid .1 (sym e)), λ x. sym (judged-iff-track Is.Invalid .0 (not-by-book (x .faultless) (x .text) (x .holds))))
+
+    -- too deep exactly when the part's own first fault is to open more levels than n
     pub tooDeep-iff : (i : ℕ) → (trackEnd es (track es n (trackStart es) p) ≡ Is.TooDeep i) ↔ FirstIsDeep n p i
-    tooDeep-iff i = (λ e. first-of-judged (judged-iff-track (Is.TooDeep i) .1 (sym e)), λ x. sym (judged-iff-track (Is.TooDeep i) .0 (by-fault (too-deep (x .deep)) (x .first))))
+    tooDeep-iff i =
+        (λ e. first-of-tooDeep (judged-iff-track (Is.TooDeep i) .1 (sym e)), λ x. sym (judged-iff-track (Is.TooDeep i) .0 (by-fault (too-deep (x .deep)) (x .first))))

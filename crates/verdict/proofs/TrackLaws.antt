@@ -14,22 +14,27 @@ use Rattle.verdict.specs.Verdict.{longest}
 use Rattle.verdict.specs.Track.{sound, stopped, trackTo, trackByte, track}
 
 module _ (es : List Entry) (n : ℕ) where
+  -- below the most bytes it is read
   pub trackByte-short : {i : ℕ} (q : State (judging es)) (b : ℕ) → i < longest → trackByte es n (sound q i) b ≡ trackTo es n (step (judging es) q b) i
   unfolding trackByte
   trackByte-short q b h = rw lt-ltb
 
+  -- behind them it is too far
   pub trackByte-long : {i : ℕ} (q : State (judging es)) (b : ℕ) → longest ≤ i → trackByte es n (sound q i) b ≡ stopped Is.TooLong
   unfolding trackByte
   trackByte-long q b h = rw le-ltb
 
+  -- a fault is malformed, whatever the levels
   pub trackTo-fault : (q : State (judging es)) (i : ℕ) → isFault (judging es) q ≡ true → trackTo es n q i ≡ stopped (Is.Malformed i)
   unfolding trackTo
   trackTo-fault q i e = rw e
 
+  -- more levels than n are too deep
   pub trackTo-deep : (q : State (judging es)) (i : ℕ) → isFault (judging es) q ≡ false → n < depthOf (judging es) q → trackTo es n q i ≡ stopped (Is.TooDeep i)
   unfolding trackTo
   trackTo-deep q i e h = rw (e, lt-ltb)
 
+  -- n levels and fewer are not
   pub trackTo-sound : (q : State (judging es)) (i : ℕ) → isFault (judging es) q ≡ false → depthOf (judging es) q ≤ n → trackTo es n q i ≡ sound q (suc i)
   unfolding trackTo
   trackTo-sound q i e h = rw (e, le-ltb, add-one i)

@@ -35,7 +35,7 @@ rows-found = refl
 -- where two maps agree on a list, they agree at each member
 eq-of-maps : {A B : Type 0} (f g : A → B) {x : A} {xs : List A} → List·Memᴰ x xs → map f xs ≡ map g xs → f x ≡ g x
 eq-of-maps f g (List·Memᴰ·head e) h = cc
-eq-of-maps f g (List·Memᴰ·tail {x = y} {xs} i) h = eq-of-maps f g i (let t : map f xs ≡ map g xs = cc in t)
+eq-of-maps f g (List·Memᴰ·tail {xs} i) h = let t : map f xs ≡ map g xs = cc in eq-of-maps f g i t
 
 -- each row of the table has its verdict
 pub examples : (x : Row) → List·Memᴰ x rows → Judged bookB (x .frames) (x .part) (x .verdict)

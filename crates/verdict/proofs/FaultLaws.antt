@@ -38,15 +38,15 @@ module _ {n : ℕ} {p : List ℕ} where
   lt-length-of-fault (too-deep x) = x .inside
 
   -- before the byte that is too far no fault has rank 0, and where some text begins with the bytes, none has rank 1
-  rank-of-fault : {j : ℕ} {w : Verdict} → j < longest → Fault n p w j → 1 ≤ rank w
-  rank-of-fault h (too-long l) = absurd (omega arith)
-  rank-of-fault h (malformed x) = omega arith
-  rank-of-fault h (too-deep x) = omega arith
+  one-le-rank-of-short : {j : ℕ} {w : Verdict} → j < longest → Fault n p w j → 1 ≤ rank w
+  one-le-rank-of-short h (too-long l) = absurd (omega arith)
+  one-le-rank-of-short h (malformed x) = omega arith
+  one-le-rank-of-short h (too-deep x) = omega arith
 
-  rank-of-fault-in-text : {j : ℕ} {w : Verdict} → j < longest → Begins (take (suc j) p) → Fault n p w j → 2 ≤ rank w
-  rank-of-fault-in-text h b (too-long l) = absurd (omega arith)
-  rank-of-fault-in-text h b (malformed x) = absurd (x .behind b)
-  rank-of-fault-in-text h b (too-deep x) = omega arith
+  two-le-rank-of-begins : {j : ℕ} {w : Verdict} → j < longest → Begins (take (suc j) p) → Fault n p w j → 2 ≤ rank w
+  two-le-rank-of-begins h b (too-long l) = absurd (omega arith)
+  two-le-rank-of-begins h b (malformed x) = absurd (x .behind b)
+  two-le-rank-of-begins h b (too-deep x) = omega arith
 
   -- a fault at byte i is the first, where the bytes before it have none and no other at byte i has a lesser rank
   judged-of-fault : {es : List Entry} {i : ℕ} {v : Verdict} → Clean n p i → Fault n p v i → ((w : Verdict) → Fault n p w i → rank v ≤ rank w) → Judged es n p v
@@ -63,12 +63,12 @@ module _ {n : ℕ} {p : List ℕ} where
 
     -- no text begins with the bytes up to this one
     pub judged-malformed : {es : List Entry} → i < longest → (Begins (take (suc i) p) → ⊥) → Judged es n p (Is.Malformed i)
-    judged-malformed h f = judged-of-fault c (malformed (record { inside = inside; before = c .begins; behind = f })) (λ w y. rank-of-fault h y)
+    judged-malformed h f = judged-of-fault c (malformed (record { inside = inside; before = c .begins; behind = f })) (λ w y. one-le-rank-of-short h y)
 
     -- some text does, and the levels are too many
     pub judged-too-deep : {es : List Entry} → i < longest → Begins (take (suc i) p) → n < openLevels (take (suc i) p) → Judged es n p (Is.TooDeep i)
     judged-too-deep h b f =
-        judged-of-fault c (too-deep (record { inside = inside; before = c .shallow; behind = f })) (λ w y. rank-of-fault-in-text h b y)
+        judged-of-fault c (too-deep (record { inside = inside; before = c .shallow; behind = f })) (λ w y. two-le-rank-of-begins h b y)
 
     -- some text does, and the levels are not too many
     pub clean-suc : i < longest → Begins (take (suc i) p) → openLevels (take (suc i) p) ≤ n → Clean n p (suc i)

@@ -1,6 +1,6 @@
--- The verdict of a part as the machine finds it, byte by byte, within the limits on levels and length. Derived: `judged-of-track` in proofs/
--- joins it to `Judged`. Assumes nothing.
-use mathlib.Core.Bool.{Bool, true, false, cond}
+-- The verdict of a part as the machine finds it, byte by byte, within the limits on levels and length. Derived: `FoundLaws.judged-of-track` and
+-- `JudgedLaws.judged-iff-track` join it to `Judged`. Assumes nothing.
+use mathlib.Core.Bool.{Bool, cond}
 use mathlib.Core.List.{List, [], _∷_}
 use mathlib.Core.Option.{Option, none, some}
 use Prim.Native.Nat.{ℕ, _+_}

@@ -1,4 +1,4 @@
--- The walk over the keys seen, in steps of any size. Assumes nothing.
+-- The walk over the keys seen: in steps of any size, and by membership. Assumes nothing.
 use mathlib.Core.Bool.{Bool, true, false, cond}
 use mathlib.Core.List.{List}
 use mathlib.Core.Logic.{_↔_}

@@ -19,7 +19,7 @@ use Rattle.runs.specs.Walk.{sameForm, isOf, startOf}
 use Rattle.laws.proofs.ListLaws.{member-of-any}
 use Rattle.runs.proofs.StateLaws.{start-of-edge, start-of-end, zero-of-start}
 use Rattle.frame.specs.Edges.{hasForm}
-use Rattle.frame.proofs.RuleLaws.{hasForm-below, below-of-hasForm}
+use Rattle.frame.proofs.EdgeLaws.{hasForm-below, below-of-hasForm}
 use Rattle.meaning.specs.Shows.{Kept}
 
 -- an entry of rule n, which has form f

@@ -14,7 +14,8 @@ use Rattle.json.specs.Meaning.{Meaning, meaning}
 use Rattle.json.specs.Grammar.{Text}
 use Rattle.json.specs.Levels.{openLevels}
 use Rattle.json.specs.Machine.{State, start, step, run, isFault, depthOf, result}
-use Rattle.json.proofs.Accepted.{no-result, accepted-of-text}
+use Rattle.laws.proofs.TestLaws.{none-neq-some}
+use Rattle.json.proofs.Accepted.{accepted-of-text}
 use Rattle.json.proofs.Sound.{Reads, reads, text-of-accepted}
 use Rattle.json.proofs.Faults.{begins-of-alive, alive-of-begins}
 use Rattle.json.proofs.LevelLaws.{depth-of-run}
@@ -57,7 +58,7 @@ module _ {es : List Entry} (sound-book : Sound es) (n : ℕ) (p : List ℕ) wher
   judged-of-result : ((w : Verdict) (j : ℕ) → Fault n p w j → ⊥) → (o : Option (ValueKind → Bool))
       → result (judging es) (run (judging es) (start (judging es)) p) ≡ o → Judged es n p (verdictOf es o (length p))
   unfolding verdictOf
-  judged-of-result f none e = by-end f (λ t x. no-result (sym e ∙ accepted-of-text (judging es) x))
+  judged-of-result f none e = by-end f (λ t x. none-neq-some (sym e ∙ accepted-of-text (judging es) x))
   judged-of-result f (some w) e = by-value (text-of-accepted (judging es) p w e)
     where
       by-test : (t : Json) → Text p t → (b : Bool) → meaning (judging es) t (Rule 0) ≡ b → Judged es n p (cond b Is.Valid Is.Invalid)

@@ -37,9 +37,13 @@ mem x root key work = record { lex = x; root = root; key = key; work = work }
 unfoldable pub topAt : List ℕ → ℕ → Top
 topAt w l = cond (eqb l 0) Top.Bare (cond (isObject (frameAt w l)) Top.Object Top.Array)
 
--- the number of the key whose first len characters are kept; 255 where the book does not have it
+-- the number of the key with these characters; 255 where the book does not have it
+unfoldable pub orUnknown : ℕ → ℕ → ℕ
+orUnknown n keys = cond (ltb n keys) n 255
+
+-- the number of the key of which len characters are kept; a key of more than 32 characters is none of a book
 unfoldable pub keyFound : Table → List ℕ → ℕ → ℕ
-keyFound t key len = cond (ltb (numberOf (tableKeys t) (take len key)) (t .keys)) (numberOf (tableKeys t) (take len key)) 255
+keyFound t key len = cond (ltb 32 len) 255 (orUnknown (numberOf (tableKeys t) (take len key)) (t .keys))
 
 -- a finished value at a level
 unfoldable pub valueAt : Table → List ℕ → ℕ → Finished → List ℕ

@@ -1,4 +1,4 @@
--- Refusals 8 and 9 over a table, as the code finds them. Derived: `CheckLaws` joins them to `checkBook` of the book. Assumes nothing.
+-- Refusals 8 and 9 over a table, as the code finds them. Derived: `OrderLaws` joins them to `checkBook` of the book. Assumes nothing.
 use mathlib.Core.Bool.{Bool, true, false, not, cond, _&&_, _||_}
 use mathlib.Core.List.{List}
 use Prim.Native.Nat.{ℕ, _+_, _-_}

@@ -1,30 +1,30 @@
 -- Reading a book into a table is reading it on paper, and so is checking it. Assumes nothing.
-use mathlib.Core.Bool.{Bool, true, false, not, cond, _&&_, _||_}
+use mathlib.Core.Bool.{Bool, true, false, not, cond, _||_}
 use mathlib.Core.List.{List, [], _∷_, _++_}
-use mathlib.Core.Path.{_≡_, refl, sym, ap, subst, _∙_}
-use Prim.Native.Nat.{ℕ, zero, suc, _+_, _<_, _≤_}
+use mathlib.Core.Path.{_≡_, refl, sym, ap, _∙_}
+use Prim.Native.Nat.{ℕ, suc, _+_}
 use native.Mathlib.Omega.{arith}
-use lib.Dec.{eqb, ltb, leb}
-use lib.ListN.{length, getD, take, drop, length-append}
-use borrow.Author.Tests.{eq-eqb, ne-eqb, eqb-true, eqb-false}
+use lib.Dec.{eqb, ltb}
+use lib.ListN.{length, take, drop, length-append}
+use borrow.Author.Tests.{ne-eqb, eqb-true, eqb-false}
 use Rattle.laws.specs.Lists.{same, any}
 use Rattle.table.specs.declared.Table.{Table}
 use Rattle.table.specs.Limits.{WithinLimits}
 use Rattle.book.specs.Entry.{Entry, keysOf}
 use Rattle.book.specs.Text.{isEmpty, split}
 use Rattle.book.specs.Line.{formed, small, entryOf, Said, bad, good, sayFields, sayParts, sayLine}
-use Rattle.book.specs.Load.{changesForm, sameEntry, tooMany, faultOf, Read, refused, entries, readOn, readLines, names, readBook, hasRule, dangles, firstLine, firstClash, Answer as Paper, refuse, checkBook, checked, loads}
-use Rattle.book.specs.Holds.{ruleForm, Holds}
+use Rattle.book.specs.Load.{changesForm, sameEntry, tooMany, faultOf, Read, refused, entries, readOn, readLines, names, readBook, dangles, firstLine, firstClash, Answer as Paper, refuse, checkBook, checked, loads}
+use Rattle.book.specs.Holds.{ruleForm}
 use Rattle.book.proofs.HoldLaws.{hasRule-ruleForm}
 use Rattle.load.specs.declared.Answer.{Answer}
-use Rattle.load.specs.declared.Answer.the-variants.{Accepted, Size, Names, Malformed, AboveLimit, TooMany, FormChanged, Repeated, NoRule, NoRoot, NotAscending}
+use Rattle.load.specs.declared.Answer.the-variants.{Size, Names, Malformed, NoRule, NoRoot, NotAscending}
 use Rattle.load.specs.declared.Loaded.{Loaded}
 use Rattle.load.specs.Answer.{Told, tell, told}
-use Rattle.load.specs.Proper.{Proper, ProperSaid}
-use Rattle.load.specs.Step.{emptyTable, taken, takeEntry, tableFrom, tableOf, takeSaid, lineRefusal, loaded, refusal, takeOn, takeLines, takeBook}
-use Rattle.load.specs.Check.{danglingLine, clashLine, checkTable}
+use Rattle.load.specs.Proper.{ProperSaid}
+use Rattle.load.specs.Step.{emptyTable, takeEntry, tableFrom, tableOf, takeSaid, lineRefusal, loaded, refusal, takeOn, takeLines, takeBook}
+use Rattle.load.specs.Check.{checkTable}
 use Rattle.load.specs.Loads.{LoadsAs}
-use Rattle.load.proofs.ProperLaws.{sayLine-proper, true-not-false}
+use Rattle.load.proofs.ProperLaws.{sayLine-proper}
 use Rattle.load.proofs.KeptLaws.{Kept, fault-same, entry-kept, kept-empty}
 use Rattle.load.proofs.OrderLaws.{danglingLine-same, clashLine-same}
 

@@ -1,27 +1,27 @@
 -- What taking an entry gives, by the tests on the way: each law takes their results and gives the answer there. Assumes nothing.
-use mathlib.Core.Bool.{Bool, true, false, not, cond, _&&_, _||_}
+use mathlib.Core.Bool.{Bool, true, false, cond}
 use mathlib.Core.List.{List, [], _∷_}
 use mathlib.Core.Path.{_≡_, refl, sym, ap, _∙_}
 use Prim.Native.Nat.{ℕ, zero, suc, _+_, _*_, _-_, _%_, _<_, _≤_}
 use native.Mathlib.Omega.{arith}
-use lib.Dec.{eqb, ltb, leb}
-use lib.ListN.{length, getD, set}
-use borrow.Author.Tests.{eq-eqb, ne-eqb, lt-ltb, le-ltb, le-leb, lt-leb}
-use Rattle.laws.specs.Bits.{bitAt, setBit}
+use lib.Dec.{ltb}
+use lib.ListN.{length, getD}
+use borrow.Author.Tests.{lt-ltb, le-ltb, le-leb, lt-leb}
+use Rattle.laws.specs.Bits.{bitAt}
 use Rattle.laws.specs.Lists.{same}
 use Rattle.laws.specs.Tab.{tab}
 use Rattle.table.specs.declared.Table.{Table}
-use Rattle.table.specs.Kind.{kindOf, codeOf}
+use Rattle.table.specs.Kind.{kindOf}
 use Rattle.table.specs.Limits.{WithinLimits}
 use Rattle.table.proofs.KindLaws.{codeOf-kindOf}
-use Rattle.book.specs.Entry.{Form, Entry, edge, end-state, numberOf}
+use Rattle.book.specs.Entry.{edge, end-state, numberOf}
 use Rattle.book.specs.Holds.{keyAt, keyNumber, tableKeys, formCode}
 use Rattle.line.specs.declared.Line.{Line}
 use Rattle.line.specs.Line.{formWith, entryWith}
 use Rattle.load.specs.declared.store.Cell.{Cell}
 use Rattle.load.specs.declared.store.Taken.{Taken}
 use Rattle.load.specs.Proper.{Proper}
-use Rattle.load.specs.Step.{some, sameAt, hasCell, written, withEnd, withEdge, withKeyIn, withKey, isNew, formChanges, taken, cellFor, takeEdge, takeEnd, takeEntry, Lens}
+use Rattle.load.specs.Step.{some, sameAt, hasCell, written, withEnd, withEdge, withKeyIn, withKey, isNew, formChanges, taken, takeEdge, takeEnd, takeEntry, Lens}
 
 -- ---- keys
 -- a key has a number up to how many keys there are

@@ -1,17 +1,15 @@
 -- Reading a book into a table, line by line, as the code does it. Derived: `AgreeLaws.book-agrees` joins it to
 -- `readBook` of the book. Assumes nothing.
-use mathlib.Core.Bool.{Bool, true, false, not, cond, _&&_, _||_}
+use mathlib.Core.Bool.{Bool, false, not, cond, _&&_, _||_}
 use mathlib.Core.List.{List, [], _∷_}
-use Prim.Native.Nat.{ℕ, zero, suc, _+_, _*_, _<_, _≤_}
-use mathlib.Core.Path.{_≡_}
+use Prim.Native.Nat.{ℕ, zero, suc, _+_, _*_, _≤_}
 use lib.Dec.{leb, ltb, eqb}
 use lib.ListN.{length, getD, set, take, drop, replicate}
 use Rattle.laws.specs.Bits.{bitAt, setBit}
 use Rattle.laws.specs.Lists.{same}
 use Rattle.table.specs.declared.Table.{Table}
-use Rattle.table.specs.declared.kind.ValueKind.{ValueKind}
 use Rattle.table.specs.Kind.{codeOf}
-use Rattle.book.specs.Entry.{Form, obj, arr, Entry, edge, end-state}
+use Rattle.book.specs.Entry.{Entry, edge, end-state}
 use Rattle.book.specs.Text.{isEmpty, split}
 use Rattle.book.specs.Line.{Said, bad, good, sayLine}
 use Rattle.book.specs.Load.{names}

@@ -1,15 +1,15 @@
 // The table of a book, one entry after the other.
 ghost use mathlib.Core.Path.{_≡_};
 ghost use Prim.Native.Nat.{_+_, _*_, _<_, _≤_};
-ghost use lib.ListN.{length, getD};
+ghost use lib.ListN.{length};
 ghost use Rattle.laws.specs.Bits.{bitAt, setBit};
 ghost use Rattle.laws.specs.Tab.{tab};
 ghost use Rattle.table.specs.Limits.{WithinLimits};
 ghost use Rattle.book.specs.Entry.{numberOf};
-ghost use Rattle.book.specs.Holds.{keyAt, keyNumber, tableKeys, formCode};
+ghost use Rattle.book.specs.Holds.{keyAt, keyNumber, formCode};
 ghost use Rattle.line.specs.Line.{formWith, entryWith};
 ghost use Rattle.load.specs.Proper.{Proper};
-ghost use Rattle.load.specs.Step.{some, sameAt, emptyTable, withEnd, withEdge, written, withKey, isNew, formChanges, cellFor, takeEdge, takeEnd, takeEntry, Lens};
+ghost use Rattle.load.specs.Step.{some, sameAt, emptyTable, withEnd, withEdge, written, withKey, isNew, formChanges, takeEdge, takeEnd, takeEntry, Lens};
 use line::Line;
 use table::Table;
 

@@ -1,10 +1,10 @@
 -- The tests of a field by their cases: each law takes the results of the scans on the way and gives the answer there. Assumes nothing.
 use mathlib.Core.Bool.{Bool, true, false, not, cond, _&&_, _||_}
 use mathlib.Core.List.{List, [], _∷_}
-use mathlib.Core.Path.{_≡_, refl, sym, ap, _∙_}
+use mathlib.Core.Path.{_≡_, refl, sym, _∙_}
 use Prim.Native.Nat.{ℕ, suc, _+_, _-_, _<_, _≤_}
 use native.Mathlib.Omega.{arith}
-use lib.Dec.{eqb, ltb, leb}
+use lib.Dec.{eqb, ltb}
 use lib.ListN.{length, getD, drop, take}
 use lib.Seq.{take-all}
 use borrow.Author.Tests.{eq-eqb, ne-eqb, lt-ltb, le-ltb, le-leb, lt-leb, ltb-true, ltb-false, not-true, not-false}
@@ -16,7 +16,7 @@ use Rattle.table.specs.Kind.{codeOf}
 use Rattle.book.specs.Text.{isEmpty, isDigit, isNumber, numberFrom, number}
 use Rattle.book.specs.Line.{isVisible, isKey, isPlain, behindR, isKind, kindIn, isForm, word-null, word-true, word-false, word-str, word-num, word-int, word-obj, word-arr, dash}
 use Rattle.scan.specs.Scan.{capped, plainCode}
-use Rattle.scan.proofs.ScanLaws.{capped-of-ge, capped-of-lt}
+use Rattle.scan.proofs.ScanLaws.{capped-of-lt}
 
 -- ---- plain kinds: the words are tried in turn
 module _ (s : List ℕ) (a : Bool) (qa : a ≡ same s word-null) where
@@ -61,12 +61,14 @@ plain-codes s = go (same s word-null) (same s word-true) (same s word-false) (sa
   where
     code : Bool → Bool → Bool → Bool → Bool → Bool → ℕ
     code a b c d e f = cond a 0 (cond b 1 (cond c 2 (cond d 3 (cond e 4 (cond f 5 6)))))
+
     kind : Bool → Bool → Bool → Bool → Bool → Bool → ValueKind
     kind a b c d e f =
         cond a (Plain Null) (cond b (Plain True) (cond c (Plain False) (cond d (Plain Str) (cond e (Plain Num) (cond f (Plain Int) (Rule (number (behindR s))))))))
+
     go : (a b c d e f : Bool)
         → ((a || (b || (c || (d || (e || f))))) ≡ ltb (code a b c d e f) 6)
-          × (codeOf (kind a b c d e f) ≡ cond (ltb (code a b c d e f) 6) (code a b c d e f) (6 + number (behindR s)))
+        × (codeOf (kind a b c d e f) ≡ cond (ltb (code a b c d e f) 6) (code a b c d e f) (6 + number (behindR s)))
     go true b c d e f = (refl, refl)
     go false true c d e f = (refl, refl)
     go false false true d e f = (refl, refl)

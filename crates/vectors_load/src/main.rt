@@ -1,5 +1,4 @@
 // Loads the books 00, 01, .. of data/, and writes the number and line of each answer: BOOKS.md says what each book is.
-ghost use Prim.Native.Nat.{_≤_};
 use libc::STDOUT_FILENO;
 
 const BOOKS: usize = 68;
@@ -8,9 +7,9 @@ const BOOKS: usize = 68;
 fn tell(book: &[u8]) {
     let r = load::load(book);
     let a = r.answer;
-    io::number::print_decimal(STDOUT_FILENO, load::number_of(a) as u64);
+    io::print_decimal(STDOUT_FILENO, load::number_of(a) as u64);
     io::write_all(STDOUT_FILENO, b" ");
-    io::number::print_decimal(STDOUT_FILENO, load::line_of(a) as u64);
+    io::print_decimal(STDOUT_FILENO, load::line_of(a) as u64);
     io::write_all(STDOUT_FILENO, b"\n");
 }
 

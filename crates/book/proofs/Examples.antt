@@ -1,5 +1,5 @@
 -- Worked examples of load, by computation: the books of 01 and near misses of its refusals. Assumes nothing.
-use mathlib.Core.Bool.{Bool, true, false, not, _&&_}
+use mathlib.Core.Bool.{true, not, _&&_}
 use mathlib.Core.List.{List, [], _∷_, _++_}
 use mathlib.Core.Path.{_≡_, refl}
 use Prim.Native.Nat.{ℕ}
@@ -11,8 +11,8 @@ use Rattle.table.specs.declared.kind.Scalar.the-variants.{Str, Int}
 use Rattle.table.specs.declared.kind.ValueKind.the-variants.{Plain, Rule}
 use Rattle.table.specs.Kind.{codeOf}
 use Rattle.book.specs.Entry.{obj, arr, Entry, edge, end-state, withKey, keysFrom, keysOf, numberOf, clash}
-use Rattle.book.specs.Text.{isEmpty, onto, split, isDigit, isNumber, numberFrom, number}
-use Rattle.book.specs.Line.{isForm, formOf, isVisible, isKey, keyOf, behindR, isPlain, isKind, kindIn, smallKind, formed, small, entryOf, sayFields, sayParts, sayLine}
+use Rattle.book.specs.Text.{isEmpty, onto, between, split, isNumber, numberFrom, number}
+use Rattle.book.specs.Line.{isForm, formOf, isKey, keyOf, behindR, isPlain, isKind, kindIn, smallKind, formed, small, entryOf, sayFields, sayParts, sayLine}
 use Rattle.book.specs.Load.{ruleOf, formIn, sameForm, sameEntry, changesForm, isEdge, edgeCount, tooMany, faultOf, readOn, readLines, names, readBook, firstLine, hasRule, dangles, clashes, firstClash, checkBook, checked, loads}
 
 -- a book, and the number and line of its answer
@@ -80,7 +80,7 @@ cases =
 
 -- every case has its answer
 pub cases-answered : all (λ (c : Case). eqb (loads (c .book) .number) (c .number) && eqb (loads (c .book) .line) (c .line)) cases ≡ true
-unfolding same all any isEmpty onto split isDigit isNumber numberFrom number isForm formOf isVisible isKey keyOf behindR isPlain isKind kindIn smallKind formed small entryOf sayFields sayParts sayLine ruleOf formIn sameForm sameEntry changesForm isEdge edgeCount tooMany faultOf readOn readLines readBook firstLine hasRule dangles clashes firstClash checkBook checked loads withKey keysFrom keysOf numberOf clash codeOf
+unfolding same all any isEmpty onto split between isNumber numberFrom number isForm formOf isKey keyOf behindR isPlain isKind kindIn smallKind formed small entryOf sayFields sayParts sayLine ruleOf formIn sameForm sameEntry changesForm isEdge edgeCount tooMany faultOf readOn readLines readBook firstLine hasRule dangles clashes firstClash checkBook checked loads withKey keysFrom keysOf numberOf clash codeOf
 cases-answered = refl
 
 -- edges that differ in their next alone, and edges that differ in their key alone
@@ -108,5 +108,5 @@ name = ascii "name"
 pub book-B-entries : loads (names ++ linesOfB) .entries
     ≡ edge 0 obj 0 corners (Rule 1) 1 ∷ edge 0 obj 1 name (Plain Str) 2 ∷ end-state 0 obj 2 ∷ edge 1 arr 0 [] (Rule 2) 0 ∷ end-state 1 arr 0
     ∷ edge 2 arr 0 [] (Plain Int) 1 ∷ edge 2 arr 1 [] (Plain Int) 2 ∷ end-state 2 arr 2 ∷ []
-unfolding same all any isEmpty onto split isDigit isNumber numberFrom number isForm formOf isVisible isKey keyOf behindR isPlain isKind kindIn smallKind formed small entryOf sayFields sayParts sayLine ruleOf formIn sameForm sameEntry changesForm isEdge edgeCount tooMany faultOf readOn readLines readBook firstLine hasRule dangles clashes firstClash checkBook checked loads withKey keysFrom keysOf numberOf clash codeOf
+unfolding same all any isEmpty onto split between isNumber numberFrom number isForm formOf isKey keyOf behindR isPlain isKind kindIn smallKind formed small entryOf sayFields sayParts sayLine ruleOf formIn sameForm sameEntry changesForm isEdge edgeCount tooMany faultOf readOn readLines readBook firstLine hasRule dangles clashes firstClash checkBook checked loads withKey keysFrom keysOf numberOf clash codeOf
 book-B-entries = refl

@@ -1,15 +1,14 @@
 -- Edges and forms of a book as entries are added at its end. Assumes nothing.
 use mathlib.Core.Bool.{Bool, true, false, not, cond, _&&_, _||_}
 use mathlib.Core.List.{List, [], _∷_, _++_}
-use mathlib.Core.Path.{_≡_, refl, sym, ap, _∙_}
-use Prim.Native.Nat.{ℕ, zero, suc, _+_, _<_, _≤_}
+use mathlib.Core.Path.{_≡_, refl, ap, _∙_}
+use Prim.Native.Nat.{ℕ, suc, _+_}
 use native.Mathlib.Omega.{arith}
 use lib.Dec.{eqb}
 use lib.ListN.{length}
-use borrow.Author.Tests.{eq-eqb, ne-eqb, eqb-true, eqb-false}
+use borrow.Author.Tests.{eqb-true}
 use Rattle.laws.specs.Lists.{same, any}
-use Rattle.table.specs.Kind.{codeOf}
-use Rattle.book.specs.Entry.{Form, obj, arr, Entry, edge, end-state, keysOf, numberOf}
+use Rattle.book.specs.Entry.{Form, obj, arr, Entry, edge, end-state, keysOf}
 use Rattle.book.specs.Load.{ruleOf, formIn, sameForm, changesForm, hasRule}
 use Rattle.book.specs.Holds.{Edge, keyNumber, edgesFrom, edgesOf, formCode, ruleForm}
 use Rattle.book.proofs.KeyLaws.{eqb-sym, any-append, numberOf-append, keysOf-last, addKey, addKey-append}

@@ -1,11 +1,11 @@
 -- What it means that a table holds the entries of a book: 01, "Four questions about the promises": rules, edges, end states and keys.
 -- Stated. Assumes nothing.
-use mathlib.Core.Bool.{Bool, true, false, cond, _&&_}
+use mathlib.Core.Bool.{Bool, false, cond, _&&_}
 use mathlib.Core.List.{List, [], _∷_}
 use mathlib.Core.Path.{_≡_}
 use Prim.Native.Nat.{ℕ, suc, _+_, _*_, _<_}
 use lib.Dec.{eqb}
-use lib.ListN.{length, take, drop, getD}
+use lib.ListN.{take, drop, getD}
 use Rattle.laws.specs.Tab.{tab}
 use Rattle.laws.specs.Lists.{any}
 use Rattle.laws.specs.Bits.{bitAt}

@@ -6,12 +6,11 @@ use lib.Dec.{leb, ltb, eqb}
 use lib.ListN.{length}
 use Rattle.laws.specs.Ascii.{ascii}
 use Rattle.laws.specs.Lists.{same, all}
-use Rattle.table.specs.declared.kind.Scalar.{Scalar}
 use Rattle.table.specs.declared.kind.Scalar.the-variants.{Null, True, False, Str, Num, Int}
 use Rattle.table.specs.declared.kind.ValueKind.{ValueKind}
 use Rattle.table.specs.declared.kind.ValueKind.the-variants.{Plain, Rule}
 use Rattle.book.specs.Entry.{Form, obj, arr, Entry, edge, end-state}
-use Rattle.book.specs.Text.{split, isNumber, number}
+use Rattle.book.specs.Text.{between, split, isNumber, number}
 
 -- ---- words
 
@@ -56,9 +55,9 @@ isForm s = same s word-obj || same s word-arr
 unfoldable pub formOf : List ℕ → Form
 formOf s = cond (same s word-obj) obj arr
 
--- a byte from 0x21 to 0x7E
-unfoldable pub isVisible : ℕ → Bool
-isVisible b = leb 0x21 b && leb b 0x7E
+-- a byte that a key may have
+abbrev pub isVisible : ℕ → Bool
+isVisible = between 0x21 0x7E
 
 -- key: 1 to 32 such bytes, not `-` alone
 unfoldable pub isKey : List ℕ → Bool

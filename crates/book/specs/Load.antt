@@ -6,8 +6,6 @@ use lib.Dec.{leb, ltb, eqb}
 use lib.ListN.{length, take, drop}
 use Rattle.laws.specs.Ascii.{ascii}
 use Rattle.laws.specs.Lists.{same, any}
-use Rattle.table.specs.declared.kind.Scalar.{Scalar}
-use Rattle.table.specs.declared.kind.ValueKind.{ValueKind}
 use Rattle.table.specs.declared.kind.ValueKind.the-variants.{Plain, Rule}
 use Rattle.table.specs.Kind.{codeOf}
 use Rattle.book.specs.Entry.{Form, obj, arr, Entry, edge, end-state, keysOf, clash}

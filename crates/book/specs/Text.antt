@@ -20,9 +20,13 @@ unfoldable pub split : ℕ → List ℕ → List (List ℕ)
 split c [] = [] ∷ []
 split c (b ∷ s) = cond (eqb b c) ([] ∷ split c s) (onto b (split c s))
 
+-- a byte from a to z
+unfoldable pub between : ℕ → ℕ → ℕ → Bool
+between a z b = leb a b && leb b z
+
 -- `0` to `9`
-unfoldable pub isDigit : ℕ → Bool
-isDigit b = leb 48 b && leb b 57
+abbrev pub isDigit : ℕ → Bool
+isDigit = between 48 57
 
 -- digits without a leading zero: `0` itself, or digits of which the first is another
 unfoldable pub isNumber : List ℕ → Bool

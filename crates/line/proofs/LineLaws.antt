@@ -1,27 +1,26 @@
 -- What a line says, by the tests on the way: each law takes their results and gives the answer there. Assumes nothing.
-use mathlib.Core.Bool.{Bool, true, false, not, cond, _&&_, _||_}
-use mathlib.Core.List.{List, [], _∷_}
+use mathlib.Core.Bool.{Bool, true, false, not, cond}
+use mathlib.Core.List.{List, []}
 use mathlib.Core.Path.{_≡_, refl, sym, ap, _∙_}
-use Prim.Native.Nat.{ℕ, suc, _+_, _-_, _<_, _≤_}
+use Prim.Native.Nat.{ℕ, _+_, _-_, _<_, _≤_}
 use native.Mathlib.Omega.{arith}
-use lib.Dec.{eqb, ltb}
+use lib.Dec.{ltb}
 use lib.ListN.{length, take, drop, length-drop}
 use lib.Seq.{take-all, take-take, length-take-le}
-use borrow.Author.Tests.{eq-eqb, ne-eqb, lt-ltb, le-ltb, ltb-true, ltb-false, not-true, not-false}
+use borrow.Author.Tests.{lt-ltb, le-ltb, ltb-true, ltb-false, not-true, not-false}
 use Rattle.laws.specs.Lists.{same}
 use Rattle.table.specs.declared.kind.ValueKind.{ValueKind}
 use Rattle.table.specs.declared.kind.ValueKind.the-variants.{Plain, Rule}
-use Rattle.table.specs.declared.kind.Scalar.{Scalar}
 use Rattle.table.specs.declared.kind.Scalar.the-variants.{Null, True, False, Str, Num, Int}
 use Rattle.table.specs.Kind.{kindOf, codeOf}
 use Rattle.table.proofs.KindLaws.{kindOf-codeOf}
 use Rattle.book.specs.Text.{isNumber, number}
-use Rattle.book.specs.Entry.{Form, obj, arr}
-use Rattle.book.specs.Line.{isForm, formOf, isKey, keyOf, isKind, kindIn, smallKind, formed, small, entryOf, Said, bad, good, sayFields, sayLine, word-obj, word-end, dash}
+use Rattle.book.specs.Entry.{obj}
+use Rattle.book.specs.Line.{isForm, formOf, isKey, keyOf, isKind, kindIn, smallKind, formed, small, entryOf, Said, sayFields, sayLine, word-obj, word-end, dash}
 use Rattle.scan.specs.Scan.{capped}
 use Rattle.line.specs.declared.Line.{Line}
 use Rattle.line.specs.declared.Cuts.{Cuts}
-use Rattle.line.specs.Line.{saidWith, said, faulty, Judged, seg, Cut, formedEnd, formedEdge}
+use Rattle.line.specs.Line.{said, faulty, Judged, seg, Cut, formedEnd, formedEdge}
 
 -- ---- well-formed fields
 module _ (k m : List ℕ) (r : Bool) (q : r ≡ same k dash) where

@@ -9,10 +9,10 @@ use lib.Dec.{eqb}
 use lib.ListN.{length, drop, take, length-drop}
 use lib.Seq.{take-all, drop-drop}
 use Rattle.book.specs.Text.{split, onto}
-use Rattle.book.specs.Line.{Said, bad, sayFields, sayParts, sayLine}
+use Rattle.book.specs.Line.{bad, sayParts, sayLine}
 use Rattle.scan.specs.Scan.{until}
 use Rattle.line.specs.declared.Cuts.{Cuts}
-use Rattle.line.specs.Line.{seg, Cut, Rising}
+use Rattle.line.specs.Line.{seg, Cut}
 
 -- a separator ends the first part
 split-at : (c : ℕ) (s : List ℕ) → until c s < length s → split c s ≡ take (until c s) s ∷ split c (drop (suc (until c s)) s)

@@ -2,7 +2,6 @@
 ghost use mathlib.Core.Path.{_≡_};
 ghost use Prim.Native.Nat.{_+_, _<_, _≤_};
 ghost use lib.ListN.{length};
-ghost use Rattle.laws.specs.Lists.{same};
 ghost use Rattle.book.specs.Line.{formed as isFormed, keyOf, sayFields, sayLine};
 ghost use Rattle.line.specs.Line.{Cut, Judged, said, faulty, seg, formedEnd, formedEdge};
 

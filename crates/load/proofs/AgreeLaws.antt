@@ -1,30 +1,30 @@
 -- Reading a book into a table is reading it on paper, and so is checking it. Assumes nothing.
-use mathlib.Core.Bool.{Bool, true, false, not, cond, _&&_, _||_}
+use mathlib.Core.Bool.{Bool, true, false, not, cond, _||_}
 use mathlib.Core.List.{List, [], _∷_, _++_}
-use mathlib.Core.Path.{_≡_, refl, sym, ap, subst, _∙_}
-use Prim.Native.Nat.{ℕ, zero, suc, _+_, _<_, _≤_}
+use mathlib.Core.Path.{_≡_, refl, sym, ap, _∙_}
+use Prim.Native.Nat.{ℕ, suc, _+_}
 use native.Mathlib.Omega.{arith}
-use lib.Dec.{eqb, ltb, leb}
-use lib.ListN.{length, getD, take, drop, length-append}
-use borrow.Author.Tests.{eq-eqb, ne-eqb, eqb-true, eqb-false}
+use lib.Dec.{eqb, ltb}
+use lib.ListN.{length, take, drop, length-append}
+use borrow.Author.Tests.{ne-eqb, eqb-true, eqb-false}
 use Rattle.laws.specs.Lists.{same, any}
 use Rattle.table.specs.declared.Table.{Table}
 use Rattle.table.specs.Limits.{WithinLimits}
 use Rattle.book.specs.Entry.{Entry, keysOf}
 use Rattle.book.specs.Text.{isEmpty, split}
 use Rattle.book.specs.Line.{formed, small, entryOf, Said, bad, good, sayFields, sayParts, sayLine}
-use Rattle.book.specs.Load.{changesForm, sameEntry, tooMany, faultOf, Read, refused, entries, readOn, readLines, names, readBook, hasRule, dangles, firstLine, firstClash, Answer as Paper, refuse, checkBook, checked, loads}
-use Rattle.book.specs.Holds.{ruleForm, Holds}
+use Rattle.book.specs.Load.{changesForm, sameEntry, tooMany, faultOf, Read, refused, entries, readOn, readLines, names, readBook, dangles, firstLine, firstClash, Answer as Paper, refuse, checkBook, checked, loads}
+use Rattle.book.specs.Holds.{ruleForm}
 use Rattle.book.proofs.HoldLaws.{hasRule-ruleForm}
 use Rattle.load.specs.declared.Answer.{Answer}
-use Rattle.load.specs.declared.Answer.the-variants.{Accepted, Size, Names, Malformed, AboveLimit, TooMany, FormChanged, Repeated, NoRule, NoRoot, NotAscending}
+use Rattle.load.specs.declared.Answer.the-variants.{Size, Names, Malformed, NoRule, NoRoot, NotAscending}
 use Rattle.load.specs.declared.Loaded.{Loaded}
-use Rattle.load.specs.Answer.{Told, tell, told, isAccepted}
-use Rattle.load.specs.Proper.{Proper, ProperSaid}
-use Rattle.load.specs.Step.{emptyTable, taken, takeEntry, tableFrom, tableOf, takeSaid, lineRefusal, loaded, refusal, takeOn, takeLines, takeBook}
-use Rattle.load.specs.Check.{danglingLine, clashLine, checkTable}
+use Rattle.load.specs.Answer.{Told, tell, told}
+use Rattle.load.specs.Proper.{ProperSaid}
+use Rattle.load.specs.Step.{emptyTable, takeEntry, tableFrom, tableOf, takeSaid, lineRefusal, loaded, refusal, takeOn, takeLines, takeBook}
+use Rattle.load.specs.Check.{checkTable}
 use Rattle.load.specs.Loads.{LoadsAs}
-use Rattle.load.proofs.ProperLaws.{sayLine-proper, true-not-false}
+use Rattle.load.proofs.ProperLaws.{sayLine-proper}
 use Rattle.load.proofs.KeptLaws.{Kept, fault-same, entry-kept, kept-empty}
 use Rattle.load.proofs.OrderLaws.{danglingLine-same, clashLine-same}
 
@@ -37,11 +37,11 @@ BadSaid (bad k) = HasAnswer k × (k ≡ 0 → ⊥)
 BadSaid (good e) = Unit {0}
 
 bad-3 : BadSaid (bad 3)
-unfolding told lineRefusal
+unfolding lineRefusal
 bad-3 = (λ n. refl, λ z. omega arith)
 
 bad-4 : BadSaid (bad 4)
-unfolding told lineRefusal
+unfolding lineRefusal
 bad-4 = (λ n. refl, λ z. omega arith)
 
 sayFields-bad : (r f q k v m : List ℕ) → BadSaid (sayFields r f q k v m)
@@ -69,7 +69,7 @@ unfolding sayLine
 sayLine-bad l = sayParts-bad (split 32 l)
 
 faultOf-answer : (es : List Entry) (e : Entry) → (faultOf es e ≡ 0 → ⊥) → HasAnswer (faultOf es e)
-unfolding faultOf told lineRefusal
+unfolding faultOf lineRefusal
 faultOf-answer es e = go (any (changesForm e) es) (any (sameEntry e) es) (tooMany es e)
   where
     go : (a b c : Bool) → (_≡_ {A = ℕ} (cond a 6 (cond b 7 (cond c 5 0))) 0 → ⊥) → HasAnswer (cond a 6 (cond b 7 (cond c 5 0)))
@@ -117,7 +117,6 @@ module _ (n : ℕ) (es : List Entry) (q : n ≡ 2 + length es) (kept : Kept (tab
           (lineRefusal (faultOf es e) n, refl, faultOf-answer es e w n ∙ line-is (faultOf es e), w)
 
 malformed : (n m : ℕ) → n ≡ m → told (Malformed n) ≡ tell 3 m
-unfolding told
 malformed n m q = ap (tell 3) q
 
 lines-agree : (n : ℕ) (es : List Entry) (ls : List (List ℕ)) → n ≡ 2 + length es → Kept (tableOf es) es → Agree (takeLines n (tableOf es) ls) (readLines es ls)
@@ -139,7 +138,7 @@ unfolding tableOf tableFrom
 kept-none = kept-empty
 
 pub book-agrees : (b : List ℕ) → Agree (takeBook b) (readBook b)
-unfolding takeBook readBook told tableOf tableFrom
+unfolding takeBook readBook tableOf tableFrom
 book-agrees b = go (isEmpty b || ltb 65536 (length b)) (same (take 31 b) names)
   where
     go : (x y : Bool)
@@ -166,7 +165,7 @@ unfolding tableOf tableFrom
 refusal-as a k n e = (e, refl)
 
 check-as : (es : List Entry) → Kept (tableOf es) es → As (checkTable (tableOf es)) (checkBook es)
-unfolding checkTable checkBook told
+unfolding checkTable checkBook
 check-as es kept =
     rw (danglingLine-same (tableOf es) es kept, clashLine-same (tableOf es) es kept, kept .holds .formed 0 (omega arith), hasRule-ruleForm es 0)
     (go (eqb (firstLine (dangles es) 2 es) 0) (eqb (ruleForm es 0) 0) (eqb (firstClash (keysOf es) 2 [] es) 0))
@@ -187,39 +186,24 @@ check-as es kept =
 
 -- ---- load
 
--- a refusal is not accepted
-not-accepted : (a : Answer) (k n : ℕ) → told a ≡ tell k n → (k ≡ 0 → ⊥) → isAccepted a ≡ false
-unfolding told
-not-accepted Accepted k n e h = absurd (h (sym (ap (λ (x : Told). x .number) e)))
-not-accepted Size k n e h = refl
-not-accepted Names k n e h = refl
-not-accepted (Malformed m) k n e h = refl
-not-accepted (AboveLimit m) k n e h = refl
-not-accepted (TooMany m) k n e h = refl
-not-accepted (FormChanged m) k n e h = refl
-not-accepted (Repeated m) k n e h = refl
-not-accepted (NoRule m) k n e h = refl
-not-accepted NoRoot k n e h = refl
-not-accepted (NotAscending m) k n e h = refl
-
-module _ (b : List ℕ) (r : Loaded) (q : r ≡ takeBook b) (c : Bool) (w : c ≡ isAccepted (r .answer)) where
-  accepted-is : {x : Bool} {a : Loaded} → c ≡ x → takeBook b ≡ a → isAccepted (a .answer) ≡ x
-  accepted-is h e = sym (w ∙ ap (λ (y : Loaded). isAccepted (y .answer)) (q ∙ e)) ∙ h
+module _ (b : List ℕ) (r : Loaded) (q : r ≡ takeBook b) (k : ℕ) (w : k ≡ told (r .answer) .number) where
+  number-is : {a : Loaded} → takeBook b ≡ a → k ≡ told (a .answer) .number
+  number-is e = w ∙ ap (λ (x : Loaded). told (x .answer) .number) (q ∙ e)
 
   -- a book that is read is checked
-  pub load-checked : (v : Loaded) → c ≡ true → v ≡ checkTable (r .table) → LoadsAs b v
+  pub load-checked : (v : Loaded) → k ≡ 0 → v ≡ checkTable (r .table) → LoadsAs b v
   unfolding loads checked
   load-checked v h u = let z = go (readBook b) (book-agrees b) in record { answer = z .0; table = z .1 }
     where
       go : (p : Read) → Agree (takeBook b) p → As v (checked p)
-      go (refused k n) a = true-not-false (isAccepted (a .0)) (accepted-is h (a .1)) (not-accepted (a .0) k n (a .2) (a .3))
+      go (refused i n) a = absurd (a .3 (sym (number-is (a .1) ∙ ap (λ (x : Told). x .number) (a .2)) ∙ h))
       go (entries es) a = rw (u ∙ ap checkTable (ap (λ (x : Loaded). x .table) (q ∙ a .0))) (check-as es (a .1))
 
   -- a book that is refused as it is read stays refused
-  pub load-refused : c ≡ false → LoadsAs b r
+  pub load-refused : (k ≡ 0 → ⊥) → LoadsAs b r
   unfolding loads checked
   load-refused h = let z = go (readBook b) (book-agrees b) in record { answer = z .0; table = z .1 }
     where
       go : (p : Read) → Agree (takeBook b) p → As r (checked p)
-      go (refused k n) a = rw (q ∙ a .1) (refusal-as (a .0) k n (a .2))
-      go (entries es) a = true-not-false true refl (accepted-is h (a .0))
+      go (refused i n) a = rw (q ∙ a .1) (refusal-as (a .0) i n (a .2))
+      go (entries es) a = absurd (h (number-is (a .0)))

@@ -2,13 +2,12 @@
 use mathlib.Core.Bool.{Bool, true, false, not, cond, _&&_, _||_}
 use mathlib.Core.List.{List, [], _∷_, _++_, append-nil}
 use mathlib.Core.Path.{_≡_, refl, sym, ap, _∙_}
-use Prim.Native.Nat.{ℕ, zero, suc, _+_, _*_, _/_, _<_, _≤_}
-use native.Mathlib.Numerals.{add-one}
+use Prim.Native.Nat.{ℕ, zero, suc, _+_, _*_, _<_}
 use native.Mathlib.Omega.{arith}
 use lib.Dec.{eqb, ltb, leb}
 use lib.ListN.{length, getD, set, replicate, length-append}
 use lib.Seq.{getD-set-same, getD-set-other}
-use borrow.Author.Tests.{eq-eqb, ne-eqb, eqb-true, eqb-false, not-false, leb-true, leb-false, lt-ltb, le-ltb}
+use borrow.Author.Tests.{eq-eqb, ne-eqb, eqb-true, eqb-false, leb-true, leb-false, lt-ltb, le-ltb}
 use Rattle.laws.specs.Bits.{bitAt, setBit}
 use Rattle.laws.specs.Lists.{same, any}
 use Rattle.laws.proofs.BitLaws.{bitAt-setBit, bitAt-zeros}
@@ -16,19 +15,19 @@ use Rattle.table.specs.declared.Table.{Table}
 use Rattle.table.specs.declared.kind.ValueKind.{ValueKind}
 use Rattle.table.specs.Kind.{codeOf}
 use Rattle.table.specs.Limits.{WithinLimits}
-use Rattle.book.specs.Entry.{Form, obj, arr, Entry, edge, end-state, withKey as addedKey, keysFrom, keysOf, numberOf}
+use Rattle.book.specs.Entry.{Form, Entry, edge, end-state, withKey as addedKey, keysFrom, keysOf}
 use Rattle.book.specs.Text.{isEmpty}
 use Rattle.book.specs.Load.{ruleOf, formIn, sameForm, sameEntry, changesForm, isEdge, edgeCount, tooMany, faultOf}
-use Rattle.book.specs.Holds.{Edge, tableEdges, tableKeys, keyNumber, edgesFrom, edgesOf, formCode, ruleForm, endsAt, Holds}
-use Rattle.book.proofs.KeyLaws.{eqb-sym, any-last, or-false, numberOf-new, numberOf-eqb, keyNumber-withKey, key-in-withKey, addKey, addKey-append, keysOf-last}
+use Rattle.book.specs.Holds.{tableEdges, tableKeys, keyNumber, edgesFrom, edgesOf, formCode, ruleForm, endsAt, Holds}
+use Rattle.book.proofs.KeyLaws.{eqb-sym, any-last, or-false, numberOf-new, numberOf-eqb, keyNumber-withKey, key-in-withKey, addKey-append, keysOf-last}
 use Rattle.book.proofs.HoldLaws.{Each, each-map, each-append, KeyAmong, KeyIn, keyIn-append, edgesOf-last, formCode-some, sameForm-codes, form-of-code, ruleForm-last, FormKept, changesForm-ruleForm}
 use Rattle.load.specs.declared.store.Cell.{Cell}
 use Rattle.load.specs.declared.store.Taken.{Taken}
 use Rattle.load.specs.Proper.{isArr, ProperEdge, Proper}
 use Rattle.load.specs.Step.{emptyTable, hasCell, withEnd, withEdge, withKey, isNew, formChanges, taken, cellFor, takeEdge, takeEnd, takeEntry}
 use Rattle.load.proofs.ProperLaws.{true-not-false}
-use Rattle.load.proofs.WithinLaws.{within-empty, within-takeEntry, within-withKey}
-use Rattle.load.proofs.TableLaws.{Sized, sized-empty, sized-withEnd, sized-withEdge, sized-withKey, edgeOn, tableEdges-withEdge, length-tableEdges, sameCell, hasCell-tableEdges, tableKeys-withKey, length-tableKeys, tableKeys-withEdge, tableEdges-withKey, tableKeys-withEnd, tableEdges-withEnd}
+use Rattle.load.proofs.WithinLaws.{within-empty, within-takeEntry}
+use Rattle.load.proofs.TableLaws.{Sized, sized-empty, sized-withEnd, sized-withEdge, sized-withKey, tableEdges-withEdge, length-tableEdges, sameCell, hasCell-tableEdges, tableKeys-withKey, length-tableKeys, tableKeys-withEdge, tableEdges-withKey, tableKeys-withEnd, tableEdges-withEnd}
 
 -- what is kept as a book is read: the table holds the entries, and they are such as lines say
 pub record Kept (t : Table) (es : List Entry) : Type 0 where

@@ -1,17 +1,16 @@
 -- What a loaded table is: within its limits, and holding the entries of the book, of which no two clash. Assumes nothing.
-use mathlib.Core.Bool.{Bool, true, false, not, cond, _&&_, _||_}
+use mathlib.Core.Bool.{Bool, true, false, not, cond, _||_}
 use mathlib.Core.List.{List, [], _∷_, _++_, append-nil, append-assoc}
-use mathlib.Core.Path.{_≡_, refl, sym, ap, subst, _∙_}
+use mathlib.Core.Path.{_≡_, refl, ap}
 use Prim.Native.Nat.{ℕ, suc}
 use native.Mathlib.Omega.{arith}
 use lib.Dec.{eqb}
 use borrow.Author.Tests.{eqb-true}
 use Rattle.laws.specs.Lists.{all, any}
-use Rattle.table.specs.declared.Table.{Table}
 use Rattle.table.specs.Limits.{WithinLimits, withinLimits}
 use Rattle.table.proofs.LimitLaws.{withinLimits-complete}
 use Rattle.book.specs.Entry.{Entry, keysOf, clash}
-use Rattle.book.specs.Load.{Read, refused, entries, readBook, hasRule, dangles, firstLine, clashes, firstClash, Answer as Paper, refuse, checkBook, checked, loads}
+use Rattle.book.specs.Load.{Read, refused, entries, readBook, hasRule, dangles, firstLine, clashes, firstClash, refuse, checkBook, checked, loads}
 use Rattle.book.specs.Holds.{Holds}
 use Rattle.book.proofs.HoldLaws.{Each, each-map, each-append}
 use Rattle.load.specs.declared.Loaded.{Loaded}

@@ -2,10 +2,10 @@
 use mathlib.Core.Bool.{Bool, true, false, not, cond, _&&_, _||_}
 use mathlib.Core.List.{List, [], _∷_, _++_, append-nil}
 use mathlib.Core.Path.{_≡_, refl, sym, ap, _∙_}
-use Prim.Native.Nat.{ℕ, zero, suc, _+_, _-_, _<_, _≤_}
+use Prim.Native.Nat.{ℕ, zero, suc, _+_, _-_, _<_}
 use native.Mathlib.Numerals.{add-one}
 use native.Mathlib.Omega.{arith}
-use lib.Dec.{eqb, ltb, leb}
+use lib.Dec.{eqb, ltb}
 use lib.ListN.{length, getD, length-append}
 use borrow.Author.Tests.{eqb-true, le-leb}
 use Rattle.laws.specs.Lists.{any}
@@ -13,17 +13,15 @@ use Rattle.laws.specs.Tab.{tab}
 use Rattle.table.specs.declared.Table.{Table}
 use Rattle.table.specs.declared.kind.ValueKind.{ValueKind}
 use Rattle.table.specs.declared.kind.ValueKind.the-variants.{Plain, Rule}
-use Rattle.table.specs.declared.kind.Scalar.{Scalar}
 use Rattle.table.specs.declared.kind.Scalar.the-variants.{Null, True, False, Str, Num, Int}
 use Rattle.table.specs.Kind.{codeOf}
 use Rattle.book.specs.Entry.{Form, obj, arr, Entry, edge, end-state, keysOf, numberOf, clash}
 use Rattle.book.specs.Text.{isEmpty}
-use Rattle.book.specs.Load.{ruleOf, formIn, hasRule, dangles, firstLine, clashes, firstClash}
-use Rattle.book.specs.Holds.{Edge, edgeAt, tableEdges, keyNumber, edgesFrom, edgesOf, formCode, ruleForm, Holds}
-use Rattle.book.proofs.KeyLaws.{any-append}
+use Rattle.book.specs.Load.{ruleOf, formIn, dangles, firstLine, clashes, firstClash}
+use Rattle.book.specs.Holds.{Edge, edgeAt, tableEdges, keyNumber, edgesFrom, edgesOf, formCode, ruleForm}
 use Rattle.book.proofs.HoldLaws.{Each, each-map, each-append, edgesFrom-append, FormKept, hasRule-ruleForm, form-of-code}
-use Rattle.load.specs.Proper.{isArr, ProperEdge, Proper}
-use Rattle.load.specs.Step.{some, firstAt}
+use Rattle.load.specs.Proper.{isArr, Proper}
+use Rattle.load.specs.Step.{firstAt}
 use Rattle.load.specs.Check.{danglesCode, danglesAt, clashCodes, clashAt, clashesAt, lateAt, lineAt, danglingLine, clashLine}
 use Rattle.load.proofs.ProperLaws.{true-not-false}
 use Rattle.load.proofs.TableLaws.{some-tab, tab-one-more}

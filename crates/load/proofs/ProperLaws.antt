@@ -1,22 +1,21 @@
 -- Every line that is taken says an entry within the limits of its fields. Assumes nothing.
 use mathlib.Core.Bool.{Bool, true, false, not, cond, _&&_}
 use mathlib.Core.List.{List, [], _∷_}
-use mathlib.Core.Path.{_≡_, refl, sym, ap, _∙_}
-use Prim.Native.Nat.{ℕ, suc, _+_, _<_, _≤_}
+use mathlib.Core.Path.{_≡_, refl}
+use Prim.Native.Nat.{ℕ, _<_, _≤_}
 use native.Mathlib.Omega.{arith}
-use lib.Dec.{eqb, ltb, leb}
+use lib.Dec.{ltb, leb}
 use lib.ListN.{length}
-use borrow.Author.Tests.{ltb-true, leb-true, lt-ltb}
+use borrow.Author.Tests.{ltb-true, leb-true}
 use Rattle.laws.specs.Lists.{same, all}
 use Rattle.table.specs.declared.kind.ValueKind.{ValueKind}
 use Rattle.table.specs.declared.kind.ValueKind.the-variants.{Plain, Rule}
-use Rattle.table.specs.declared.kind.Scalar.{Scalar}
 use Rattle.table.specs.declared.kind.Scalar.the-variants.{Null, True, False, Str, Num, Int}
 use Rattle.table.specs.Kind.{codeOf}
-use Rattle.book.specs.Entry.{Form, obj, arr, Entry, edge, end-state}
+use Rattle.book.specs.Entry.{obj, arr, edge, end-state}
 use Rattle.book.specs.Text.{isEmpty, isNumber, number, split}
-use Rattle.book.specs.Line.{isForm, formOf, isVisible, isKey, keyOf, isKind, kindIn, smallKind, formed, small, entryOf, Said, bad, good, sayFields, sayParts, sayLine, word-obj, word-end, dash}
-use Rattle.load.specs.Proper.{isArr, ProperEdge, Proper, ProperSaid}
+use Rattle.book.specs.Line.{isForm, formOf, isVisible, isKey, keyOf, isKind, kindIn, smallKind, formed, small, entryOf, bad, good, sayFields, sayParts, sayLine, word-obj, word-end, dash}
+use Rattle.load.specs.Proper.{isArr, ProperEdge, ProperSaid}
 
 -- the two parts of a conjunction that is true
 pub and-true : (a b : Bool) → (a && b) ≡ true → (a ≡ true) × (b ≡ true)

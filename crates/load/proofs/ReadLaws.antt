@@ -1,19 +1,18 @@
 -- A line and the lines of a book, by the tests on the way: each law takes their results and gives the answer there. Assumes nothing.
-use mathlib.Core.Bool.{Bool, true, false, not, cond, _&&_, _||_}
+use mathlib.Core.Bool.{Bool, true, false, cond}
 use mathlib.Core.List.{List, [], _∷_}
 use mathlib.Core.Path.{_≡_, refl, sym, ap, subst, _∙_}
 use Prim.Native.Nat.{ℕ, suc, _+_, _-_, _<_, _≤_}
 use native.Mathlib.Numerals.{add-one}
 use native.Mathlib.Omega.{arith}
-use lib.Dec.{eqb, ltb}
+use lib.Dec.{eqb}
 use lib.ListN.{length, take, drop, length-drop, length-take, drop-of-length-le}
 use lib.Seq.{length-take-le}
 use borrow.Author.Tests.{eq-eqb, ne-eqb, lt-ltb, le-ltb}
 use Rattle.laws.specs.Lists.{same}
 use Rattle.table.specs.declared.Table.{Table}
-use Rattle.book.specs.Entry.{Entry}
 use Rattle.book.specs.Text.{isEmpty, split}
-use Rattle.book.specs.Line.{Said, bad, good, sayLine}
+use Rattle.book.specs.Line.{bad, good, sayLine}
 use Rattle.book.specs.Load.{names}
 use Rattle.scan.specs.Scan.{until}
 use Rattle.line.specs.declared.Line.{Line}

@@ -1,27 +1,27 @@
 -- What taking an entry gives, by the tests on the way: each law takes their results and gives the answer there. Assumes nothing.
-use mathlib.Core.Bool.{Bool, true, false, not, cond, _&&_, _||_}
+use mathlib.Core.Bool.{Bool, true, false, cond}
 use mathlib.Core.List.{List, [], _∷_}
 use mathlib.Core.Path.{_≡_, refl, sym, ap, _∙_}
 use Prim.Native.Nat.{ℕ, zero, suc, _+_, _*_, _-_, _%_, _<_, _≤_}
 use native.Mathlib.Omega.{arith}
-use lib.Dec.{eqb, ltb, leb}
-use lib.ListN.{length, getD, set}
-use borrow.Author.Tests.{eq-eqb, ne-eqb, lt-ltb, le-ltb, le-leb, lt-leb}
-use Rattle.laws.specs.Bits.{bitAt, setBit}
+use lib.Dec.{ltb}
+use lib.ListN.{length, getD}
+use borrow.Author.Tests.{lt-ltb, le-ltb, le-leb, lt-leb}
+use Rattle.laws.specs.Bits.{bitAt}
 use Rattle.laws.specs.Lists.{same}
 use Rattle.laws.specs.Tab.{tab}
 use Rattle.table.specs.declared.Table.{Table}
-use Rattle.table.specs.Kind.{kindOf, codeOf}
+use Rattle.table.specs.Kind.{kindOf}
 use Rattle.table.specs.Limits.{WithinLimits}
 use Rattle.table.proofs.KindLaws.{codeOf-kindOf}
-use Rattle.book.specs.Entry.{Form, Entry, edge, end-state, numberOf}
+use Rattle.book.specs.Entry.{edge, end-state, numberOf}
 use Rattle.book.specs.Holds.{keyAt, keyNumber, tableKeys, formCode}
 use Rattle.line.specs.declared.Line.{Line}
 use Rattle.line.specs.Line.{formWith, entryWith}
 use Rattle.load.specs.declared.store.Cell.{Cell}
 use Rattle.load.specs.declared.store.Taken.{Taken}
 use Rattle.load.specs.Proper.{Proper}
-use Rattle.load.specs.Step.{some, sameAt, hasCell, written, withEnd, withEdge, withKey, isNew, formChanges, taken, cellFor, takeEdge, takeEnd, takeEntry, Lens}
+use Rattle.load.specs.Step.{some, sameAt, hasCell, written, withEnd, withEdge, withKeyIn, withKey, isNew, formChanges, taken, takeEdge, takeEnd, takeEntry, Lens}
 
 -- ---- keys
 -- a key has a number up to how many keys there are
@@ -46,22 +46,7 @@ keyNumber-some f n [] r h e q = absurd (e refl)
 keyNumber-some f n (x ∷ k) r h e q = (q, omega (arith, numberOf-tab-le f 0 n (x ∷ k)))
 
 pub withKey-eq : (t : Table) (k w : List ℕ) → w ≡ written (t .«key_bytes») (32 * t .keys) k → length k ≤ 32
-    → _≡_ {A = Table}
-    (record {
-      edges = t .edges;
-      keys = t .keys + 1;
-      «edge_rule» = t .«edge_rule»;
-      «edge_state» = t .«edge_state»;
-      «edge_key» = t .«edge_key»;
-      «edge_kind» = t .«edge_kind»;
-      «edge_next» = t .«edge_next»;
-      «edge_line» = t .«edge_line»;
-      «key_bytes» = w;
-      «key_len» = set (t .«key_len») (t .keys) (length k % 256);
-      ends = t .ends;
-      forms = t .forms;
-    })
-    (withKey t k)
+    → withKeyIn t w (length k % 256) ≡ withKey t k
 withKey-eq t k w e h = let m : length k % 256 ≡ length k = omega arith in rw (e, m)
 
 -- ---- end lines
@@ -115,19 +100,15 @@ module _ (l : Line) (k : List ℕ) where
   pub entryWith-end : 38 ≤ l .kind → entryWith l k ≡ end-state (l .rule) (formWith (l .obj)) (l .state)
   entryWith-end h = rw (le-ltb (l .kind) 38 h)
 
-  pub proper-rule : Proper (entryWith l k) → l .rule < 32
-  proper-rule = go (ltb (l .kind) 38)
+  -- the rule and state of an entry within its limits
+  pub proper-numbers : Proper (entryWith l k) → (l .rule < 32) × (l .state < 16)
+  proper-numbers = go (ltb (l .kind) 38)
     where
-      go : (b : Bool) → Proper (cond b (edge (l .rule) (formWith (l .obj)) (l .state) k (kindOf (l .kind)) (l .next)) (end-state (l .rule) (formWith (l .obj)) (l .state))) → l .rule < 32
-      go true p = p .rule
-      go false p = p .0
-
-  pub proper-state : Proper (entryWith l k) → l .state < 16
-  proper-state = go (ltb (l .kind) 38)
-    where
-      go : (b : Bool) → Proper (cond b (edge (l .rule) (formWith (l .obj)) (l .state) k (kindOf (l .kind)) (l .next)) (end-state (l .rule) (formWith (l .obj)) (l .state))) → l .state < 16
-      go true p = p .state
-      go false p = p .1
+      go : (b : Bool)
+          → Proper (cond b (edge (l .rule) (formWith (l .obj)) (l .state) k (kindOf (l .kind)) (l .next)) (end-state (l .rule) (formWith (l .obj)) (l .state)))
+          → (l .rule < 32) × (l .state < 16)
+      go true p = (p .rule, p .state)
+      go false p = p
 
   pub proper-len : l .kind < 38 → Proper (entryWith l k) → length k ≤ 32
   proper-len h p = let q : Proper (edge (l .rule) (formWith (l .obj)) (l .state) k (kindOf (l .kind)) (l .next)) = rw (entryWith-edge h) at p in q .len

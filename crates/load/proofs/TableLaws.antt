@@ -1,5 +1,5 @@
 -- What one more key, edge or end state does to what stands in a table. Assumes nothing.
-use mathlib.Core.Bool.{Bool, true, false, cond, _&&_, _||_}
+use mathlib.Core.Bool.{Bool, _&&_}
 use mathlib.Core.List.{List, [], _∷_, _++_, append-assoc}
 use mathlib.Core.Path.{_≡_, refl, sym, ap, _∙_}
 use Prim.Native.Nat.{ℕ, zero, suc, _+_, _*_, _<_, _≤_}
@@ -7,9 +7,8 @@ use native.Mathlib.Nat.{add-zero, add-suc, suc-add, zero-add}
 use native.Mathlib.Numerals.{add-one}
 use native.Mathlib.Omega.{arith}
 use lib.Dec.{eqb}
-use lib.ListN.{length, getD, set, take, drop, replicate, length-set, length-replicate, length-drop, take-append-drop}
+use lib.ListN.{length, getD, set, take, drop, length-set, length-replicate, length-drop, take-append-drop}
 use lib.Seq.{getD-set-same, getD-set-other, sets, sets-eq, length-sets, take-append-le, drop-append-le, drop-at, length-take-le, take-append-seam}
-use Rattle.laws.specs.Bits.{setBit}
 use Rattle.laws.specs.Lists.{any}
 use Rattle.laws.specs.Tab.{tab}
 use Rattle.laws.proofs.BitLaws.{length-setBit}

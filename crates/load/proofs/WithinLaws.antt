@@ -1,15 +1,14 @@
 -- A table stays within its limits as entries are taken. Assumes nothing.
 use mathlib.Core.Bool.{Bool, true, false, cond}
 use mathlib.Core.List.{List, [], _∷_}
-use mathlib.Core.Path.{_≡_, refl, sym, ap, _∙_}
+use mathlib.Core.Path.{_≡_, refl}
 use Prim.Native.Nat.{ℕ, zero, suc, _+_, _*_, _<_, _≤_}
 use native.Mathlib.Omega.{arith}
-use lib.Dec.{eqb, leb}
+use lib.Dec.{leb}
 use lib.ListN.{length, getD, set, replicate}
 use borrow.Author.Tests.{leb-false}
 use Rattle.laws.specs.Bits.{bitAt}
 use Rattle.table.specs.declared.Table.{Table}
-use Rattle.table.specs.declared.kind.ValueKind.{ValueKind}
 use Rattle.table.specs.Kind.{codeOf}
 use Rattle.table.specs.Limits.{WithinLimits}
 use Rattle.book.specs.Entry.{Form, obj, arr, Entry, edge, end-state}

@@ -1,5 +1,4 @@
 -- The number and line of 01 for each answer of load: 01, "The stream", Load. Stated. Assumes nothing.
-use mathlib.Core.Bool.{Bool, true, false}
 use Prim.Native.Nat.{ℕ}
 use Rattle.load.specs.declared.Answer.{Answer}
 use Rattle.load.specs.declared.Answer.the-variants.{Accepted, Size, Names, Malformed, AboveLimit, TooMany, FormChanged, Repeated, NoRule, NoRoot, NotAscending}
@@ -13,7 +12,7 @@ abbrev pub tell : ℕ → ℕ → Told
 tell k n = record { number = k; line = n }
 
 -- what 01 calls each answer
-unfoldable pub told : Answer → Told
+abbrev pub told : Answer → Told
 told Accepted = tell 0 0
 told Size = tell 1 0
 told Names = tell 2 1
@@ -25,17 +24,3 @@ told (Repeated n) = tell 7 n
 told (NoRule n) = tell 8 n
 told NoRoot = tell 8 0
 told (NotAscending n) = tell 9 n
-
--- the answer is no refusal
-abbrev pub isAccepted : Answer → Bool
-isAccepted Accepted = true
-isAccepted Size = false
-isAccepted Names = false
-isAccepted (Malformed n) = false
-isAccepted (AboveLimit n) = false
-isAccepted (TooMany n) = false
-isAccepted (FormChanged n) = false
-isAccepted (Repeated n) = false
-isAccepted (NoRule n) = false
-isAccepted NoRoot = false
-isAccepted (NotAscending n) = false

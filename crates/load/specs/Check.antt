@@ -1,12 +1,11 @@
--- Refusals 8 and 9 over a table, as the code finds them. Derived: `CheckLaws` joins them to `checkBook` of the book. Assumes nothing.
-use mathlib.Core.Bool.{Bool, true, false, not, cond, _&&_, _||_}
+-- Refusals 8 and 9 over a table, as the code finds them. Derived: `OrderLaws` joins them to `checkBook` of the book. Assumes nothing.
+use mathlib.Core.Bool.{Bool, not, cond, _&&_, _||_}
 use mathlib.Core.List.{List}
 use Prim.Native.Nat.{ℕ, _+_, _-_}
 use lib.Dec.{leb, ltb, eqb}
 use lib.ListN.{getD}
 use Rattle.table.specs.declared.Table.{Table}
-use Rattle.load.specs.declared.Answer.{Answer}
-use Rattle.load.specs.declared.Answer.the-variants.{Accepted, NoRule, NoRoot, NotAscending}
+use Rattle.load.specs.declared.Answer.the-variants.{NoRule, NoRoot, NotAscending}
 use Rattle.load.specs.declared.Loaded.{Loaded}
 use Rattle.load.specs.Step.{some, firstAt, loaded, refusal}
 

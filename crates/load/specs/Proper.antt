@@ -1,4 +1,4 @@
--- What holds of each entry that a line says: the limits of its fields. Derived: `sayLine-proper`. Assumes nothing.
+-- What holds of each entry that a line says: the limits of its fields. Derived: `ProperLaws.sayLine-proper`. Assumes nothing.
 use mathlib.Core.Bool.{Bool, true, false}
 use mathlib.Core.List.{List}
 use mathlib.Core.Path.{_≡_}

@@ -1,16 +1,15 @@
--- Reading a book into a table, line by line, as the code does it. Derived: `ReadLaws` joins it to `readBook` of the book. Assumes nothing.
-use mathlib.Core.Bool.{Bool, true, false, not, cond, _&&_, _||_}
+-- Reading a book into a table, line by line, as the code does it. Derived: `AgreeLaws.book-agrees` joins it to
+-- `readBook` of the book. Assumes nothing.
+use mathlib.Core.Bool.{Bool, false, not, cond, _&&_, _||_}
 use mathlib.Core.List.{List, [], _∷_}
-use Prim.Native.Nat.{ℕ, zero, suc, _+_, _*_, _<_, _≤_}
-use mathlib.Core.Path.{_≡_}
+use Prim.Native.Nat.{ℕ, zero, suc, _+_, _*_, _≤_}
 use lib.Dec.{leb, ltb, eqb}
 use lib.ListN.{length, getD, set, take, drop, replicate}
 use Rattle.laws.specs.Bits.{bitAt, setBit}
 use Rattle.laws.specs.Lists.{same}
 use Rattle.table.specs.declared.Table.{Table}
-use Rattle.table.specs.declared.kind.ValueKind.{ValueKind}
 use Rattle.table.specs.Kind.{codeOf}
-use Rattle.book.specs.Entry.{Form, obj, arr, Entry, edge, end-state}
+use Rattle.book.specs.Entry.{Entry, edge, end-state}
 use Rattle.book.specs.Text.{isEmpty, split}
 use Rattle.book.specs.Line.{Said, bad, good, sayLine}
 use Rattle.book.specs.Load.{names}
@@ -91,9 +90,9 @@ unfoldable pub written : List ℕ → ℕ → List ℕ → List ℕ
 written w a [] = w
 written w a (b ∷ k) = written (set w a b) (suc a) k
 
--- one key more
-abbrev pub withKey : Table → List ℕ → Table
-withKey t k = record {
+-- one key more, of n bytes, where w is the bytes of all keys
+abbrev pub withKeyIn : Table → List ℕ → ℕ → Table
+withKeyIn t w n = record {
   edges = t .edges;
   keys = t .keys + 1;
   «edge_rule» = t .«edge_rule»;
@@ -102,11 +101,15 @@ withKey t k = record {
   «edge_kind» = t .«edge_kind»;
   «edge_next» = t .«edge_next»;
   «edge_line» = t .«edge_line»;
-  «key_bytes» = written (t .«key_bytes») (32 * t .keys) k;
-  «key_len» = set (t .«key_len») (t .keys) (length k);
+  «key_bytes» = w;
+  «key_len» = set (t .«key_len») (t .keys) n;
   ends = t .ends;
   forms = t .forms;
 }
+
+-- one key more
+abbrev pub withKey : Table → List ℕ → Table
+withKey t k = withKeyIn t (written (t .«key_bytes») (32 * t .keys) k) (length k)
 
 -- all lengths of keys are at most 32
 pub record Lens (lens : List ℕ) : Type 0 where

@@ -1,9 +1,9 @@
 // Load: the table that a rule book says, or the refusal that 01 gives it.
 ghost use mathlib.Core.Path.{_≡_};
-ghost use Rattle.load.specs.Answer.{isAccepted};
+ghost use Rattle.load.specs.Answer.{told};
 ghost use Rattle.load.specs.Loads.{LoadsAs};
 
-mod store; // store.rt: the table of a book, one entry after the other
+pub mod store; // store.rt: the table of a book, one entry after the other
 mod read; // read.rt: a book line by line, refusals 1 to 7
 mod check; // check.rt: the checks after all lines, refusals 8 and 9
 
@@ -40,21 +40,41 @@ pub struct Loaded {
     pub table: Table,
 }
 
-fn is_accepted(a: Answer) -> bool
-    ensures { λ r. ⌜ r ≡ isAccepted a ⌝ }
+// The number of a refusal in 01; 0 for a book that is accepted.
+pub fn number_of(a: Answer) -> u8
+    ensures { λ r. ⌜ r ≡ told a .number ⌝ }
 {
     match a {
-        Answer::Accepted => true,
-        Answer::Size => false,
-        Answer::Names => false,
-        Answer::Malformed(_) => false,
-        Answer::AboveLimit(_) => false,
-        Answer::TooMany(_) => false,
-        Answer::FormChanged(_) => false,
-        Answer::Repeated(_) => false,
-        Answer::NoRule(_) => false,
-        Answer::NoRoot => false,
-        Answer::NotAscending(_) => false,
+        Answer::Accepted => 0,
+        Answer::Size => 1,
+        Answer::Names => 2,
+        Answer::Malformed(_) => 3,
+        Answer::AboveLimit(_) => 4,
+        Answer::TooMany(_) => 5,
+        Answer::FormChanged(_) => 6,
+        Answer::Repeated(_) => 7,
+        Answer::NoRule(_) => 8,
+        Answer::NoRoot => 8,
+        Answer::NotAscending(_) => 9,
+    }
+}
+
+// The line of a refusal in 01; 0 where it gives none.
+pub fn line_of(a: Answer) -> usize
+    ensures { λ r. ⌜ r ≡ told a .line ⌝ }
+{
+    match a {
+        Answer::Accepted => 0,
+        Answer::Size => 0,
+        Answer::Names => 1,
+        Answer::Malformed(n) => n,
+        Answer::AboveLimit(n) => n,
+        Answer::TooMany(n) => n,
+        Answer::FormChanged(n) => n,
+        Answer::Repeated(n) => n,
+        Answer::NoRule(n) => n,
+        Answer::NoRoot => 0,
+        Answer::NotAscending(n) => n,
     }
 }
 
@@ -66,7 +86,7 @@ pub fn load(book: &[u8]) -> Loaded
 {
     let r = read::take_book(book);
     let a = r.answer;
-    if is_accepted(a) {
+    if number_of(a) == 0 {
         return check::check_table(r.table);
     }
     r

@@ -4,7 +4,6 @@ ghost use Prim.Native.Nat.{_≤_};
 ghost use lib.ListN.{length, drop};
 ghost use Rattle.book.specs.Text.{split};
 ghost use Rattle.table.specs.Limits.{WithinLimits};
-ghost use Rattle.line.specs.Line.{said};
 ghost use Rattle.book.specs.Line.{sayLine};
 ghost use Rattle.load.specs.Step.{emptyTable, refusal as refusalOf, lineRefusal, takeSaid, takeLines, takeBook};
 use crate::Answer;

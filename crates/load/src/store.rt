@@ -1,15 +1,15 @@
 // The table of a book, one entry after the other.
 ghost use mathlib.Core.Path.{_≡_};
 ghost use Prim.Native.Nat.{_+_, _*_, _<_, _≤_};
-ghost use lib.ListN.{length, getD};
+ghost use lib.ListN.{length};
 ghost use Rattle.laws.specs.Bits.{bitAt, setBit};
 ghost use Rattle.laws.specs.Tab.{tab};
 ghost use Rattle.table.specs.Limits.{WithinLimits};
 ghost use Rattle.book.specs.Entry.{numberOf};
-ghost use Rattle.book.specs.Holds.{keyAt, keyNumber, tableKeys, formCode};
+ghost use Rattle.book.specs.Holds.{keyAt, keyNumber, formCode};
 ghost use Rattle.line.specs.Line.{formWith, entryWith};
 ghost use Rattle.load.specs.Proper.{Proper};
-ghost use Rattle.load.specs.Step.{some, sameAt, emptyTable, withEnd, withEdge, written, withKey, isNew, formChanges, cellFor, takeEdge, takeEnd, takeEntry, Lens};
+ghost use Rattle.load.specs.Step.{some, sameAt, emptyTable, withEnd, withEdge, written, withKey, isNew, formChanges, takeEdge, takeEnd, takeEntry, Lens};
 use line::Line;
 use table::Table;
 
@@ -125,7 +125,7 @@ fn with_edge(t: Table, form: u8, c: Cell, line: u16) -> Table
 // ---- keys
 
 // The number of a key among the first n, or n where it is new.
-fn find_key<'a>(bytes: &'a [u8], lens: &'a [u8; 128], n: usize, key: &[u8]) -> usize
+pub fn find_key<'a>(bytes: &'a [u8], lens: &'a [u8; 128], n: usize, key: &[u8]) -> usize
     requires { ⌜ (n ≤ 128) × Lens (now lens) × (length (now bytes) ≡ 4096) ⌝ }
     ensures { λ r. ⌜ r ≡ numberOf (tab (keyAt (now (bytes .entry)) (now (lens .entry))) 0 n) (now (key .entry)) ⌝ }
 {

@@ -1,21 +1,22 @@
 -- The tests of a field by their cases: each law takes the results of the scans on the way and gives the answer there. Assumes nothing.
 use mathlib.Core.Bool.{Bool, true, false, not, cond, _&&_, _||_}
 use mathlib.Core.List.{List, [], _∷_}
-use mathlib.Core.Path.{_≡_, refl, sym, ap, _∙_}
+use mathlib.Core.Path.{_≡_, refl, sym, _∙_}
 use Prim.Native.Nat.{ℕ, suc, _+_, _-_, _<_, _≤_}
 use native.Mathlib.Omega.{arith}
-use lib.Dec.{eqb, ltb, leb}
+use lib.Dec.{eqb, ltb}
 use lib.ListN.{length, getD, drop, take}
 use lib.Seq.{take-all}
 use borrow.Author.Tests.{eq-eqb, ne-eqb, lt-ltb, le-ltb, le-leb, lt-leb, ltb-true, ltb-false, not-true, not-false}
 use Rattle.laws.specs.Lists.{same, all}
 use Rattle.table.specs.declared.kind.Scalar.the-variants.{Null, True, False, Str, Num, Int}
+use Rattle.table.specs.declared.kind.ValueKind.{ValueKind}
 use Rattle.table.specs.declared.kind.ValueKind.the-variants.{Plain, Rule}
 use Rattle.table.specs.Kind.{codeOf}
 use Rattle.book.specs.Text.{isEmpty, isDigit, isNumber, numberFrom, number}
 use Rattle.book.specs.Line.{isVisible, isKey, isPlain, behindR, isKind, kindIn, isForm, word-null, word-true, word-false, word-str, word-num, word-int, word-obj, word-arr, dash}
 use Rattle.scan.specs.Scan.{capped, plainCode}
-use Rattle.scan.proofs.ScanLaws.{capped-of-ge, capped-of-lt}
+use Rattle.scan.proofs.ScanLaws.{capped-of-lt}
 
 -- ---- plain kinds: the words are tried in turn
 module _ (s : List ℕ) (a : Bool) (qa : a ≡ same s word-null) where
@@ -52,38 +53,29 @@ module _ (s : List ℕ) (a : Bool) (qa : a ≡ same s word-null) where
             unfolding plainCode
             plainCode-none h = rw (sym qa ∙ na, sym qb ∙ nb, sym qc ∙ nc, sym qd ∙ nd, sym qe ∙ ne, sym qf ∙ h)
 
--- a plain kind is one whose code is below 6
-isPlain-plainCode : (s : List ℕ) → isPlain s ≡ ltb (plainCode s) 6
-unfolding isPlain plainCode
-isPlain-plainCode s = go (same s word-null) (same s word-true) (same s word-false) (same s word-str) (same s word-num) (same s word-int)
+-- a plain kind is one whose code is below 6, and what code the kind has that a field names
+plain-codes : (s : List ℕ)
+    → (isPlain s ≡ ltb (plainCode s) 6) × (codeOf (kindIn s) ≡ cond (ltb (plainCode s) 6) (plainCode s) (6 + number (behindR s)))
+unfolding isPlain kindIn plainCode codeOf
+plain-codes s = go (same s word-null) (same s word-true) (same s word-false) (same s word-str) (same s word-num) (same s word-int)
   where
-    go : (a b c d e f : Bool)
-        → (a || (b || (c || (d || (e || f))))) ≡ ltb (cond a 0 (cond b 1 (cond c 2 (cond d 3 (cond e 4 (cond f 5 6)))))) 6
-    go true b c d e f = refl
-    go false true c d e f = refl
-    go false false true d e f = refl
-    go false false false true e f = refl
-    go false false false false true f = refl
-    go false false false false false true = refl
-    go false false false false false false = refl
+    code : Bool → Bool → Bool → Bool → Bool → Bool → ℕ
+    code a b c d e f = cond a 0 (cond b 1 (cond c 2 (cond d 3 (cond e 4 (cond f 5 6)))))
 
--- the code of the kind that a field names
-codeOf-kindIn : (s : List ℕ) → codeOf (kindIn s) ≡ cond (ltb (plainCode s) 6) (plainCode s) (6 + number (behindR s))
-unfolding kindIn plainCode codeOf
-codeOf-kindIn s = go (same s word-null) (same s word-true) (same s word-false) (same s word-str) (same s word-num) (same s word-int)
-  where
+    kind : Bool → Bool → Bool → Bool → Bool → Bool → ValueKind
+    kind a b c d e f =
+        cond a (Plain Null) (cond b (Plain True) (cond c (Plain False) (cond d (Plain Str) (cond e (Plain Num) (cond f (Plain Int) (Rule (number (behindR s))))))))
+
     go : (a b c d e f : Bool)
-        → codeOf (cond a (Plain Null) (cond b (Plain True) (cond c (Plain False) (cond d (Plain Str) (cond e (Plain Num) (cond f (Plain Int) (Rule (number (behindR s)))))))))
-        ≡ cond (ltb (cond a 0 (cond b 1 (cond c 2 (cond d 3 (cond e 4 (cond f 5 6)))))) 6)
-        (cond a 0 (cond b 1 (cond c 2 (cond d 3 (cond e 4 (cond f 5 6))))))
-        (6 + number (behindR s))
-    go true b c d e f = refl
-    go false true c d e f = refl
-    go false false true d e f = refl
-    go false false false true e f = refl
-    go false false false false true f = refl
-    go false false false false false true = refl
-    go false false false false false false = refl
+        → ((a || (b || (c || (d || (e || f))))) ≡ ltb (code a b c d e f) 6)
+        × (codeOf (kind a b c d e f) ≡ cond (ltb (code a b c d e f) 6) (code a b c d e f) (6 + number (behindR s)))
+    go true b c d e f = (refl, refl)
+    go false true c d e f = (refl, refl)
+    go false false true d e f = (refl, refl)
+    go false false false true e f = (refl, refl)
+    go false false false false true f = (refl, refl)
+    go false false false false false true = (refl, refl)
+    go false false false false false false = (refl, refl)
 
 -- ---- keys
 module _ (s : List ℕ) where
@@ -161,19 +153,19 @@ capped-add v = go (ltb v 32) refl
 module _ (s : List ℕ) (p : ℕ) (qp : p ≡ plainCode s) where
   pub isKind-plain : p < 6 → true ≡ isKind s
   unfolding isKind
-  isKind-plain h = rw (isPlain-plainCode s, sym qp, lt-ltb p 6 h)
+  isKind-plain h = rw (plain-codes s .0, sym qp, lt-ltb p 6 h)
 
   pub codeOf-plain : p < 6 → p ≡ capped 38 (codeOf (kindIn s))
-  codeOf-plain h = rw (codeOf-kindIn s, sym qp, lt-ltb p 6 h) (sym (capped-of-lt 38 p (omega arith)))
+  codeOf-plain h = rw (plain-codes s .1, sym qp, lt-ltb p 6 h) (sym (capped-of-lt 38 p (omega arith)))
 
   module _ (np : 6 ≤ p) where
     pub isKind-odd : (getD s 0 0 ≡ 114 → ⊥) → false ≡ isKind s
     unfolding isKind isNumber
-    isKind-odd g = rw (isPlain-plainCode s, sym qp, le-ltb p 6 np, behindR-none s g)
+    isKind-odd g = rw (plain-codes s .0, sym qp, le-ltb p 6 np, behindR-none s g)
 
     pub codeOf-odd : (getD s 0 0 ≡ 114 → ⊥) → 6 ≡ capped 38 (codeOf (kindIn s))
     unfolding number numberFrom capped
-    codeOf-odd g = rw (codeOf-kindIn s, sym qp, le-ltb p 6 np, behindR-none s g)
+    codeOf-odd g = rw (plain-codes s .1, sym qp, le-ltb p 6 np, behindR-none s g)
 
     pub isKind-none : length s ≡ 0 → false ≡ isKind s
     isKind-none e = isKind-odd (first-of-none s e)
@@ -184,10 +176,10 @@ module _ (s : List ℕ) (p : ℕ) (qp : p ≡ plainCode s) where
     module _ (some : length s ≡ 0 → ⊥) (g : getD s 0 0 ≡ 114) where
       pub isKind-rule : (r : Bool) → r ≡ isNumber (take (length s - 1) (drop 1 s)) → r ≡ isKind s
       unfolding isKind
-      isKind-rule r w = rw (isPlain-plainCode s, sym qp, le-ltb p 6 np, behindR-some s some g) w
+      isKind-rule r w = rw (plain-codes s .0, sym qp, le-ltb p 6 np, behindR-some s some g) w
 
       pub codeOf-rule : (r : ℕ) → r ≡ capped 32 (number (take (length s - 1) (drop 1 s))) → 6 + r ≡ capped 38 (codeOf (kindIn s))
-      codeOf-rule r w = rw (codeOf-kindIn s, sym qp, le-ltb p 6 np, behindR-some s some g, w) (capped-add (number (take (length s - 1) (drop 1 s))))
+      codeOf-rule r w = rw (plain-codes s .1, sym qp, le-ltb p 6 np, behindR-some s some g, w) (capped-add (number (take (length s - 1) (drop 1 s))))
 
 -- ---- forms
 module _ (s : List ℕ) (r : Bool) (q : r ≡ same s word-obj) where

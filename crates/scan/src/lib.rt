@@ -6,8 +6,8 @@ ghost use lib.Dec.{ltb};
 ghost use lib.ListN.{drop};
 ghost use Rattle.laws.specs.Lists.{same, all};
 ghost use Rattle.table.specs.Kind.{codeOf};
-ghost use Rattle.book.specs.Text.{isDigit, isNumber, number};
-ghost use Rattle.book.specs.Line.{isVisible, isKey, isKind, isForm, kindIn};
+ghost use Rattle.book.specs.Text.{between, isNumber, number};
+ghost use Rattle.book.specs.Line.{isKey, isKind, isForm, kindIn};
 ghost use Rattle.scan.specs.Scan.{until, capped, plainCode};
 
 const OBJ: [u8; 3] = *b"obj";
@@ -60,39 +60,19 @@ pub fn equal(s: &[u8], t: &[u8]) -> bool
     i == t.len()
 }
 
-fn is_digit(b: u8) -> bool
-    ensures { λ r. ⌜ r ≡ isDigit b ⌝ }
+fn is_between(low: u8, high: u8, b: u8) -> bool
+    ensures { λ r. ⌜ r ≡ between low high b ⌝ }
 {
-    48 <= b && b <= 57
+    low <= b && b <= high
 }
 
-fn is_visible(b: u8) -> bool
-    ensures { λ r. ⌜ r ≡ isVisible b ⌝ }
-{
-    0x21 <= b && b <= 0x7E
-}
-
-// Every byte from `from` on is a digit.
-fn all_digits(s: &[u8], from: usize) -> bool
-    ensures { λ r. ⌜ r ≡ all isDigit (drop from (now (s .entry))) ⌝ }
+// Every byte from `from` on is from low to high.
+fn all_between(s: &[u8], from: usize, low: u8, high: u8) -> bool
+    ensures { λ r. ⌜ r ≡ all (between low high) (drop from (now (s .entry))) ⌝ }
 {
     let mut i = from;
     while i < s.len() {
-        if !is_digit(s[i]) {
-            return false;
-        }
-        i += 1;
-    }
-    true
-}
-
-// Every byte is visible.
-fn all_visible(s: &[u8]) -> bool
-    ensures { λ r. ⌜ r ≡ all isVisible (now (s .entry)) ⌝ }
-{
-    let mut i = 0;
-    while i < s.len() {
-        if !is_visible(s[i]) {
+        if !is_between(low, high, s[i]) {
             return false;
         }
         i += 1;
@@ -107,10 +87,10 @@ pub fn is_number(s: &[u8]) -> bool
     if s.len() == 0 {
         return false;
     }
-    if !is_digit(s[0]) {
+    if !is_between(48, 57, s[0]) {
         return false;
     }
-    if !all_digits(s, 1) {
+    if !all_between(s, 1, 48, 57) {
         return false;
     }
     if s[0] != 48 {
@@ -164,7 +144,7 @@ pub fn is_key(s: &[u8]) -> bool
     if 32 < s.len() {
         return false;
     }
-    if !all_visible(s) {
+    if !all_between(s, 0, 0x21, 0x7E) {
         return false;
     }
     !equal(s, &DASH)

@@ -1,6 +1,6 @@
 -- `equal` meets its contract: what is left compares as the whole. Assumes nothing.
 use mathlib.Core.Path.{_≡_, refl}
-use Prim.Native.Nat.{_≤_, _+_, _-_}
+use Prim.Native.Nat.{_≤_, _-_}
 use lib.ListN.{length, drop}
 use Rattle.laws.specs.Lists.{same}
 use Rattle.scan.proofs.ScanLaws.{same-differ, same-short, same-more, same-end}

@@ -1,16 +1,12 @@
 // One byte that ends no record: what it does to the record, its key and its frames. The arrays of the table are lent one by one.
-ghost use mathlib.Core.Bool.{cond};
 ghost use mathlib.Core.Path.{_≡_};
 ghost use Prim.Native.Nat.{_-_, _≤_};
-ghost use lib.Dec.{eqb};
-ghost use lib.ListN.{set};
-ghost use Rattle.table.specs.Kind.{ruleFits};
-ghost use Rattle.table.specs.declared.kind.Finished.the-variants as Done;
+ghost use lib.ListN.{length, set};
 ghost use Rattle.load.specs.Step.{Lens};
 ghost use Rattle.lexer.specs.Given.{stepBy};
 ghost use Rattle.lexer.specs.Table.{classAt};
-ghost use Rattle.progress.specs.Memory.{mem, topAt, keyFound, valueAt, rulesAt};
-ghost use Rattle.turn.specs.Turn.{lent, turned};
+ghost use Rattle.progress.specs.Memory.{mem, topAt};
+ghost use Rattle.turn.specs.Turn.{lent, keyIn, ClosedTo, turned};
 use json::lexer::Top;
 use progress::Lex;
 use progress::Task;
@@ -35,20 +31,20 @@ fn top_of(work: &[u8], level: usize) -> Top
     Top::Array
 }
 
-// Keeps a character of the key; there is room for 32.
-fn put_char(key: &mut [u8; 32], len: u8, c: u8)
+// Keeps a character of the key, where there is room for it.
+fn put_char(key: &mut [u8], len: u8, c: u8)
     ensures { λ _. ⌜ now (key .exit) ≡ set (now (key .entry)) len c ⌝ }
 {
     let at = len as usize;
-    if at < 32 {
+    if at < key.len() {
         key[at] = c;
     }
 }
 
 // The number of the key in the book, or 255.
-fn key_found<'a>(key: &'a [u8; 32], len: u8, bytes: &'a [u8; 4096], lens: &'a [u8; 128], keys: usize) -> u8
-    requires { ⌜ (keys ≤ 128) × Lens (now lens) ⌝ }
-    ensures { λ r. ⌜ r ≡ keyFound (lent 0 keys (now (key .entry)) (now (key .entry)) (now (key .entry)) (now (key .entry)) (now (key .entry)) (now (bytes .entry)) (now (lens .entry)) (now (key .entry)) (now (key .entry))) (now (key .entry)) len ⌝ }
+fn key_found<'a>(key: &'a [u8], len: u8, bytes: &'a [u8], lens: &'a [u8; 128], keys: usize) -> u8
+    requires { ⌜ (keys ≤ 128) × Lens (now lens) × (length (now bytes) ≡ 4096) × (length (now key) ≡ 32) ⌝ }
+    ensures { λ r. ⌜ r ≡ keyIn (now (bytes .entry)) (now (lens .entry)) keys (now (key .entry)) len ⌝ }
 {
     let n = len as usize;
     if 32 < n {
@@ -85,8 +81,7 @@ fn close_value<'a>(
     ends: &'a [u8; 64],
     forms: &'a [u8; 32],
 ) -> bool
-    ensures root { λ r. ⌜ r ≡ cond (eqb level 1) (ruleFits (rulesAt (lent edges 0 (now (rules .entry)) (now (states .entry)) (now («edge_keys» .entry)) (now (kinds .entry)) (now (nexts .entry)) (now (rules .entry)) (now (rules .entry)) (now (ends .entry)) (now (forms .entry))) (now (work .entry)) level) 0) root ⌝ }
-    ensures work { λ _. ⌜ now (work .exit) ≡ valueAt (lent edges 0 (now (rules .entry)) (now (states .entry)) (now («edge_keys» .entry)) (now (kinds .entry)) (now (nexts .entry)) (now (rules .entry)) (now (rules .entry)) (now (ends .entry)) (now (forms .entry))) (now (work .entry)) (level - 1) (Done.Rules (rulesAt (lent edges 0 (now (rules .entry)) (now (states .entry)) (now («edge_keys» .entry)) (now (kinds .entry)) (now (nexts .entry)) (now (rules .entry)) (now (rules .entry)) (now (ends .entry)) (now (forms .entry))) (now (work .entry)) level)) ⌝ }
+    ensures { λ r. ⌜ ClosedTo (lent edges 0 (now (rules .entry)) (now (states .entry)) (now («edge_keys» .entry)) (now (kinds .entry)) (now (nexts .entry)) (now (rules .entry)) (now (rules .entry)) (now (ends .entry)) (now (forms .entry))) (now (work .entry)) level root r (now (work .exit)) ⌝ }
 {
     let set = frame::close_level(work, level, edges, rules, states, edge_keys, nexts, forms, ends);
     frame::value_level(work, down(level), edges, rules, states, edge_keys, kinds, nexts, forms, Finished::Rules(set));
@@ -101,7 +96,7 @@ pub fn turn<'a>(
     classes: &'a [u8; 256],
     x: Lex,
     root: bool,
-    key: &mut [u8; 32],
+    key: &mut [u8],
     work: &mut [u8],
     frames: usize,
     edges: usize,
@@ -111,13 +106,13 @@ pub fn turn<'a>(
     edge_keys: &'a [u8; 512],
     kinds: &'a [u8; 512],
     nexts: &'a [u8; 512],
-    bytes: &'a [u8; 4096],
+    bytes: &'a [u8],
     lens: &'a [u8; 128],
     ends: &'a [u8; 64],
     forms: &'a [u8; 32],
     b: u8,
 ) -> Turned
-    requires { ⌜ (keys ≤ 128) × Lens (now lens) ⌝ }
+    requires { ⌜ (keys ≤ 128) × Lens (now lens) × (length (now bytes) ≡ 4096) × (length (now key) ≡ 32) ⌝ }
     ensures { λ r. ⌜ mem (r .lex) (r .root) (now (key .exit)) (now (work .exit)) ≡ turned (lent edges keys (now (rules .entry)) (now (states .entry)) (now («edge_keys» .entry)) (now (kinds .entry)) (now (nexts .entry)) (now (bytes .entry)) (now (lens .entry)) (now (ends .entry)) (now (forms .entry))) frames (mem x root (now (key .entry)) (now (work .entry))) b (stepBy (classAt (now (classes .entry)) b) (x .mode) (topAt (now (work .entry)) (x .level)) b) ⌝ }
 {
     let level = x.level;

@@ -1,0 +1,158 @@
+-- What the parts of a turn tell is what the definitions say: laws in the form of the code's needs, and `turned-stepMem`. Assumes nothing.
+use mathlib.Core.Bool.{Bool, true, false, cond}
+use mathlib.Core.List.{List}
+use mathlib.Core.Path.{_≡_, refl, sym, ap, _∙_}
+use Prim.Native.Nat.{ℕ, _-_, _%_, _<_, _≤_}
+use native.Mathlib.Omega.{arith}
+use lib.Dec.{eqb, ltb}
+use lib.ListN.{length, set, take}
+use lib.Seq.{set-out}
+use borrow.Author.Tests.{eq-eqb, ne-eqb, lt-ltb, le-ltb}
+use Rattle.laws.specs.Tab.{tab}
+use Rattle.json.specs.Lexer.{stepOf}
+use Rattle.json.specs.declared.class.Class.{Class}
+use Rattle.json.specs.declared.lexer.Top.{Top}
+use Rattle.json.specs.declared.lexer.Top.the-variants as Is
+use Rattle.json.specs.declared.lexer.Step.{Step}
+use Rattle.lexer.specs.Given.{stepBy}
+use Rattle.lexer.specs.Table.{classTable, classAt}
+use Rattle.lexer.proofs.GivenLaws.{stepBy-classTable}
+use Rattle.table.specs.declared.Table.{Table}
+use Rattle.table.specs.declared.kind.Scalar.{Scalar}
+use Rattle.table.specs.declared.kind.Finished.the-variants as Done
+use Rattle.table.specs.Kind.{ruleFits}
+use Rattle.book.specs.Entry.{numberOf}
+use Rattle.book.specs.Holds.{keyAt, tableKeys}
+use Rattle.frame.specs.Frame.{frameAt, putFrame, isObject, kindNumber}
+use Rattle.frame.specs.Edges.{edgesOf}
+use Rattle.frame.specs.Ops.{opened, keyed, valued, closed}
+use Rattle.progress.specs.declared.Lex.{Lex}
+use Rattle.progress.specs.declared.Task.{Task}
+use Rattle.progress.specs.declared.Task.the-variants as To
+use Rattle.progress.specs.declared.Advanced.{Advanced}
+use Rattle.progress.specs.Lex.{advanced}
+use Rattle.progress.specs.Memory.{Mem, mem, topAt, orUnknown, keyFound, valueAt, rulesAt, closeAt, perform, stepMem}
+use Rattle.turn.specs.Turn.{lent, keyIn, ClosedTo, turned}
+
+-- ---- the innermost open value
+
+pub top-bare : (w : List ℕ) (l : ℕ) → l ≡ 0 → Is.Bare ≡ topAt w l
+unfolding topAt
+top-bare w l e = rw (eq-eqb l 0 e)
+
+object-of-kind : (b : Bool) → _≡_ {A = ℕ} (cond b 1 2) 1 → b ≡ true
+object-of-kind true e = refl
+object-of-kind false e = absurd (omega arith)
+
+array-of-kind : (b : Bool) → (_≡_ {A = ℕ} (cond b 1 2) 1 → ⊥) → b ≡ false
+array-of-kind true e = absurd (e refl)
+array-of-kind false e = refl
+
+pub top-object : (w : List ℕ) (l k : ℕ) → (l ≡ 0 → ⊥) → k ≡ kindNumber (frameAt w l) → k ≡ 1 → Is.Object ≡ topAt w l
+unfolding topAt kindNumber
+top-object w l k n e f = simp (ne-eqb l 0 n, object-of-kind (isObject (frameAt w l)) (sym e ∙ f))
+
+pub top-array : (w : List ℕ) (l k : ℕ) → (l ≡ 0 → ⊥) → k ≡ kindNumber (frameAt w l) → (k ≡ 1 → ⊥) → Is.Array ≡ topAt w l
+unfolding topAt kindNumber
+top-array w l k n e f = simp (ne-eqb l 0 n, array-of-kind (isObject (frameAt w l)) (λ q. f (e ∙ q)))
+
+-- ---- the key
+
+pub put-past : (key : List ℕ) (len c : ℕ) → length key ≤ len → key ≡ set key len c
+put-past key len c h = sym (set-out key len c h)
+
+module _ (bytes lens : List ℕ) (keys : ℕ) (key : List ℕ) (len : ℕ) where
+  pub found-long : 32 < len → 255 ≡ keyIn bytes lens keys key len
+  unfolding keyIn
+  found-long h = rw (lt-ltb 32 len h)
+
+  pub found-known : (k : ℕ) → len ≤ 32 → keys ≤ 128 → k ≡ numberOf (tab (keyAt bytes lens) 0 keys) (take len key) → k < keys → k % 256 ≡ keyIn bytes lens keys key len
+  unfolding keyIn orUnknown
+  found-known k h m e l =
+      let small : k % 256 ≡ k = omega arith in
+      rw small (simp (le-ltb 32 len h, sym e, lt-ltb k keys l))
+
+  pub found-unknown : (k : ℕ) → len ≤ 32 → k ≡ numberOf (tab (keyAt bytes lens) 0 keys) (take len key) → keys ≤ k → 255 ≡ keyIn bytes lens keys key len
+  unfolding keyIn orUnknown
+  found-unknown k h e l = simp (le-ltb 32 len h, sym e, le-ltb k keys l)
+
+-- of a table's keys it is the number that the memory asks for
+keyIn-keyFound : (t : Table) (key : List ℕ) (len : ℕ) → keyIn (t .«key_bytes») (t .«key_len») (t .keys) key len ≡ keyFound t key len
+unfolding keyIn keyFound tableKeys
+keyIn-keyFound t key len = refl
+
+-- ---- closing
+
+module _ (t : Table) (w : List ℕ) (l s : ℕ)
+    (e : s ≡ closed (edgesOf (t .edges) (t .«edge_rule») (t .«edge_state») (t .«edge_key») (t .«edge_next»)) (t .forms) (t .ends) (frameAt w l)) where
+  pub root-one : (root r : Bool) → l ≡ 1 → r ≡ ruleFits s 0 → r ≡ cond (eqb l 1) (ruleFits (rulesAt t w l) 0) root
+  unfolding rulesAt
+  root-one root r h f = rw (eq-eqb l 1 h) (f ∙ ap (λ (n : ℕ). ruleFits n 0) e)
+
+  pub root-kept : (root : Bool) → (l ≡ 1 → ⊥) → root ≡ cond (eqb l 1) (ruleFits (rulesAt t w l) 0) root
+  root-kept root h = rw (ne-eqb l 1 h)
+
+  pub work-closed : (d : ℕ) (v : List ℕ) → d ≡ l - 1
+      → v ≡ putFrame w d (valued (edgesOf (t .edges) (t .«edge_rule») (t .«edge_state») (t .«edge_key») (t .«edge_next»)) (t .«edge_kind») (t .forms) (Done.Rules s) (frameAt w d))
+      → v ≡ valueAt t w (l - 1) (Done.Rules (rulesAt t w l))
+  unfolding rulesAt valueAt
+  work-closed d v f g = rw (← e, ← f) g
+
+-- ---- the tasks
+
+-- what was found of the byte, from the kind of the innermost open value
+module _ (t : Table) (n : ℕ) (m : Mem) (b : ℕ) (k : Class) (top : Top) (a : Advanced) (e : top ≡ topAt (m .work) (m .lex .level))
+    (f : a ≡ advanced (m .lex) n b (stepBy k (m .lex .mode) top b)) where
+  St : Step
+  St = stepBy k (m .lex .mode) (topAt (m .work) (m .lex .level)) b
+
+  found : a ≡ advanced (m .lex) n b (stepBy k (m .lex .mode) (topAt (m .work) (m .lex .level)) b)
+  found = f ∙ ap (λ (x : Top). advanced (m .lex) n b (stepBy k (m .lex .mode) x b)) e
+
+  pub turn-by : (z : Task) (y : Mem) → a .task ≡ z → y ≡ perform z t m (a .lex) → y ≡ turned t n m b (stepBy k (m .lex .mode) (topAt (m .work) (m .lex .level)) b)
+  turn-by z y g h =
+      h ∙ ap (λ (x : Task). perform x t m (a .lex)) (sym g) ∙ ap (λ (x : Advanced). perform (x .task) t m (x .lex)) found
+
+module _ (t : Table) (m : Mem) (x : Lex) where
+  pub put-done : (c : ℕ) (key : List ℕ) → key ≡ set (m .key) (m .lex .len) c → mem x (m .root) key (m .work) ≡ perform (To.Put c) t m x
+  put-done c key e = rw e
+
+  pub named-done : (k : ℕ) (w : List ℕ) → k ≡ keyIn (t .«key_bytes») (t .«key_len») (t .keys) (m .key) (m .lex .len) → w ≡ putFrame (m .work) (m .lex .level) (keyed k (frameAt (m .work) (m .lex .level)))
+      → mem x (m .root) (m .key) w ≡ perform To.Named t m x
+  named-done k w e f = rw (f, e ∙ keyIn-keyFound t (m .key) (m .lex .len))
+
+  pub array-done : (w : List ℕ) → w ≡ putFrame (m .work) (x .level) (opened (t .forms) false) → mem x (m .root) (m .key) w ≡ perform To.OpenArray t m x
+  array-done w e = rw e
+
+  pub object-done : (w : List ℕ) → w ≡ putFrame (m .work) (x .level) (opened (t .forms) true) → mem x (m .root) (m .key) w ≡ perform To.OpenObject t m x
+  object-done w e = rw e
+
+  valued-done : (s : Scalar) (w : List ℕ)
+      → w ≡ putFrame (m .work) (m .lex .level) (valued (edgesOf (t .edges) (t .«edge_rule») (t .«edge_state») (t .«edge_key») (t .«edge_next»)) (t .«edge_kind») (t .forms) (Done.Scalar s) (frameAt (m .work) (m .lex .level)))
+      → w ≡ valueAt t (m .work) (m .lex .level) (Done.Scalar s)
+  unfolding valueAt
+  valued-done s w e = e
+
+  pub finish-done : (s : Scalar) (w : List ℕ)
+      → w ≡ putFrame (m .work) (m .lex .level) (valued (edgesOf (t .edges) (t .«edge_rule») (t .«edge_state») (t .«edge_key») (t .«edge_next»)) (t .«edge_kind») (t .forms) (Done.Scalar s) (frameAt (m .work) (m .lex .level)))
+      → mem x (m .root) (m .key) w ≡ perform (To.Finish s) t m x
+  finish-done s w e = rw (valued-done s w e)
+
+  pub close-done : (root : Bool) (w : List ℕ)
+      → ClosedTo (lent (t .edges) 0 (t .«edge_rule») (t .«edge_state») (t .«edge_key») (t .«edge_kind») (t .«edge_next») (t .«edge_rule») (t .«edge_rule») (t .ends) (t .forms)) (m .work) (m .lex .level) (m .root) root w
+      → mem x root (m .key) w ≡ perform To.Close t m x
+  unfolding closeAt rulesAt valueAt
+  close-done root w e = rw (e .root, e .work)
+
+  pub number-close-done : (s : Scalar) (u : List ℕ) (root : Bool) (w : List ℕ)
+      → u ≡ putFrame (m .work) (m .lex .level) (valued (edgesOf (t .edges) (t .«edge_rule») (t .«edge_state») (t .«edge_key») (t .«edge_next»)) (t .«edge_kind») (t .forms) (Done.Scalar s) (frameAt (m .work) (m .lex .level)))
+      → ClosedTo (lent (t .edges) 0 (t .«edge_rule») (t .«edge_state») (t .«edge_key») (t .«edge_kind») (t .«edge_next») (t .«edge_rule») (t .«edge_rule») (t .ends) (t .forms)) u (m .lex .level) (m .root) root w
+      → mem x root (m .key) w ≡ perform (To.NumberClose s) t m x
+  unfolding closeAt rulesAt valueAt
+  number-close-done s u root w g e = rw (e .root, e .work, g)
+
+-- with the table of classes a turn is the step of the memory
+pub turned-stepMem : (t : Table) (n : ℕ) (m : Mem) (b : ℕ) → b < 256
+    → turned t n m b (stepBy (classAt classTable b) (m .lex .mode) (topAt (m .work) (m .lex .level)) b) ≡ stepMem t n m b
+unfolding stepMem
+turned-stepMem t n m b h = ap (λ (st : Step). turned t n m b st) (stepBy-classTable (m .lex .mode) (topAt (m .work) (m .lex .level)) b h)

@@ -1,0 +1,108 @@
+-- `feed` meets its contract. The loop's invariant: what is left to read gives what the whole piece gives. Assumes nothing.
+use mathlib.Core.Bool.{true, false}
+use mathlib.Core.Path.{_≡_, refl, sym, _∙_}
+use Prim.Native.Nat.{_≤_, _-_}
+use native.Mathlib.Omega.{arith}
+use lib.ListN.{length, drop}
+use Rattle.progress.specs.Memory.{mem, runMem}
+use Rattle.reader.proofs.ReaderLaws.{limits-told, keys-le, lens-le, frames-le, feed-table, feed-reader, feed-short, run-turn, out-ended, out-done}
+use borrow.Author.Needs.{needs}
+use Rattle.reader.proofs.feed.Statement.{statement}
+use Rattle.reader.proofs.feed.Tie as tie
+
+abbrev Inv-loop : tie.InvT-loop
+Inv-loop work₀ piece t frames classes tally lex₀ root₀ key₀ i₀ work lex root key i =
+    (i ≤ length piece) × (length work ≡ length work₀) × (runMem t frames (mem lex root key work) i (drop i piece) ≡ runMem t frames (mem lex₀ root₀ key₀ work₀) 0 piece)
+
+abbrev μ-loop : tie.MeasureT-loop
+μ-loop work₀ piece t frames classes tally lex₀ root₀ key₀ i₀ work lex root key i = length piece - i
+
+fit-limits-requires : tie.Need-fit-limits-requires Inv-loop μ-loop
+fit-limits-requires c κs = search needs
+
+returns : tie.Need-returns Inv-loop μ-loop
+returns c = feed-table (c .before .before .before .before .before .before .before .before .before .before .before .before .before .args .r) (c .before .before .before .before .before .before .before .before .before .before .before .before .before .args .t2) (c .before .before .before .before .before .before .before .before .before .before .before .before .before .args .work .now) _ (limits-told (c .before .before .before .before .before .before .before .before .before .before .before .before .before .args .t2) _ false (c .before .fit-limits .ensures) (c .if1 .left))
+
+fit-reader-requires : tie.Need-fit-reader-requires Inv-loop μ-loop
+fit-reader-requires c κs = search needs
+
+returns-2 : tie.Need-returns-2 Inv-loop μ-loop
+returns-2 c = feed-reader (c .before .before .before .before .before .before .before .before .before .before .before .before .before .before .before .args .r) (c .before .before .before .before .before .before .before .before .before .before .before .before .before .before .before .args .t2) (c .before .before .before .before .before .before .before .before .before .before .before .before .before .before .before .args .work .now) _ (limits-told (c .before .before .before .before .before .before .before .before .before .before .before .before .before .before .before .args .t2) _ true (c .before .before .before .fit-limits .ensures) (c .before .before .if1 .taken)) (sym (c .before .fit-reader .ensures) ∙ c .if2 .left)
+
+mul-if3 : tie.Need-mul-if3 Inv-loop μ-loop
+mul-if3 c = omega (arith, frames-le _ _ _ (sym (c .before .fit-reader .ensures) ∙ c .if2 .taken))
+
+returns-3 : tie.Need-returns-3 Inv-loop μ-loop
+returns-3 c = feed-short (c .before .before .before .before .before .before .before .before .before .before .before .before .before .before .before .before .args .r) (c .before .before .before .before .before .before .before .before .before .before .before .before .before .before .before .before .args .t2) (c .before .before .before .before .before .before .before .before .before .before .before .before .before .before .before .before .args .work .now) _ (limits-told (c .before .before .before .before .before .before .before .before .before .before .before .before .before .before .before .before .args .t2) _ true (c .before .before .before .before .fit-limits .ensures) (c .before .before .before .if1 .taken)) (sym (c .before .before .fit-reader .ensures) ∙ c .before .if2 .taken) (c .if3 .taken)
+
+classes-requires : tie.Need-classes-requires Inv-loop μ-loop
+classes-requires c κs = search needs
+
+loop-holds : tie.Need-loop-holds Inv-loop μ-loop
+loop-holds c = let z : 0 ≤ 1 = c .before .before .before .before .before .before .before .before .before .before .before .before .before .before .before .before .before .before .before .good .0 .1 .2 .3 in ?
+
+shared-slice-read-b : tie.Need-shared-slice-read-b Inv-loop μ-loop
+shared-slice-read-b c = search needs
+
+add-i : tie.Need-add-i Inv-loop μ-loop
+add-i c = search needs
+
+ends-record-requires : tie.Need-ends-record-requires Inv-loop μ-loop
+ends-record-requires c κs = search needs
+
+ended-requires : tie.Need-ended-requires Inv-loop μ-loop
+ended-requires c κs = search needs
+
+same-length : tie.Need-same-length Inv-loop μ-loop
+same-length c = search needs
+
+returns-4 : tie.Need-returns-4 Inv-loop μ-loop
+returns-4 c = rw (c .ended .ensures) (out-ended (c .before .before .before .before .before .before .before .before .before .before .before .before .before .before .before .before .before .before .before .before .before .before .before .before .before .args .r) (c .before .before .before .before .before .before .before .before .before .before .before .before .before .before .before .before .before .before .before .before .before .before .before .before .before .args .t2) (c .before .before .before .before .before .before .before .before .before .before .before .before .before .before .before .before .before .before .before .before .before .before .before .before .before .args .work .now) (c .before .before .before .before .before .before .before .before .before .before .before .before .before .before .before .before .before .before .before .before .before .before .before .before .before .args .piece .now) (mem (c .before .before .before .before .before .loop .lex) (c .before .before .before .before .before .loop .root) (c .before .before .before .before .before .loop .key) (c .before .before .before .before .before .loop .work)) (c .before .before .before .before .before .loop .i) (limits-told (c .before .before .before .before .before .before .before .before .before .before .before .before .before .before .before .before .before .before .before .before .before .before .before .before .before .args .t2) _ true (c .before .before .before .before .before .before .before .before .before .before .before .before .before .fit-limits .ensures) (c .before .before .before .before .before .before .before .before .before .before .before .before .if1 .taken)) (sym (c .before .before .before .before .before .before .before .before .before .before .before .fit-reader .ensures) ∙ c .before .before .before .before .before .before .before .before .before .before .if2 .taken) (c .before .before .before .before .before .before .before .before .before .if3 .left) (c .before .before .before .before .before .loop .inv .2) (c .before .before .before .before .loop-test .taken) (sym (c .before .before .ends-record .ensures) ∙ c .before .if4 .taken))
+
+slice-aggregate-turn : tie.Need-slice-aggregate-turn Inv-loop μ-loop
+slice-aggregate-turn c = let z : 0 ≤ 1 = c .before .before .before .before .before .before .before .before .before .before .before .before .before .before .before .before .x .given in ?
+
+turn-requires : tie.Need-turn-requires Inv-loop μ-loop
+turn-requires c κs = (keys-le (c .before .before .before .before .before .before .before .before .before .before .before .before .before .before .before .before .before .before .before .before .before .before .before .before .before .before .before .before .before .before .before .before .before .before .before .before .before .before .args .t2) (limits-told (c .before .before .before .before .before .before .before .before .before .before .before .before .before .before .before .before .before .before .before .before .before .before .before .before .before .before .before .before .before .before .before .before .before .before .before .before .before .before .args .t2) _ true (c .before .before .before .before .before .before .before .before .before .before .before .before .before .before .before .before .before .before .before .before .before .before .before .before .before .before .fit-limits .ensures) (c .before .before .before .before .before .before .before .before .before .before .before .before .before .before .before .before .before .before .before .before .before .before .before .before .before .if1 .taken)), lens-le (c .before .before .before .before .before .before .before .before .before .before .before .before .before .before .before .before .before .before .before .before .before .before .before .before .before .before .before .before .before .before .before .before .before .before .before .before .before .before .args .t2) (limits-told (c .before .before .before .before .before .before .before .before .before .before .before .before .before .before .before .before .before .before .before .before .before .before .before .before .before .before .before .before .before .before .before .before .before .before .before .before .before .before .args .t2) _ true (c .before .before .before .before .before .before .before .before .before .before .before .before .before .before .before .before .before .before .before .before .before .before .before .before .before .before .fit-limits .ensures) (c .before .before .before .before .before .before .before .before .before .before .before .before .before .before .before .before .before .before .before .before .before .before .before .before .before .if1 .taken)), search needs, search needs)
+
+loop-less : tie.Need-loop-less Inv-loop μ-loop
+loop-less c = let z : 0 ≤ 1 = c .before .before .before .before .before .before .before .before .before .before .before .before .before .before .before .before .before .before .before .before .before .before .before .before .before .tally .given in ?
+
+loop-again : tie.Need-loop-again Inv-loop μ-loop
+loop-again c = 
+    (search needs, search needs,
+    run-turn (c .before .before .before .before .before .before .before .before .before .before .before .before .before .before .before .before .before .before .before .before .before .before .before .before .before .before .before .before .before .before .before .before .before .before .before .before .before .before .before .before .before .before .before .args .t2) (c .before .before .before .before .before .before .before .before .before .before .before .before .before .before .before .before .before .before .before .before .before .before .before .before .before .before .before .before .before .before .before .before .before .before .before .before .before .before .before .before .before .before .before .args .r .frames) (mem (c .before .before .before .before .before .before .before .before .before .before .before .before .before .before .before .before .before .before .before .before .before .before .before .loop .lex) (c .before .before .before .before .before .before .before .before .before .before .before .before .before .before .before .before .before .before .before .before .before .before .before .loop .root) (c .before .before .before .before .before .before .before .before .before .before .before .before .before .before .before .before .before .before .before .before .before .before .before .loop .key) (c .before .before .before .before .before .before .before .before .before .before .before .before .before .before .before .before .before .before .before .before .before .before .before .loop .work)) (c .before .before .before .before .before .before .before .before .before .before .before .before .before .before .before .before .before .before .before .before .before .before .before .before .before .before .before .before .before .before .before .before .before .before .before .before .before .before .before .before .before .before .before .args .piece .now) (c .before .before .before .before .before .before .before .before .before .before .before .before .before .before .before .before .before .before .before .before .before .before .before .loop .i) _ (c .before .before .before .before .before .before .before .before .before .before .before .before .before .before .before .before .before .before .before .before .before .before .loop-test .taken) (c .before .before .before .before .before .before .before .before .before .before .before .before .before .before .before .before .before .before .before .before .before .shared-slice-known2 .given (c .before .before .before .before .before .before .before .before .before .before .before .before .before .before .before .before .before .before .before .before .before .before .before .loop .i)) (sym (c .before .before .before .before .before .before .before .before .before .before .before .before .before .before .before .before .before .before .before .before .ends-record .ensures) ∙ c .before .before .before .before .before .before .before .before .before .before .before .before .before .before .before .before .before .before .before .if4 .left)
+    (rw (← c .before .before .before .before .before .before .before .before .before .before .before .before .before .before .before .before .before .before .before .before .before .before .before .before .before .before .classes .ensures) (c .before .before .before .before .turn .ensures)) ∙ c .before .before .before .before .before .before .before .before .before .before .before .before .before .before .before .before .before .before .before .before .before .before .before .loop .inv .2)
+
+same-length-2 : tie.Need-same-length-2 Inv-loop μ-loop
+same-length-2 c = search needs
+
+returns-5 : tie.Need-returns-5 Inv-loop μ-loop
+returns-5 c = out-done (c .before .before .before .before .before .before .before .before .before .before .before .before .before .before .before .before .before .before .before .before .before .args .r) (c .before .before .before .before .before .before .before .before .before .before .before .before .before .before .before .before .before .before .before .before .before .args .t2) (c .before .before .before .before .before .before .before .before .before .before .before .before .before .before .before .before .before .before .before .before .before .args .work .now) (c .before .before .before .before .before .before .before .before .before .before .before .before .before .before .before .before .before .before .before .before .before .args .piece .now) (mem (c .before .loop .lex) (c .before .loop .root) (c .before .loop .key) (c .before .loop .work)) (c .before .loop .i) (limits-told (c .before .before .before .before .before .before .before .before .before .before .before .before .before .before .before .before .before .before .before .before .before .args .t2) _ true (c .before .before .before .before .before .before .before .before .before .fit-limits .ensures) (c .before .before .before .before .before .before .before .before .if1 .taken)) (sym (c .before .before .before .before .before .before .before .fit-reader .ensures) ∙ c .before .before .before .before .before .before .if2 .taken) (c .before .before .before .before .before .if3 .left) (c .before .loop .inv .2) (c .loop-test .left)
+
+pub feed-spec : {M : Type 1} → statement M
+feed-spec =
+    tie.close
+    (tie.spec
+    Inv-loop
+    μ-loop
+    fit-limits-requires
+    returns
+    fit-reader-requires
+    returns-2
+    mul-if3
+    returns-3
+    classes-requires
+    loop-holds
+    shared-slice-read-b
+    add-i
+    ends-record-requires
+    ended-requires
+    same-length
+    returns-4
+    slice-aggregate-turn
+    turn-requires
+    loop-less
+    loop-again
+    same-length-2
+    returns-5)

@@ -16,7 +16,7 @@ use Rattle.book.specs.Line.{bad, good, sayLine}
 use Rattle.book.specs.Load.{names}
 use Rattle.scan.specs.Scan.{until}
 use Rattle.line.specs.declared.Line.{Line}
-use Rattle.line.specs.Line.{seg, entryWith, said}
+use Rattle.line.specs.Line.{seg, entryWith, said, Says}
 use Rattle.line.proofs.SplitLaws.{split-more, split-last, split-some}
 use Rattle.load.specs.declared.Answer.{Answer}
 use Rattle.load.specs.declared.Answer.the-variants.{Size, Names, Malformed}
@@ -27,7 +27,7 @@ use Rattle.load.specs.Step.{emptyTable, taken, takeEntry, takeSaid, line
 use Rattle.load.proofs.ProperLaws.{sayLine-proper, and-true, true-not-false}
 
 -- ---- a line
-module _ (l : List ℕ) (j : Line) (q : said j l ≡ sayLine l) where
+module _ (l : List ℕ) (j : Line) (told : Says l (sayLine l) j) where
   -- the key, as the part of the line that is lent
   abbrev key : List ℕ
   key = take (j .«key_at» + j .«key_len» - j .«key_at») (drop (j .«key_at») l)
@@ -35,11 +35,11 @@ module _ (l : List ℕ) (j : Line) (q : said j l ≡ sayLine l) where
   says : j .fault ≡ 0 → good (entryWith j key) ≡ sayLine l
   says h =
       let e : j .«key_at» + j .«key_len» - j .«key_at» ≡ j .«key_len» = omega arith in
-      rw e (rw (eq-eqb (j .fault) 0 h) at q)
+      rw e (rw (eq-eqb (j .fault) 0 h) at (told .says))
 
   pub line-fault : (n : ℕ) (t : Table) → (j .fault ≡ 0 → ⊥) → taken (j .fault) t ≡ takeSaid n t (sayLine l)
   unfolding takeSaid
-  line-fault n t h = let z : bad (j .fault) ≡ sayLine l = rw (ne-eqb (j .fault) 0 h) at q in rw (sym z)
+  line-fault n t h = let z : bad (j .fault) ≡ sayLine l = rw (ne-eqb (j .fault) 0 h) at (told .says) in rw (sym z)
 
   pub line-proper : j .fault ≡ 0 → Proper (entryWith j key)
   line-proper h = subst ProperSaid (sym (says h)) (sayLine-proper l)

@@ -56,7 +56,7 @@ pub or-false : (b : Bool) → (b || false) ≡ b
 or-false true = refl
 or-false false = refl
 
-or-true : (b : Bool) → (b || true) ≡ true
+pub or-true : (b : Bool) → (b || true) ≡ true
 or-true true = refl
 or-true false = refl
 

@@ -20,7 +20,7 @@ use Rattle.book.specs.Line.{isForm, formOf, isKey, keyOf, isKind, kindIn, small
 use Rattle.scan.specs.Scan.{capped}
 use Rattle.line.specs.declared.Line.{Line}
 use Rattle.line.specs.declared.Cuts.{Cuts}
-use Rattle.line.specs.Line.{saidWith, said, faulty, endLine, Judged, Says, seg, Cut, sayCut, formedEnd, formedEdge}
+use Rattle.line.specs.Line.{faulty, endLine, Judged, Says, seg, Cut, sayCut, formedEnd, formedEdge}
 
 -- ---- well-formed fields
 module _ (k m : List ℕ) (r : Bool) (q : r ≡ same k dash) where

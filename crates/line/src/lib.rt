@@ -1,6 +1,6 @@
 // One line of a book: its fields, and what it says by itself, refusals 3 and 4.
 ghost use mathlib.Core.Path.{_≡_};
-ghost use Prim.Native.Nat.{_+_, _<_, _≤_};
+ghost use Prim.Native.Nat.{_+_, _<_};
 ghost use lib.ListN.{length};
 ghost use Rattle.book.specs.Line.{formed as isFormed, keyOf, sayFields, sayLine};
 ghost use Rattle.line.specs.Line.{noCuts, Cut, sayCut, Judged, Says, faulty, endLine, formedEnd, formedEdge};

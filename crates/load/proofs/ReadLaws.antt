@@ -16,7 +16,7 @@ use Rattle.book.specs.Line.{bad, good, sayLine}
 use Rattle.book.specs.Load.{names}
 use Rattle.scan.specs.Scan.{until}
 use Rattle.line.specs.declared.Line.{Line}
-use Rattle.line.specs.Line.{seg, entryWith, said, Says}
+use Rattle.line.specs.Line.{seg, entryWith, Says}
 use Rattle.line.proofs.SplitLaws.{split-more, split-last, split-some}
 use Rattle.load.specs.declared.Answer.{Answer}
 use Rattle.load.specs.declared.Answer.the-variants.{Size, Names, Malformed}

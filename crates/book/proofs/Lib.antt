@@ -1,3 +1,6 @@
+pub mod TruthLaws
 pub mod KeyLaws
 pub mod HoldLaws
+pub mod NumberLaws
+pub mod RepeatLaws
 pub mod Examples

@@ -13,11 +13,11 @@ use Rattle.book.specs.Entry.{Entry, keysOf, clash}
 use Rattle.book.specs.Load.{Read, refused, entries, readBook, hasRule, dangles, firstLine, clashes, firstClash, refuse, checkBook, checked, loads}
 use Rattle.book.specs.Holds.{Holds}
 use Rattle.book.proofs.HoldLaws.{Each, each-map, each-append}
+use Rattle.book.proofs.TruthLaws.{or-parts}
 use Rattle.load.specs.declared.Loaded.{Loaded}
 use Rattle.load.specs.Proper.{Proper}
 use Rattle.load.specs.Step.{tableOf, takeBook}
 use Rattle.load.specs.Loads.{LoadsAs}
-use Rattle.load.proofs.ProperLaws.{true-not-false}
 use Rattle.load.proofs.KeptLaws.{Kept}
 use Rattle.load.proofs.AgreeLaws.{Agree, kept-none, book-agrees}
 
@@ -26,10 +26,6 @@ module _ (ks : List (List ℕ)) where
   -- no entry of the one list leads to one of the other without its key rising
   abbrev Apart : List Entry → List Entry → Type 0
   Apart l r = Each (λ a. Each (λ b. clash ks a b ≡ false) r) l
-
-  or-parts : (a b : Bool) → (a || b) ≡ false → (a ≡ false) × (b ≡ false)
-  or-parts true b e = true-not-false true refl e
-  or-parts false b e = (refl, e)
 
   none-of-any : (x : Entry) (l : List Entry) → any (clashes ks x) l ≡ false → Each (λ y. (clash ks y x ≡ false) × (clash ks x y ≡ false)) l
   unfolding any clashes

@@ -14,6 +14,7 @@ use Rattle.table.specs.declared.Table.{Table}
 use Rattle.book.specs.Text.{isEmpty, split}
 use Rattle.book.specs.Line.{bad, good, sayLine}
 use Rattle.book.specs.Load.{names}
+use Rattle.book.proofs.TruthLaws.{true-not-false, and-true}
 use Rattle.scan.specs.Scan.{until}
 use Rattle.line.specs.declared.Line.{Line}
 use Rattle.line.specs.Line.{seg, entryWith, Says}
@@ -24,7 +25,7 @@ use Rattle.load.specs.declared.Loaded.{Loaded}
 use Rattle.load.specs.declared.store.Taken.{Taken}
 use Rattle.load.specs.Proper.{Proper, ProperSaid}
 use Rattle.load.specs.Step.{emptyTable, taken, takeEntry, takeSaid, lineRefusal, loaded, refusal, takeOn, takeLines, takeBook}
-use Rattle.load.proofs.ProperLaws.{sayLine-proper, and-true, true-not-false}
+use Rattle.load.proofs.ProperLaws.{sayLine-proper}
 
 -- ---- a line
 module _ (l : List ℕ) (j : Line) (told : Says l (sayLine l) j) where

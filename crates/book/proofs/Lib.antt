@@ -3,4 +3,5 @@ pub mod KeyLaws
 pub mod HoldLaws
 pub mod NumberLaws
 pub mod RepeatLaws
+pub mod EntryLaws
 pub mod Examples

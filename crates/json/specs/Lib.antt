@@ -1,2 +1,13 @@
 pub mod Tree
 pub mod Meaning
+pub mod TreeMeaning
+pub mod Bytes
+pub mod Utf8
+pub mod Strings
+pub mod Numbers
+pub mod Grammar
+pub mod Classes
+pub mod Lexer
+pub mod Machine
+pub mod Levels
+pub mod Examples

@@ -31,7 +31,7 @@ fold f a [] = a
 fold f a (c ∷ s) = fold f (f a c) s
 
 module _ (𝕄 : Meaning) where
-  open Meaning 𝕄 using (Result, InString, InNumber, InArray, InObject, of-word, string-start, string-char, of-string, number-start, number-byte, of-number, array-start, array-element, of-array, object-start, object-key, object-value, of-object)
+  open Meaning 𝕄 using (Result, InArray, InObject, of-word, string-start, string-char, of-string, number-start, number-byte, of-number, array-start, array-element, of-array, object-start, object-key, object-value, of-object)
 
   abbrev mutual
     -- the result of a tree

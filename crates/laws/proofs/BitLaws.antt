@@ -205,10 +205,6 @@ same-or-bitAt-of-setBit xs i j t =
 
 -- ---- a run of bits
 
--- tests that agree below n set the same bits
-pub setAll-same : (p q : ℕ → Bool) (f : ℕ → ℕ) (n : ℕ) (xs : List ℕ) → ((e : ℕ) → p e ≡ q e) → setAll p f n xs ≡ setAll q f n xs
-setAll-same p q f n xs h = ap (λ (r : ℕ → Bool). setAll r f n xs) (λ i e. h e i)
-
 -- one number more, as a loop sets its bit: the test b of number e, and the number i of its bit
 pub setAll-more : (p : ℕ → Bool) (f : ℕ → ℕ) (e i : ℕ) (b : Bool) (xs ys zs : List ℕ) → ys ≡ setAll p f e xs → b ≡ p e → i ≡ f e
     → zs ≡ cond b (setBit ys i) ys → zs ≡ setAll p f (e + 1) xs

@@ -1,9 +1,10 @@
 -- What a computed list or a computed test says at each place. Assumes nothing.
-use mathlib.Core.Bool.{Bool, _&&_}
-use mathlib.Core.List.{List, [], _∷_}
+use mathlib.Core.Bool.{Bool}
+use mathlib.Core.List.{List}
 use mathlib.Core.Path.{_≡_, refl, sym, ap, subst, _∙_}
-use Prim.Native.Nat.{ℕ, zero, suc, _+_, _<_}
+use Prim.Native.Nat.{ℕ, zero, suc, _+_, _-_, _<_, _≤_}
 use native.Mathlib.Nat.{add-zero, zero-add, add-suc, suc-add, le-of-suc-le-suc, not-suc-le-zero}
+use native.Mathlib.Omega.{arith}
 use lib.Dec.{T, eqb, eqb→eq}
 use lib.ListN.{getD, length}
 use Rattle.laws.specs.Tab.{tab, every}
@@ -24,6 +25,14 @@ getD-tab-from f d i (suc n) (suc k) h = getD-tab-from f d (suc i) n k (le-of-suc
 -- entry k of a list that starts at 0 is f at k
 pub getD-tab : {A : Type 0} (f : ℕ → A) (d : A) (n k : ℕ) → k < n → getD (tab f 0 n) k d ≡ f k
 getD-tab f d n k h = getD-tab-from f d 0 n k h ∙ ap f (zero-add k)
+
+-- two rules that make the same list are equal at each number of it
+pub eq-of-tab : {A : Type 0} (f g : ℕ → A) (i n : ℕ) → tab f i n ≡ tab g i n → (k : ℕ) → i ≤ k → k < i + n → f k ≡ g k
+eq-of-tab {A} f g i n e k l h =
+    let m : i + (k - i) ≡ k = omega arith in
+    let p = getD-tab-from f (f k) i n (k - i) (omega arith) in
+    let q = getD-tab-from g (f k) i n (k - i) (omega arith) in
+    ap f (sym m) ∙ sym p ∙ ap (λ (xs : List A). getD xs (k - i) (f k)) e ∙ q ∙ ap g m
 
 -- ---- every
 

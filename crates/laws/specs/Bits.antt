@@ -1,5 +1,5 @@
 -- Bits of a list of bytes: 01, "Frames": bit i is 2 ^ (i mod 8) of byte i / 8. Stated. Assumes nothing.
-use mathlib.Core.Bool.{Bool, true, false, cond}
+use mathlib.Core.Bool.{Bool, cond}
 use mathlib.Core.List.{List}
 use Prim.Native.Nat.{ℕ, zero, suc, _/_, _%_, _^_}
 use lib.Bits.{bitOr}

@@ -3,7 +3,7 @@ ghost use mathlib.Core.Path.{_≡_};
 ghost use Rattle.load.specs.Answer.{told};
 ghost use Rattle.load.specs.Loads.{LoadsAs};
 
-mod store; // store.rt: the table of a book, one entry after the other
+pub mod store; // store.rt: the table of a book, one entry after the other
 mod read; // read.rt: a book line by line, refusals 1 to 7
 mod check; // check.rt: the checks after all lines, refusals 8 and 9
 

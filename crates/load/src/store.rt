@@ -125,7 +125,7 @@ fn with_edge(t: Table, form: u8, c: Cell, line: u16) -> Table
 // ---- keys
 
 // The number of a key among the first n, or n where it is new.
-fn find_key<'a>(bytes: &'a [u8], lens: &'a [u8; 128], n: usize, key: &[u8]) -> usize
+pub fn find_key<'a>(bytes: &'a [u8], lens: &'a [u8; 128], n: usize, key: &[u8]) -> usize
     requires { ⌜ (n ≤ 128) × Lens (now lens) × (length (now bytes) ≡ 4096) ⌝ }
     ensures { λ r. ⌜ r ≡ numberOf (tab (keyAt (now (bytes .entry)) (now (lens .entry))) 0 n) (now (key .entry)) ⌝ }
 {

@@ -1,0 +1,12 @@
+pub mod ListLaws
+pub mod LevelLaws
+pub mod PartLaws
+pub mod EdgeLaws
+pub mod MaskLaws
+pub mod OpenLaws
+pub mod KeyLaws
+pub mod ValueLaws
+pub mod WalkLaws
+pub mod RuleLaws
+pub mod CloseLaws
+pub mod Examples

@@ -1,0 +1,6 @@
+pub mod Frame
+pub mod Place
+pub mod Edges
+pub mod Mask
+pub mod Ops
+pub mod Reached

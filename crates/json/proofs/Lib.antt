@@ -1,0 +1,13 @@
+pub mod MeaningLaws
+pub mod ByteLaws
+pub mod NumberLaws
+pub mod StringLaws
+pub mod CharLaws
+pub mod Accepted
+pub mod Phrases
+pub mod Proper
+pub mod Sound
+pub mod Faults
+pub mod TreeLaws
+pub mod LevelLaws
+pub mod Examples

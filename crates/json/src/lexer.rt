@@ -1,0 +1,64 @@
+// What a byte does, wherever it stands in a text.
+use super::number::NumberMode;
+use super::string::StringMode;
+use super::word::Word;
+
+// What is awaited between two tokens.
+pub enum Place {
+    // a value
+    Value,
+    // what may stand behind the opening byte of an array or object
+    First,
+    // a key, behind a comma
+    Key,
+    // a colon
+    Colon,
+    // what may stand behind a value
+    After,
+}
+
+// Where the next byte stands: between tokens, in a key, in a string, in a number, in a word of which some letters are read.
+pub enum Mode {
+    At(Place),
+    Key(StringMode),
+    Text(StringMode),
+    Number(NumberMode),
+    Word(Word, u8),
+}
+
+// The kind of the innermost open value.
+pub enum Top {
+    Bare,
+    Array,
+    Object,
+}
+
+// What a byte does to the open values.
+pub enum Act {
+    // no text goes on so
+    Fault,
+    Pass,
+    OpenArray,
+    OpenObject,
+    // closes the innermost open value
+    Close,
+    KeyStart,
+    // finishes a character of a key
+    KeyChar,
+    KeyEnd,
+    TextStart,
+    TextChar,
+    // finishes a string that is a value
+    TextEnd,
+    NumberStart,
+    NumberByte,
+    // finishes a word
+    WordEnd(Word),
+}
+
+// What a byte does: whether it first ends a number, then its act, and where the next byte stands.
+pub struct Step {
+    pub mode: Mode,
+    pub ends: bool,
+    pub act: Act,
+}

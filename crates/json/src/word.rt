@@ -1,0 +1,16 @@
+// The words true, false and null, matched one byte at a time.
+
+pub enum Word {
+    Null,
+    True,
+    False,
+}
+
+// What a byte does inside a word.
+pub enum WordMove {
+    Fault,
+    // letters are left
+    Go,
+    // it is the last letter
+    End,
+}

@@ -1,0 +1,4 @@
+pub mod ChoiceLaws
+pub mod TableLaws
+pub mod GivenLaws
+pub mod WordLaws

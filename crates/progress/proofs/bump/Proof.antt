@@ -1,0 +1,19 @@
+use Rattle.progress.specs.Lex.{bump}
+use Rattle.laws.proofs.Tests.{tests}
+use borrow.Author.Needs.{needs}
+use Rattle.progress.proofs.bump.Statement.{statement}
+use Rattle.progress.proofs.bump.Tie as tie
+
+add-result : tie.Need-add-result
+add-result c = search needs
+
+returns : tie.Need-returns
+unfolding bump
+returns c = search tests
+
+returns-2 : tie.Need-returns-2
+unfolding bump
+returns-2 c = search tests
+
+pub bump-spec : {M : Type 1} → statement M
+bump-spec = tie.close (tie.spec add-result returns returns-2)

@@ -1,0 +1,12 @@
+pub mod EdgeLaws
+pub mod OrderLaws
+pub mod SoundLaws
+pub mod RunLaws
+pub mod LengthLaws
+pub mod StateLaws
+pub mod OpenLaws
+pub mod StepLaws
+pub mod WalkLaws
+pub mod ScalarLaws
+pub mod Judging
+pub mod Examples

@@ -1,0 +1,1 @@
+// Runs of rule books over JSON trees: definitions and theorems only.

@@ -1,0 +1,167 @@
+// One byte that ends no record: what it does to the record, its key and its frames. The arrays of the table are lent one by one.
+ghost use mathlib.Core.Bool.{cond};
+ghost use mathlib.Core.Path.{_≡_};
+ghost use Prim.Native.Nat.{_-_, _≤_};
+ghost use lib.Dec.{eqb};
+ghost use lib.ListN.{set};
+ghost use Rattle.table.specs.Kind.{ruleFits};
+ghost use Rattle.table.specs.declared.kind.Finished.the-variants as Done;
+ghost use Rattle.load.specs.Step.{Lens};
+ghost use Rattle.lexer.specs.Given.{stepBy};
+ghost use Rattle.lexer.specs.Table.{classAt};
+ghost use Rattle.progress.specs.Memory.{mem, topAt, keyFound, valueAt, rulesAt};
+ghost use Rattle.turn.specs.Turn.{lent, turned};
+use json::lexer::Top;
+use progress::Lex;
+use progress::Task;
+use table::kind::Finished;
+
+// What is known of the record behind the byte, and whether its root fits rule 0.
+pub struct Turned {
+    pub lex: Lex,
+    pub root: bool,
+}
+
+// The kind of the innermost open value.
+fn top_of(work: &[u8], level: usize) -> Top
+    ensures { λ r. ⌜ r ≡ topAt (now (work .entry)) level ⌝ }
+{
+    if level == 0 {
+        return Top::Bare;
+    }
+    if frame::kind_at(work, level) == 1 {
+        return Top::Object;
+    }
+    Top::Array
+}
+
+// Keeps a character of the key; there is room for 32.
+fn put_char(key: &mut [u8; 32], len: u8, c: u8)
+    ensures { λ _. ⌜ now (key .exit) ≡ set (now (key .entry)) len c ⌝ }
+{
+    let at = len as usize;
+    if at < 32 {
+        key[at] = c;
+    }
+}
+
+// The number of the key in the book, or 255.
+fn key_found<'a>(key: &'a [u8; 32], len: u8, bytes: &'a [u8; 4096], lens: &'a [u8; 128], keys: usize) -> u8
+    requires { ⌜ (keys ≤ 128) × Lens (now lens) ⌝ }
+    ensures { λ r. ⌜ r ≡ keyFound (lent 0 keys (now (key .entry)) (now (key .entry)) (now (key .entry)) (now (key .entry)) (now (key .entry)) (now (bytes .entry)) (now (lens .entry)) (now (key .entry)) (now (key .entry))) (now (key .entry)) len ⌝ }
+{
+    let n = len as usize;
+    if 32 < n {
+        return 255;
+    }
+    let k = load::store::find_key(bytes, lens, keys, &key[..n]);
+    if k < keys {
+        return (k % 256) as u8;
+    }
+    255
+}
+
+// One level less; without an open value there is none to close.
+fn down(level: usize) -> usize
+    ensures { λ r. ⌜ r ≡ level - 1 ⌝ }
+{
+    if level == 0 {
+        return 0;
+    }
+    level - 1
+}
+
+// The value of a level is closed: it joins the level below; the root tells whether it fits rule 0.
+fn close_value<'a>(
+    work: &mut [u8],
+    level: usize,
+    root: bool,
+    edges: usize,
+    rules: &'a [u8; 512],
+    states: &'a [u8; 512],
+    edge_keys: &'a [u8; 512],
+    kinds: &'a [u8; 512],
+    nexts: &'a [u8; 512],
+    ends: &'a [u8; 64],
+    forms: &'a [u8; 32],
+) -> bool
+    ensures root { λ r. ⌜ r ≡ cond (eqb level 1) (ruleFits (rulesAt (lent edges 0 (now (rules .entry)) (now (states .entry)) (now («edge_keys» .entry)) (now (kinds .entry)) (now (nexts .entry)) (now (rules .entry)) (now (rules .entry)) (now (ends .entry)) (now (forms .entry))) (now (work .entry)) level) 0) root ⌝ }
+    ensures work { λ _. ⌜ now (work .exit) ≡ valueAt (lent edges 0 (now (rules .entry)) (now (states .entry)) (now («edge_keys» .entry)) (now (kinds .entry)) (now (nexts .entry)) (now (rules .entry)) (now (rules .entry)) (now (ends .entry)) (now (forms .entry))) (now (work .entry)) (level - 1) (Done.Rules (rulesAt (lent edges 0 (now (rules .entry)) (now (states .entry)) (now («edge_keys» .entry)) (now (kinds .entry)) (now (nexts .entry)) (now (rules .entry)) (now (rules .entry)) (now (ends .entry)) (now (forms .entry))) (now (work .entry)) level)) ⌝ }
+{
+    let set = frame::close_level(work, level, edges, rules, states, edge_keys, nexts, forms, ends);
+    frame::value_level(work, down(level), edges, rules, states, edge_keys, kinds, nexts, forms, Finished::Rules(set));
+    if level == 1 {
+        return table::kind::rule_fits(set, 0);
+    }
+    root
+}
+
+// The byte b: the record behind it, its key and its frames.
+pub fn turn<'a>(
+    classes: &'a [u8; 256],
+    x: Lex,
+    root: bool,
+    key: &mut [u8; 32],
+    work: &mut [u8],
+    frames: usize,
+    edges: usize,
+    keys: usize,
+    rules: &'a [u8; 512],
+    states: &'a [u8; 512],
+    edge_keys: &'a [u8; 512],
+    kinds: &'a [u8; 512],
+    nexts: &'a [u8; 512],
+    bytes: &'a [u8; 4096],
+    lens: &'a [u8; 128],
+    ends: &'a [u8; 64],
+    forms: &'a [u8; 32],
+    b: u8,
+) -> Turned
+    requires { ⌜ (keys ≤ 128) × Lens (now lens) ⌝ }
+    ensures { λ r. ⌜ mem (r .lex) (r .root) (now (key .exit)) (now (work .exit)) ≡ turned (lent edges keys (now (rules .entry)) (now (states .entry)) (now («edge_keys» .entry)) (now (kinds .entry)) (now (nexts .entry)) (now (bytes .entry)) (now (lens .entry)) (now (ends .entry)) (now (forms .entry))) frames (mem x root (now (key .entry)) (now (work .entry))) b (stepBy (classAt (now (classes .entry)) b) (x .mode) (topAt (now (work .entry)) (x .level)) b) ⌝ }
+{
+    let level = x.level;
+    let len = x.len;
+    let top = top_of(work, level);
+    let st = progress::advance(classes, x, frames, top, b);
+    let next = st.lex;
+    let up = next.level;
+    let task = st.task;
+    match task {
+        Task::Idle => Turned { lex: next, root: root },
+        Task::Put(c) => {
+            put_char(key, len, c);
+            Turned { lex: next, root: root }
+        }
+        Task::Named => {
+            let k = key_found(key, len, bytes, lens, keys);
+            frame::key_level(work, level, k);
+            Turned { lex: next, root: root }
+        }
+        Task::OpenArray => {
+            frame::open_level(work, up, false, forms);
+            Turned { lex: next, root: root }
+        }
+        Task::OpenObject => {
+            frame::open_level(work, up, true, forms);
+            Turned { lex: next, root: root }
+        }
+        Task::Finish(s) => {
+            frame::value_level(work, level, edges, rules, states, edge_keys, kinds, nexts, forms, Finished::Scalar(s));
+            Turned { lex: next, root: root }
+        }
+        Task::Number(s) => {
+            frame::value_level(work, level, edges, rules, states, edge_keys, kinds, nexts, forms, Finished::Scalar(s));
+            Turned { lex: next, root: root }
+        }
+        Task::Close => {
+            let fit = close_value(work, level, root, edges, rules, states, edge_keys, kinds, nexts, ends, forms);
+            Turned { lex: next, root: fit }
+        }
+        Task::NumberClose(s) => {
+            frame::value_level(work, level, edges, rules, states, edge_keys, kinds, nexts, forms, Finished::Scalar(s));
+            let fit = close_value(work, level, root, edges, rules, states, edge_keys, kinds, nexts, ends, forms);
+            Turned { lex: next, root: fit }
+        }
+    }
+}

@@ -11,7 +11,8 @@ use Rattle.laws.specs.Lists.{same, any}
 use Rattle.book.specs.Entry.{Form, obj, arr, Entry, edge, end-state, keysOf}
 use Rattle.book.specs.Load.{ruleOf, formIn, sameForm, changesForm, hasRule}
 use Rattle.book.specs.Holds.{Edge, keyNumber, edgesFrom, edgesOf, formCode, ruleForm}
-use Rattle.book.proofs.KeyLaws.{eqb-sym, any-append, numberOf-append, keysOf-last, addKey, addKey-append}
+use Rattle.book.proofs.TruthLaws.{eqb-sym}
+use Rattle.book.proofs.KeyLaws.{any-append, numberOf-append, keysOf-last, addKey, addKey-append}
 
 -- ---- each member of a list
 

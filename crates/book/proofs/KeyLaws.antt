@@ -6,28 +6,15 @@ use Prim.Native.Nat.{ℕ, suc, _+_}
 use native.Mathlib.Omega.{arith}
 use lib.Dec.{eqb}
 use lib.ListN.{length}
-use borrow.Author.Tests.{eq-eqb, ne-eqb, eqb-true, eqb-false}
+use borrow.Author.Tests.{ne-eqb}
 use Rattle.laws.specs.Lists.{same, any}
 use Rattle.laws.proofs.ListLaws.{same-refl, eq-of-same}
 use Rattle.laws.proofs.TestLaws.{true-of-T, T-of-true}
+use Rattle.book.proofs.TruthLaws.{true-not-false, eqb-sym, eqb-suc, or-false, or-true}
 use Rattle.book.specs.Entry.{Entry, edge, end-state, withKey, keysFrom, keysOf, numberOf}
 use Rattle.book.specs.Holds.{keyNumber}
 
--- ---- tests
-pub eqb-sym : (a b : ℕ) → eqb a b ≡ eqb b a
-eqb-sym a b = go (eqb a b) refl
-  where
-    go : (c : Bool) → eqb a b ≡ c → c ≡ eqb b a
-    go true e = sym (eq-eqb b a (sym (eqb-true a b e)))
-    go false e = sym (ne-eqb b a (λ q. eqb-false a b e (sym q)))
-
-pub eqb-suc : (a b : ℕ) → eqb (suc a) (suc b) ≡ eqb a b
-eqb-suc a b = go (eqb a b) refl
-  where
-    go : (c : Bool) → eqb a b ≡ c → eqb (suc a) (suc b) ≡ c
-    go true e = eq-eqb (suc a) (suc b) (ap suc (eqb-true a b e))
-    go false e = ne-eqb (suc a) (suc b) (λ q. eqb-false a b e (omega arith))
-
+-- ---- byte strings
 pub same-sym : (s t : List ℕ) → same s t ≡ same t s
 unfolding same
 same-sym [] [] = refl
@@ -35,10 +22,10 @@ same-sym [] (b ∷ t) = refl
 same-sym (a ∷ s) [] = refl
 same-sym (a ∷ s) (b ∷ t) = rw (eqb-sym a b, same-sym s t)
 
-same-self : (s : List ℕ) → same s s ≡ true
+pub same-self : (s : List ℕ) → same s s ≡ true
 same-self s = true-of-T (same s s) (same-refl s)
 
-same-eq : (s t : List ℕ) → same s t ≡ true → s ≡ t
+pub same-eq : (s t : List ℕ) → same s t ≡ true → s ≡ t
 same-eq s t e = eq-of-same s t (T-of-true (same s t) e)
 
 -- ---- one of the members
@@ -51,14 +38,6 @@ any-append f (x ∷ l) r = go (f x) (any-append f l r)
     go : (b : Bool) → any f (l ++ r) ≡ (any f l || any f r) → (b || any f (l ++ r)) ≡ ((b || any f l) || any f r)
     go true e = refl
     go false e = e
-
-pub or-false : (b : Bool) → (b || false) ≡ b
-or-false true = refl
-or-false false = refl
-
-or-true : (b : Bool) → (b || true) ≡ true
-or-true true = refl
-or-true false = refl
 
 -- of one member more
 pub any-last : {A : Type 0} (f : A → Bool) (l : List A) (x : A) → any f (l ++ (x ∷ [])) ≡ (any f l || f x)
@@ -80,7 +59,7 @@ numberOf-new (x ∷ ks) k = rw (same-sym x k) (go (same k x) (numberOf-new ks k)
 -- keys that come behind change no number
 pub numberOf-append : (ks more : List (List ℕ)) (k : List ℕ) → any (same k) ks ≡ true → numberOf (ks ++ more) k ≡ numberOf ks k
 unfolding numberOf any
-numberOf-append [] more k e = absurd (let z : _≡_ {A = ℕ} 0 1 = cc in omega arith)
+numberOf-append [] more k e = true-not-false false e refl
 numberOf-append (x ∷ ks) more k e = rw (same-sym x k) (go (same k x) e (numberOf-append ks more k))
   where
     go : (b : Bool) → (b || any (same k) ks) ≡ true → (any (same k) ks ≡ true → numberOf (ks ++ more) k ≡ numberOf ks k)
@@ -106,7 +85,7 @@ keyNumber-withKey ks (b ∷ k) = go (any (same (b ∷ k)) ks)
 -- numbers tell keys apart, where one of them is there
 pub numberOf-eqb : (ks : List (List ℕ)) (a b : List ℕ) → any (same b) ks ≡ true → eqb (numberOf ks a) (numberOf ks b) ≡ same a b
 unfolding numberOf any
-numberOf-eqb [] a b e = absurd (let z : _≡_ {A = ℕ} 0 1 = cc in omega arith)
+numberOf-eqb [] a b e = true-not-false false e refl
 numberOf-eqb (y ∷ ks) a b e = go (same y b) (same y a) refl refl (numberOf-eqb ks a b)
   where
     go : (c d : Bool) → same y b ≡ c → same y a ≡ d → (any (same b) ks ≡ true → eqb (numberOf ks a) (numberOf ks b) ≡ same a b)

@@ -31,7 +31,7 @@ sameForm obj arr = false
 sameForm arr obj = false
 sameForm arr arr = true
 
--- two entries say the same. Numbers have one way to be written, so this is equality of lines; kinds are told apart by their codes
+-- two entries say the same: their lines are the same bytes (`RepeatLaws.sameEntry-lines`). Kinds are told apart by their codes
 unfoldable pub sameEntry : Entry → Entry → Bool
 sameEntry (edge r f q k v m) (edge r′ f′ q′ k′ v′ m′) =
     eqb r r′ && (sameForm f f′ && (eqb q q′ && (same k k′ && (eqb (codeOf v) (codeOf v′) && eqb m m′))))

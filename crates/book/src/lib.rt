@@ -1,1 +1,2 @@
-// A rule book as a file, and load: the table that a book says, or the refusal that 01 gives it.
+// This crate has definitions and laws only: what the lines of a rule book say, what loading a book gives, and when a table holds a book.
+// See specs/ and proofs/.

@@ -20,7 +20,7 @@ use Rattle.book.specs.Line.{isForm, formOf, isKey, keyOf, isKind, kindIn, small
 use Rattle.scan.specs.Scan.{capped}
 use Rattle.line.specs.declared.Line.{Line}
 use Rattle.line.specs.declared.Cuts.{Cuts}
-use Rattle.line.specs.Line.{said, faulty, Judged, seg, Cut, formedEnd, formedEdge}
+use Rattle.line.specs.Line.{faulty, endLine, Judged, Says, seg, Cut, sayCut, formedEnd, formedEdge}
 
 -- ---- well-formed fields
 module _ (k m : List ℕ) (r : Bool) (q : r ≡ same k dash) where
@@ -154,16 +154,17 @@ module _ (x f s k v m : List ℕ) (at : ℕ) (a : Bool) (qa : a ≡ formed x f s
       says-state r h p = over r ea (rw (eq-of-capped-lt 32 (number x) i qi hi .0, ltb-of-capped-ge 16 (number s) j qj h)) p
 
       module _ (g e : Bool) (hj : j < 16) (qg : g ≡ same f word-obj) (qe : e ≡ same v word-end) where
-        pub says-end : e ≡ true → Judged k at (sayFields x f s k v m) (record { fault = 0; rule = i; obj = g; state = j; kind = 38; next = 0; «key_at» = at; «key_len» = 0 })
+        pub says-end : (r : Line) → e ≡ true → r ≡ endLine i g j at → Judged k at (sayFields x f s k v m) r
         unfolding sayFields small entryOf formOf
-        says-end h =
+        says-end r h p =
             let ci = eq-of-capped-lt 32 (number x) i qi hi in
             let cj = eq-of-capped-lt 16 (number s) j qj hj in
-            record {
+            rw p
+            (record {
               says = rw (sym qa ∙ not-false a ea, ci .0, cj .0, sym qe ∙ h, qg, ci .1, cj .1);
               place = refl;
               len = omega arith;
-            }
+            })
 
         module _ (c : ℕ) (he : e ≡ false) (qc : c ≡ capped 38 (codeOf (kindIn v))) where
           pub says-kind : (r : Line) → 38 ≤ c → r ≡ faulty 4 at → Judged k at (sayFields x f s k v m) r
@@ -211,24 +212,18 @@ module _ (x f s k v m : List ℕ) (at : ℕ) (a : Bool) (qa : a ≡ formed x f s
 -- ---- a line
 
 -- the key's field lies in the line, so its first bytes are the line's
-pub key-in-line : (l : List ℕ) (a b : ℕ) (s : Said) (r : Line) → a ≤ b → b ≤ length l → Judged (seg a b l) a s r
-    → (said r l ≡ s) × (r .«key_at» + r .«key_len» ≤ length l)
+pub key-in-line : (l : List ℕ) (a b : ℕ) (s : Said) (r : Line) → a ≤ b → b ≤ length l → Judged (seg a b l) a s r → Says l s r
 key-in-line l a b s r h k j =
     let n : length (seg a b l) ≡ b - a = length-take-le (b - a) (drop a l) (omega (arith, length-drop a l)) in
     let q = j .len in
     let p = j .place in
     let e : take (r .«key_len») (drop (r .«key_at») l) ≡ take (r .«key_len») (seg a b l) =
     rw p (sym (take-take (r .«key_len») (b - a) (drop a l) (omega (arith, q, n)))) in
-    (rw e (j .says), omega (arith, p, q, n))
+    record { says = rw e (j .says); key = omega (arith, p, q, n) }
 
-module _ (l : List ℕ) (c : Cuts) (q : Cut l c) where
-  pub line-none : (r : Line) → c .six ≡ false → r ≡ faulty 3 0 → (said r l ≡ sayLine l) × (r .«key_at» + r .«key_len» ≤ length l)
-  line-none r e p = rw p (sym (q .none e), omega arith)
+module _ (l : List ℕ) (c : Cuts) (q : Cut l c) (r : Line) where
+  pub line-none : c .six ≡ false → r ≡ faulty 3 0 → Says l (sayLine l) r
+  line-none e p = rw p (record { says = sym (q .none e); key = omega arith })
 
-  pub line-six : (r : Line) → c .six ≡ true
-      → (said r l
-      ≡ sayFields (seg 0 (c .p1) l) (seg (c .p1 + 1) (c .p2) l) (seg (c .p2 + 1) (c .p3) l) (seg (c .p3 + 1) (c .p4) l) (seg (c .p4 + 1) (c .p5) l)
-      (seg (c .p5 + 1) (length l) l))
-      × (r .«key_at» + r .«key_len» ≤ length l)
-      → (said r l ≡ sayLine l) × (r .«key_at» + r .«key_len» ≤ length l)
-  line-six r e w = (w .0 ∙ sym (q .some e), w .1)
+  pub line-six : c .six ≡ true → Says l (sayCut l (c .p1) (c .p2) (c .p3) (c .p4) (c .p5)) r → Says l (sayLine l) r
+  line-six e w = record { says = w .says ∙ sym (q .some e); key = w .key }

@@ -12,7 +12,7 @@ use Rattle.book.specs.Text.{split, onto}
 use Rattle.book.specs.Line.{bad, sayParts, sayLine}
 use Rattle.scan.specs.Scan.{until}
 use Rattle.line.specs.declared.Cuts.{Cuts}
-use Rattle.line.specs.Line.{seg, Cut}
+use Rattle.line.specs.Line.{seg, noCuts, Cut}
 
 -- a separator ends the first part
 split-at : (c : ℕ) (s : List ℕ) → until c s < length s → split c s ≡ take (until c s) s ∷ split c (drop (suc (until c s)) s)
@@ -59,11 +59,11 @@ module _ (c : ℕ) (l : List ℕ) (a p : ℕ) (e : p ≡ a + until c (drop a l))
       ∙ ap (λ (s : List ℕ). s ∷ []) (sym (take-all (length l - a) (drop a l) (omega (arith, length-drop a l))))
 
 -- ---- six parts, or another number of them
-pub cut-none : (l : List ℕ) (r : Cuts) → r .six ≡ false → sayLine l ≡ bad 3 → Cut l r
+pub cut-none : (l : List ℕ) (r : Cuts) → r ≡ noCuts → sayLine l ≡ bad 3 → Cut l r
 cut-none l r e f = record { none = λ z. f; some = λ t. absurd (never t); rising = λ t. absurd (never t) }
   where
     never : r .six ≡ true → ⊥
-    never t = let z : _≡_ {A = ℕ} 0 1 = cc in omega arith
+    never t = let q : r .six ≡ false = ap (λ (x : Cuts). x .six) e in let z : _≡_ {A = ℕ} 0 1 = cc in omega arith
 
 module _ (l : List ℕ) (p1 : ℕ) (e1 : p1 ≡ 0 + until 32 (drop 0 l)) where
   pub one-part : length l ≤ p1 → sayLine l ≡ bad 3

@@ -25,13 +25,19 @@ pub record Rising (n : ℕ) (r : Cuts) : Type 0 where
   pub d : r .p4 < r .p5
   pub e : r .p5 < n
 
+-- not five spaces
+abbrev pub noCuts : Cuts
+noCuts = record { six = false; p1 = 0; p2 = 0; p3 = 0; p4 = 0; p5 = 0 }
+
+-- what a line with spaces at p1 to p5 says
+abbrev pub sayCut : List ℕ → ℕ → ℕ → ℕ → ℕ → ℕ → Said
+sayCut l p1 p2 p3 p4 p5 =
+    sayFields (seg 0 p1 l) (seg (p1 + 1) p2 l) (seg (p2 + 1) p3 l) (seg (p3 + 1) p4 l) (seg (p4 + 1) p5 l) (seg (p5 + 1) (length l) l)
+
 -- what the places of the spaces say of a line
 pub record Cut (l : List ℕ) (r : Cuts) : Type 0 where
   pub none : r .six ≡ false → sayLine l ≡ bad 3
-  pub some : r .six ≡ true
-      → sayLine l
-      ≡ sayFields (seg 0 (r .p1) l) (seg (r .p1 + 1) (r .p2) l) (seg (r .p2 + 1) (r .p3) l) (seg (r .p3 + 1) (r .p4) l) (seg (r .p4 + 1) (r .p5) l)
-      (seg (r .p5 + 1) (length l) l)
+  pub some : r .six ≡ true → sayLine l ≡ sayCut l (r .p1) (r .p2) (r .p3) (r .p4) (r .p5)
   pub rising : r .six ≡ true → Rising (length l) r
 
 -- the form of a line
@@ -57,11 +63,20 @@ said r l = saidWith r (drop (r .«key_at») l)
 abbrev pub faulty : ℕ → ℕ → Line
 faulty n at = record { fault = n; rule = 0; obj = false; state = 0; kind = 0; next = 0; «key_at» = at; «key_len» = 0 }
 
+-- an end line
+abbrev pub endLine : ℕ → Bool → ℕ → ℕ → Line
+endLine r b q at = record { fault = 0; rule = r; obj = b; state = q; kind = 38; next = 0; «key_at» = at; «key_len» = 0 }
+
 -- what six fields with the key's field k, which is at `at`, are judged to say
 pub record Judged (k : List ℕ) (at : ℕ) (s : Said) (r : Line) : Type 0 where
   pub says : saidWith r k ≡ s
   pub place : r .«key_at» ≡ at
   pub len : r .«key_len» ≤ length k
+
+-- what is said of the line l, whose key lies within it
+pub record Says (l : List ℕ) (s : Said) (r : Line) : Type 0 where
+  pub says : said r l ≡ s
+  pub key : r .«key_at» + r .«key_len» ≤ length l
 
 -- ---- parts of `formed`
 

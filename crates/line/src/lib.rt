@@ -1,9 +1,9 @@
 // One line of a book: its fields, and what it says by itself, refusals 3 and 4.
 ghost use mathlib.Core.Path.{_≡_};
-ghost use Prim.Native.Nat.{_+_, _<_, _≤_};
+ghost use Prim.Native.Nat.{_+_, _<_};
 ghost use lib.ListN.{length};
 ghost use Rattle.book.specs.Line.{formed as isFormed, keyOf, sayFields, sayLine};
-ghost use Rattle.line.specs.Line.{Cut, Judged, said, faulty, seg, formedEnd, formedEdge};
+ghost use Rattle.line.specs.Line.{noCuts, Cut, sayCut, Judged, Says, faulty, endLine, formedEnd, formedEdge};
 
 const OBJ: [u8; 3] = *b"obj";
 
@@ -34,17 +34,24 @@ pub struct Line {
     pub key_len: usize,
 }
 
-fn cut(line: &[u8]) -> Cuts
-    ensures { λ r. ⌜ Cut (now (line .entry)) r ⌝ }
+fn no_cuts() -> Cuts
+    ensures { λ r. ⌜ r ≡ noCuts ⌝ }
 {
-    let none = Cuts {
+    Cuts {
         six: false,
         p1: 0,
         p2: 0,
         p3: 0,
         p4: 0,
         p5: 0,
-    };
+    }
+}
+
+// Where the spaces of a line are. Each is looked for behind the one before.
+fn cut(line: &[u8]) -> Cuts
+    ensures { λ r. ⌜ Cut (now (line .entry)) r ⌝ }
+{
+    let none = no_cuts();
     let n = line.len();
     let p1 = scan::find(line, 0, 32);
     if n <= p1 {
@@ -137,6 +144,21 @@ fn bad_line(fault: u8, at: usize) -> Line
     }
 }
 
+fn end_line(rule: u8, obj: bool, state: u8, at: usize) -> Line
+    ensures { λ r. ⌜ r ≡ endLine rule obj state at ⌝ }
+{
+    Line {
+        fault: 0,
+        rule,
+        obj,
+        state,
+        kind: 38,
+        next: 0,
+        key_at: at,
+        key_len: 0,
+    }
+}
+
 // How many bytes the key has; `-` is none.
 fn key_length(key: &[u8]) -> usize
     ensures { λ r. ⌜ r ≡ length (keyOf (now (key .entry))) ⌝ }
@@ -172,16 +194,7 @@ fn judge_fields(
     }
     let obj = scan::equal(form, &OBJ);
     if scan::equal(value, &END) {
-        return Line {
-            fault: 0,
-            rule: r,
-            obj,
-            state: q,
-            kind: 38,
-            next: 0,
-            key_at: at,
-            key_len: 0,
-        };
+        return end_line(r, obj, q, at);
     }
     let v = scan::kind_code(value);
     if 38 <= v {
@@ -207,7 +220,7 @@ fn judge_fields(
 // What a line with spaces at p1 to p5 says.
 fn judge_six(l: &[u8], p1: usize, p2: usize, p3: usize, p4: usize, p5: usize) -> Line
     requires { ⌜ (p1 < p2) × (p2 < p3) × (p3 < p4) × (p4 < p5) × (p5 < length (now l)) ⌝ }
-    ensures { λ r. ⌜ (said r (now (l .entry)) ≡ sayFields (seg 0 p1 (now (l .entry))) (seg (p1 + 1) p2 (now (l .entry))) (seg (p2 + 1) p3 (now (l .entry))) (seg (p3 + 1) p4 (now (l .entry))) (seg (p4 + 1) p5 (now (l .entry))) (seg (p5 + 1) (length (now (l .entry))) (now (l .entry)))) × (r .«key_at» + r .«key_len» ≤ length (now (l .entry))) ⌝ }
+    ensures { λ r. ⌜ Says (now (l .entry)) (sayCut (now (l .entry)) p1 p2 p3 p4 p5) r ⌝ }
 {
     let at = p3 + 1;
     judge_fields(
@@ -223,7 +236,7 @@ fn judge_six(l: &[u8], p1: usize, p2: usize, p3: usize, p4: usize, p5: usize) ->
 
 // What a line without its LF says, or its fault. The key lies within the line.
 pub fn judge(l: &[u8]) -> Line
-    ensures { λ r. ⌜ (said r (now (l .entry)) ≡ sayLine (now (l .entry))) × (r .«key_at» + r .«key_len» ≤ length (now (l .entry))) ⌝ }
+    ensures { λ r. ⌜ Says (now (l .entry)) (sayLine (now (l .entry))) r ⌝ }
 {
     let c = cut(l);
     if c.six {

@@ -19,13 +19,13 @@ use Rattle.book.specs.Entry.{Form, Entry, edge, end-state, withKey as addedKey,
 use Rattle.book.specs.Text.{isEmpty}
 use Rattle.book.specs.Load.{ruleOf, formIn, sameForm, sameEntry, changesForm, isEdge, edgeCount, tooMany, faultOf}
 use Rattle.book.specs.Holds.{tableEdges, tableKeys, keyNumber, edgesFrom, edgesOf, formCode, ruleForm, endsAt, Holds}
-use Rattle.book.proofs.KeyLaws.{eqb-sym, any-last, or-false, numberOf-new, numberOf-eqb, keyNumber-withKey, key-in-withKey, addKey-append, keysOf-last}
+use Rattle.book.proofs.KeyLaws.{any-last, numberOf-new, numberOf-eqb, keyNumber-withKey, key-in-withKey, addKey-append, keysOf-last}
 use Rattle.book.proofs.HoldLaws.{Each, each-map, each-append, KeyAmong, KeyIn, keyIn-append, edgesOf-last, formCode-some, sameForm-codes, form-of-code, ruleForm-last, FormKept, changesForm-ruleForm}
+use Rattle.book.proofs.TruthLaws.{true-not-false, or-false, or-true, eqb-sym}
 use Rattle.load.specs.declared.store.Cell.{Cell}
 use Rattle.load.specs.declared.store.Taken.{Taken}
 use Rattle.load.specs.Proper.{isArr, ProperEdge, Proper}
 use Rattle.load.specs.Step.{emptyTable, hasCell, withEnd, withEdge, withKey, isNew, formChanges, taken, cellFor, takeEdge, takeEnd, takeEntry}
-use Rattle.load.proofs.ProperLaws.{true-not-false}
 use Rattle.load.proofs.WithinLaws.{within-empty, within-takeEntry}
 use Rattle.load.proofs.TableLaws.{Sized, sized-empty, sized-withEnd, sized-withEdge, sized-withKey, tableEdges-withEdge, length-tableEdges, sameCell, hasCell-tableEdges, tableKeys-withKey, length-tableKeys, tableKeys-withEdge, tableEdges-withKey, tableKeys-withEnd, tableEdges-withEnd}
 
@@ -242,11 +242,7 @@ module _ (t : Table) (es : List Entry) (kept : Kept t es) where
         go true true e g =
             let i = eqb-true r a e in
             let j = eqb-true q b g in
-            rw (eq-eqb (16 * r + q) (16 * a + b) (omega arith)) (or-true' rest)
-          where
-            or-true' : (c : Bool) → true ≡ (c || true)
-            or-true' true = refl
-            or-true' false = refl
+            rw (eq-eqb (16 * r + q) (16 * a + b) (omega arith)) (sym (or-true rest))
         go true false e g =
             let i = eqb-true r a e in
             let j = eqb-false q b g in

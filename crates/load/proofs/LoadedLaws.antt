@@ -1,7 +1,7 @@
 -- What a loaded table is: within its limits, and holding the entries of the book, of which no two clash. Assumes nothing.
 use mathlib.Core.Bool.{Bool, true, false, not, cond, _||_}
 use mathlib.Core.List.{List, [], _∷_, _++_, append-nil, append-assoc}
-use mathlib.Core.Path.{_≡_, refl, ap}
+use mathlib.Core.Path.{_≡_, refl, ap, _∙_}
 use Prim.Native.Nat.{ℕ, suc}
 use native.Mathlib.Omega.{arith}
 use lib.Dec.{eqb}
@@ -10,14 +10,14 @@ use Rattle.laws.specs.Lists.{all, any}
 use Rattle.table.specs.Limits.{WithinLimits, withinLimits}
 use Rattle.table.proofs.LimitLaws.{withinLimits-complete}
 use Rattle.book.specs.Entry.{Entry, keysOf, clash}
-use Rattle.book.specs.Load.{Read, refused, entries, readBook, hasRule, dangles, firstLine, clashes, firstClash, refuse, checkBook, checked, loads}
+use Rattle.book.specs.Load.{Read, refused, entries, readBook, hasRule, dangles, firstLine, clashes, firstClash, Answer as Paper, refuse, checkBook, checked, loads}
 use Rattle.book.specs.Holds.{Holds}
 use Rattle.book.proofs.HoldLaws.{Each, each-map, each-append}
+use Rattle.book.proofs.TruthLaws.{or-parts}
 use Rattle.load.specs.declared.Loaded.{Loaded}
 use Rattle.load.specs.Proper.{Proper}
-use Rattle.load.specs.Step.{tableOf, takeBook}
+use Rattle.load.specs.Step.{emptyTable, tableFrom, tableOf, takeBook}
 use Rattle.load.specs.Loads.{LoadsAs}
-use Rattle.load.proofs.ProperLaws.{true-not-false}
 use Rattle.load.proofs.KeptLaws.{Kept}
 use Rattle.load.proofs.AgreeLaws.{Agree, kept-none, book-agrees}
 
@@ -26,10 +26,6 @@ module _ (ks : List (List ℕ)) where
   -- no entry of the one list leads to one of the other without its key rising
   abbrev Apart : List Entry → List Entry → Type 0
   Apart l r = Each (λ a. Each (λ b. clash ks a b ≡ false) r) l
-
-  or-parts : (a b : Bool) → (a || b) ≡ false → (a ≡ false) × (b ≡ false)
-  or-parts true b e = true-not-false true refl e
-  or-parts false b e = (refl, e)
 
   none-of-any : (x : Entry) (l : List Entry) → any (clashes ks x) l ≡ false → Each (λ y. (clash ks y x ≡ false) × (clash ks x y ≡ false)) l
   unfolding any clashes
@@ -117,11 +113,35 @@ loads-apart = loads-elim (λ es. Apart (keysOf es) es es) tt (λ es k e. apart-o
 pub loads-apart-test : (b : List ℕ) → all (λ a. all (λ c. not (clash (keysOf (loads b .entries)) a c)) (loads b .entries)) (loads b .entries) ≡ true
 loads-apart-test b = all-apart (keysOf (loads b .entries)) (loads b .entries) (loads b .entries) (loads-apart b)
 
+-- a refused book has no entries
+pub loads-refused : (b : List ℕ) → (loads b .number ≡ 0 → ⊥) → loads b .entries ≡ []
+unfolding loads checked checkBook
+loads-refused b = go (readBook b)
+  where
+    go : (p : Read) → (checked p .number ≡ 0 → ⊥) → checked p .entries ≡ []
+    go (refused k n) h = refl
+    go (entries es) h =
+        cases (eqb (firstLine (dangles es) 2 es) 0) (hasRule es 0) (eqb (firstClash (keysOf es) 2 [] es) 0) (firstLine (dangles es) 2 es) (firstClash (keysOf es) 2 [] es) es h
+      where
+        answer : Bool → Bool → Bool → ℕ → ℕ → List Entry → Paper
+        answer x y z d c l = cond x (cond y (cond z (record { number = 0; line = 0; entries = l }) (refuse 9 c)) (refuse 8 0)) (refuse 8 d)
+
+        cases : (x y z : Bool) (d c : ℕ) (l : List Entry) → (answer x y z d c l .number ≡ 0 → ⊥) → answer x y z d c l .entries ≡ []
+        cases true true true d c l k = absurd (k refl)
+        cases true true false d c l k = refl
+        cases true false z d c l k = refl
+        cases false y z d c l k = refl
+
 -- ---- the table that load gives
 module _ (b : List ℕ) (r : Loaded) (l : LoadsAs b r) where
   -- it holds the entries of the book
   pub loaded-holds : Holds (r .table) (loads b .entries)
   loaded-holds = rw (l .table) (loads-held b)
+
+  -- a refusal has the empty table
+  pub refused-table : (loads b .number ≡ 0 → ⊥) → r .table ≡ emptyTable
+  unfolding tableOf tableFrom
+  refused-table h = l .table ∙ ap tableOf (loads-refused b h)
 
   -- it is within its limits, and so never meets refusal 23
   pub loaded-within : WithinLimits (r .table)

@@ -15,15 +15,8 @@ use Rattle.table.specs.Kind.{codeOf}
 use Rattle.book.specs.Entry.{obj, arr, edge, end-state}
 use Rattle.book.specs.Text.{isEmpty, isNumber, number, split}
 use Rattle.book.specs.Line.{isForm, formOf, isVisible, isKey, keyOf, isKind, kindIn, smallKind, formed, small, entryOf, bad, good, sayFields, sayParts, sayLine, word-obj, word-end, dash}
+use Rattle.book.proofs.TruthLaws.{true-not-false, and-true}
 use Rattle.load.specs.Proper.{isArr, ProperEdge, ProperSaid}
-
--- the two parts of a conjunction that is true
-pub and-true : (a b : Bool) → (a && b) ≡ true → (a ≡ true) × (b ≡ true)
-and-true true b e = (refl, e)
-and-true false b e = absurd (let z : _≡_ {A = ℕ} 0 1 = cc in omega arith)
-
-pub true-not-false : {A : Type 0} (b : Bool) → b ≡ true → b ≡ false → A
-true-not-false b p q = absurd (let z : _≡_ {A = ℕ} 0 1 = cc in omega arith)
 
 codeOf-lt : (v : ValueKind) → smallKind v ≡ true → codeOf v < 38
 unfolding smallKind codeOf

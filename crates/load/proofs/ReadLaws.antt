@@ -14,9 +14,10 @@ use Rattle.table.specs.declared.Table.{Table}
 use Rattle.book.specs.Text.{isEmpty, split}
 use Rattle.book.specs.Line.{bad, good, sayLine}
 use Rattle.book.specs.Load.{names}
+use Rattle.book.proofs.TruthLaws.{true-not-false, and-true}
 use Rattle.scan.specs.Scan.{until}
 use Rattle.line.specs.declared.Line.{Line}
-use Rattle.line.specs.Line.{seg, entryWith, said}
+use Rattle.line.specs.Line.{seg, entryWith, Says}
 use Rattle.line.proofs.SplitLaws.{split-more, split-last, split-some}
 use Rattle.load.specs.declared.Answer.{Answer}
 use Rattle.load.specs.declared.Answer.the-variants.{Size, Names, Malformed}
@@ -24,10 +25,10 @@ use Rattle.load.specs.declared.Loaded.{Loaded}
 use Rattle.load.specs.declared.store.Taken.{Taken}
 use Rattle.load.specs.Proper.{Proper, ProperSaid}
 use Rattle.load.specs.Step.{emptyTable, taken, takeEntry, takeSaid, lineRefusal, loaded, refusal, takeOn, takeLines, takeBook}
-use Rattle.load.proofs.ProperLaws.{sayLine-proper, and-true, true-not-false}
+use Rattle.load.proofs.ProperLaws.{sayLine-proper}
 
 -- ---- a line
-module _ (l : List ℕ) (j : Line) (q : said j l ≡ sayLine l) where
+module _ (l : List ℕ) (j : Line) (told : Says l (sayLine l) j) where
   -- the key, as the part of the line that is lent
   abbrev key : List ℕ
   key = take (j .«key_at» + j .«key_len» - j .«key_at») (drop (j .«key_at») l)
@@ -35,11 +36,11 @@ module _ (l : List ℕ) (j : Line) (q : said j l ≡ sayLine l) where
   says : j .fault ≡ 0 → good (entryWith j key) ≡ sayLine l
   says h =
       let e : j .«key_at» + j .«key_len» - j .«key_at» ≡ j .«key_len» = omega arith in
-      rw e (rw (eq-eqb (j .fault) 0 h) at q)
+      rw e (rw (eq-eqb (j .fault) 0 h) at (told .says))
 
   pub line-fault : (n : ℕ) (t : Table) → (j .fault ≡ 0 → ⊥) → taken (j .fault) t ≡ takeSaid n t (sayLine l)
   unfolding takeSaid
-  line-fault n t h = let z : bad (j .fault) ≡ sayLine l = rw (ne-eqb (j .fault) 0 h) at q in rw (sym z)
+  line-fault n t h = let z : bad (j .fault) ≡ sayLine l = rw (ne-eqb (j .fault) 0 h) at (told .says) in rw (sym z)
 
   pub line-proper : j .fault ≡ 0 → Proper (entryWith j key)
   line-proper h = subst ProperSaid (sym (says h)) (sayLine-proper l)

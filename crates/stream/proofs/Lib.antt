@@ -1,2 +1,3 @@
 pub mod ByteLaws
 pub mod PieceLaws
+pub mod CallLaws

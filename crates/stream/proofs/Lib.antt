@@ -1,3 +1,4 @@
 pub mod ByteLaws
 pub mod PieceLaws
 pub mod CallLaws
+pub mod Demand

@@ -60,7 +60,7 @@ module _ {Book : Table → List Entry → Type 0} {Tracks : Table → (es : List
   -- ---- one stream
 
   -- where a stream stands: no call was accepted so far, or the reader and the buffer of the last follow the paper
-  abbrev Stands : Held Book → Reader → Paper → Type 0
+  abbrev pub Stands : Held Book → Reader → Paper → Type 0
   Stands nothing r p = Fresh n r × (p ≡ opening)
   Stands (held t w) r p = Follows es (Tracks t es n) n (memoryOf r w) p
 
@@ -72,29 +72,49 @@ module _ {Book : Table → List Entry → Type 0} {Tracks : Table → (es : List
       rw (s .1, f .lex, f .root, f .key) (follows-of-fresh facts book n least most J judge true (buffer c) h)
   follows-of-stands (held t w) r p c book h s e = rw (e .0, e .1) s
 
-  module _ (c : Call) (cs : List Call) (k : Held Book) (r : Reader) (p : Paper) (g : Good n r) (s : Stands k r p)
-      (rest : (k : Held Book) (r : Reader) (p : Paper) → Good n r → Stands k r p → Fair Book es n k r cs → answers r cs ≡ told J n p cs) where
-    answers-of-call : (b : Bool) → accepted n c ≡ b
-        → when Book b (Book (table c) es × Same Book k c × Fair Book es n (held (table c) (run r c .work)) (run r c .reader) cs) (Fair Book es n k (run r c .reader) cs)
-        → answers r (c ∷ cs) ≡ told J n p (c ∷ cs)
-    unfolding answers told
-    answers-of-call true e f =
+  -- an accepted call of a fair stream: it does what the paper says, and the rest of the stream is fair
+  pub record Took (k : Held Book) (r : Reader) (p : Paper) (c : Call) (cs : List Call) : Type 0 where
+    pub alike : Alike es (Tracks (table c) es n) n (run r c) (says J n p c)
+    pub book : Book (table c) es
+    pub fair : Fair Book es n (held (table c) (run r c .work)) (run r c .reader) cs
+
+  module _ (k : Held Book) (r : Reader) (c : Call) (cs : List Call) (fair : Fair Book es n k r (c ∷ cs)) (g : Good n r) where
+    pub took-of-accepted : (p : Paper) → Stands k r p → accepted n c ≡ true → Took k r p c cs
+    unfolding Fair
+    took-of-accepted p s e =
         let x = accepted-of-true n least most r c g e in
-        let a : Alike es (Tracks (table c) es n) n (run r c) (says J n p c) =
-          rw (x .run-is, x .says-is J p) (alike-of-reading c r p (f .0) (g .frames) (follows-of-stands k r p c (f .0) (x .long) s (f .1))) in
+        let f : Book (table c) es × Same Book k c × Fair Book es n (held (table c) (run r c .work)) (run r c .reader) cs = rw e at fair in
+        record {
+          alike = rw (x .run-is, x .says-is J p) (alike-of-reading c r p (f .0) (g .frames) (follows-of-stands k r p c (f .0) (x .long) s (f .1)));
+          book = f .0;
+          fair = f .2;
+        }
+
+    pub fair-of-refused : accepted n c ≡ false → Fair Book es n k r cs
+    unfolding Fair
+    fair-of-refused e =
+        let f : Fair Book es n k (run r c .reader) cs = rw e at fair in
+        subst (λ (y : Reader). Fair Book es n k y cs) (refused-of-false n least most r c g e .stays .reader) f
+
+  module _ (c : Call) (cs : List Call) (k : Held Book) (r : Reader) (p : Paper) (g : Good n r) (s : Stands k r p) (f : Fair Book es n k r (c ∷ cs))
+      (rest : (k : Held Book) (r : Reader) (p : Paper) → Good n r → Stands k r p → Fair Book es n k r cs → answers r cs ≡ told J n p cs) where
+    answers-of-call : (b : Bool) → accepted n c ≡ b → answers r (c ∷ cs) ≡ told J n p (c ∷ cs)
+    unfolding answers told
+    answers-of-call true e =
+        let x = took-of-accepted k r c cs f g p s e in
+        let a = x .alike in
         rw (a .count, a .answer,
-          rest (held (table c) (run r c .work)) (run r c .reader) (says J n p c .paper) (good-of-call n least most r c g) (a .follows) (f .2))
-    answers-of-call false e f =
+          rest (held (table c) (run r c .work)) (run r c .reader) (says J n p c .paper) (good-of-call n least most r c g) (a .follows) (x .fair))
+    answers-of-call false e =
         let x = refused-of-false n least most r c g e in
-        let q : answers r cs ≡ told J n p cs = rest k r p g s (subst (λ (y : Reader). Fair Book es n k y cs) (x .stays .reader) f) in
-        rw (x .count J p, x .answer J p, x .stays .reader, x .paper J p, q)
+        rw (x .count J p, x .answer J p, x .stays .reader, x .paper J p, rest k r p g s (fair-of-refused k r c cs f g e))
 
   -- the calls of a fair stream are answered as on paper
   pub answers-of-stands : (cs : List Call) (k : Held Book) (r : Reader) (p : Paper) → Good n r → Stands k r p → Fair Book es n k r cs
       → answers r cs ≡ told J n p cs
-  unfolding answers told Fair
+  unfolding answers told
   answers-of-stands [] k r p g s f = refl
-  answers-of-stands (c ∷ cs) k r p g s f = answers-of-call c cs k r p g s (λ k r p g s f. answers-of-stands cs k r p g s f) (accepted n c) refl f
+  answers-of-stands (c ∷ cs) k r p g s f = answers-of-call c cs k r p g s f (λ k r p g s f. answers-of-stands cs k r p g s f) (accepted n c) refl
 
   pub answers-of-fair : (cs : List Call) (r : Reader) → Fresh n r → Fair Book es n nothing r cs → answers r cs ≡ told J n opening cs
   answers-of-fair cs r f fair = answers-of-stands cs nothing r opening (good-of-fresh n r f) (f, refl) fair

@@ -2,3 +2,5 @@ pub mod ByteLaws
 pub mod PieceLaws
 pub mod CallLaws
 pub mod Demand
+pub mod StreamLaws
+pub mod JudgeLaws

@@ -4,3 +4,4 @@ pub mod CallLaws
 pub mod Demand
 pub mod StreamLaws
 pub mod JudgeLaws
+pub mod RecordLaws

@@ -139,6 +139,8 @@ module _ (n : ℕ) (least : 1 ≤ n) (most : n ≤ 64) where
 
   -- where it refuses, so does the machine, and both stay as they were
   pub record Refused (r : Reader) (c : Call) : Type 0 where
+    pub refusal : Refusal
+    pub refused : run r c .answer ≡ Says.Refused refusal
     pub stays : Unchanged r (buffer c) (run r c)
     pub paper : (J : Judge) (p : Paper) → says J n p c .paper ≡ p
     pub count : (J : Judge) (p : Paper) → run r c .count ≡ says J n p c .count
@@ -166,6 +168,8 @@ module _ (n : ℕ) (least : 1 ≤ n) (most : n ≤ 64) where
             → ((J : Judge) (p : Paper) → says J n p c ≡ record { paper = p; count = 0; answer = Says.Refused k }) → Refused r c
         both k x y =
             record {
+              refusal = k;
+              refused = rw x;
               stays = rw x (unchanged-of-refusing r (buffer c) k);
               paper = λ J p. rw (y J p);
               count = λ J p. rw (x, y J p);

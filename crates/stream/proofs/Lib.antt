@@ -5,3 +5,4 @@ pub mod Demand
 pub mod StreamLaws
 pub mod JudgeLaws
 pub mod RecordLaws
+pub mod Corollaries

@@ -1,5 +1,5 @@
 -- The parts and verdicts of a stream's bytes, and the paper that goes through them. Assumes nothing.
-use mathlib.Core.Bool.{Bool, true, false, cond}
+use mathlib.Core.Bool.{Bool, true, false, cond, not, _&&_}
 use mathlib.Core.List.{List, [], _∷_, _++_, append-assoc, append-nil}
 use mathlib.Core.Path.{_≡_, refl, sym, ap, _∙_}
 use Prim.Native.Nat.{ℕ, _+_}
@@ -7,11 +7,12 @@ use native.Mathlib.Omega.{arith}
 use lib.Dec.{eqb}
 use lib.ListN.{drop}
 use lib.Seq.{drop-drop}
+use Rattle.laws.specs.Lists.{all}
 use Rattle.verdict.specs.declared.Verdict.{Verdict}
 use Rattle.reader.specs.declared.Answer.the-variants as Says
 use Rattle.reader.specs.Paper.{Judge, Paper, nonempty, Said, goes, ends}
 use Rattle.laws.proofs.TestLaws.{true-neq-false}
-use Rattle.stream.specs.Records.{Parts, withByte, split, given, givenAll, verdictsOf, verdictsBehind, andThen}
+use Rattle.stream.specs.Records.{Parts, withByte, split, noRS, given, givenAll, verdictsOf, verdictsBehind, andThen}
 
 -- ---- what stands behind an RS
 
@@ -68,6 +69,22 @@ module _ (J : Judge) where
   verdictsBehind-append a s =
       rw (split-append a s, givenAll-append (split a .behind) (split s .first ∷ split s .behind), givenAll-split s)
       (given-append false (split a .first) (givenAll J (split a .behind)) (verdictsBehind J s))
+
+-- a record behind an RS
+split-of-noRS : (p : List ℕ) → noRS p ≡ true → split p ≡ record { first = p; behind = [] }
+unfolding split all
+split-of-noRS [] h = refl
+split-of-noRS (b ∷ p) h = go (λ g. split-of-noRS p g) (eqb b 0x1E) refl h
+  where
+    go : (noRS p ≡ true → split p ≡ record { first = p; behind = [] }) → (x : Bool) → eqb b 0x1E ≡ x → not x && noRS p ≡ true
+        → withByte b (split p) ≡ record { first = b ∷ p; behind = [] }
+    go rest true e h = true-neq-false (sym h)
+    go rest false e h = rw (e, rest h)
+
+-- has one verdict
+pub verdictsBehind-of-record : (J : Judge) (p : List ℕ) → nonempty p ≡ true → noRS p ≡ true → verdictsBehind J p ≡ J false p ∷ []
+unfolding givenAll
+verdictsBehind-of-record J p e h = rw (split-of-noRS p h, e)
 
 -- ---- the paper
 

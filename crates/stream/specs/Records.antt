@@ -1,11 +1,12 @@
 -- A stream by its bytes: RS splits it into parts, each nonempty one a record with one verdict, and calls hand its bytes over piece by piece: 01,
 -- "The stream" and "The stream on paper". Stated. Assumes nothing.
-use mathlib.Core.Bool.{Bool, true, false, cond}
+use mathlib.Core.Bool.{Bool, true, false, cond, not}
 use mathlib.Core.List.{List, [], _∷_, _++_}
 use mathlib.Core.Path.{_≡_}
 use Prim.Native.Nat.{ℕ}
 use lib.Dec.{eqb}
 use lib.ListN.{drop}
+use Rattle.laws.specs.Lists.{all}
 use Rattle.table.specs.declared.Table.{Table}
 use Rattle.verdict.specs.declared.Verdict.{Verdict}
 use Rattle.reader.specs.declared.Reader.{Reader}
@@ -28,6 +29,10 @@ withByte b x = cond (eqb b 0x1E) (record { first = []; behind = x .first ∷ x .
 unfoldable pub split : List ℕ → Parts
 split [] = record { first = []; behind = [] }
 split (b ∷ s) = withByte b (split s)
+
+-- bytes with no RS among them
+abbrev pub noRS : List ℕ → Bool
+noRS s = all (λ (b : ℕ). not (eqb b 0x1E)) s
 
 -- a nonempty part is a record with one verdict, an empty part has none; vs are the verdicts behind it
 abbrev pub given : Judge → Bool → List ℕ → List Verdict → List Verdict

@@ -22,6 +22,7 @@ use Rattle.reader.specs.Machine.{Outcome, freshLex, freshReader, zeroTally, fit
 use Rattle.reader.specs.Paper.{Call, feed, close, Judge, Paper, Said, goes, ends, refuses, says}
 use Rattle.reader.specs.Claim.{run, after, table, buffer, accepted, closes}
 use Rattle.laws.proofs.TestLaws.{true-neq-false, cond-elim}
+use Rattle.stream.specs.Records.{Fresh}
 use Rattle.stream.proofs.ByteLaws.{Within, within-of-piece}
 
 -- ---- a call that is not refused
@@ -92,13 +93,6 @@ pub record Good (n : ℕ) (r : Reader) : Type 0 where
   pub frames : r .frames ≡ n
   pub within : Within n (r .lex)
 
--- a reader that is fresh at the start or behind a close
-pub record Fresh (n : ℕ) (r : Reader) : Type 0 where
-  pub frames : r .frames ≡ n
-  pub lex : r .lex ≡ freshLex true
-  pub root : r .root ≡ false
-  pub key : r .key ≡ replicate 32 0
-
 within-of-fresh : (n : ℕ) (head : Bool) → Within n (freshLex head)
 within-of-fresh n head = record { level = omega arith; len = omega arith }
 
@@ -123,6 +117,21 @@ good-of-reading n r (close t w) g = good-of-fresh n (reading r (close t w) .read
 
 -- ---- a call by its tests, with n frames
 
+-- where the paper accepts a call, so does the machine
+pub record Accepted (n : ℕ) (r : Reader) (c : Call) : Type 0 where
+  pub run-is : run r c ≡ reading r c
+  pub says-is : (J : Judge) (p : Paper) → says J n p c ≡ saying J p c
+  pub long : 96 * n ≤ length (buffer c)
+
+-- where it refuses, so does the machine, and both stay as they were
+pub record Refused (n : ℕ) (r : Reader) (c : Call) : Type 0 where
+  pub refusal : Refusal
+  pub refused : run r c .answer ≡ Says.Refused refusal
+  pub stays : Unchanged r (buffer c) (run r c)
+  pub paper : (J : Judge) (p : Paper) → says J n p c .paper ≡ p
+  pub count : (J : Judge) (p : Paper) → run r c .count ≡ says J n p c .count
+  pub answer : (J : Judge) (p : Paper) → run r c .answer ≡ says J n p c .answer
+
 module _ (n : ℕ) (least : 1 ≤ n) (most : n ≤ 64) where
   withinReader-of-good : (r : Reader) → Good n r → withinReader r ≡ true
   unfolding fitReader
@@ -131,27 +140,12 @@ module _ (n : ℕ) (least : 1 ≤ n) (most : n ≤ 64) where
       rw (le-leb 1 (r .frames) (omega arith), le-leb (r .frames) 64 (omega arith), le-leb (r .lex .level) (r .frames) (omega (arith, g .within .level)),
         le-leb (r .lex .len) 33 (g .within .len))
 
-  -- where the paper accepts a call, so does the machine
-  pub record Accepted (r : Reader) (c : Call) : Type 0 where
-    pub run-is : run r c ≡ reading r c
-    pub says-is : (J : Judge) (p : Paper) → says J n p c ≡ saying J p c
-    pub long : 96 * n ≤ length (buffer c)
-
-  -- where it refuses, so does the machine, and both stay as they were
-  pub record Refused (r : Reader) (c : Call) : Type 0 where
-    pub refusal : Refusal
-    pub refused : run r c .answer ≡ Says.Refused refusal
-    pub stays : Unchanged r (buffer c) (run r c)
-    pub paper : (J : Judge) (p : Paper) → says J n p c .paper ≡ p
-    pub count : (J : Judge) (p : Paper) → run r c .count ≡ says J n p c .count
-    pub answer : (J : Judge) (p : Paper) → run r c .answer ≡ says J n p c .answer
-
   module _ (r : Reader) (c : Call) (g : Good n r) where
-    pub accepted-of-true : accepted n c ≡ true → Accepted r c
+    pub accepted-of-true : accepted n c ≡ true → Accepted n r c
     accepted-of-true = go (withinLimits (table c)) refl (ltb (length (buffer c)) (96 * n)) refl
       where
         go : (a : Bool) → withinLimits (table c) ≡ a → (b : Bool) → ltb (length (buffer c)) (96 * n) ≡ b → cond a (cond b false true) false ≡ true
-            → Accepted r c
+            → Accepted n r c
         go true x true y h = true-neq-false (sym h)
         go true x false y h =
             record {
@@ -161,11 +155,11 @@ module _ (n : ℕ) (least : 1 ≤ n) (most : n ≤ 64) where
             }
         go false x b y h = true-neq-false (sym h)
 
-    pub refused-of-false : accepted n c ≡ false → Refused r c
+    pub refused-of-false : accepted n c ≡ false → Refused n r c
     refused-of-false = go (withinLimits (table c)) refl (ltb (length (buffer c)) (96 * n)) refl
       where
         both : (k : Refusal) → run r c ≡ refusing r (buffer c) k
-            → ((J : Judge) (p : Paper) → says J n p c ≡ record { paper = p; count = 0; answer = Says.Refused k }) → Refused r c
+            → ((J : Judge) (p : Paper) → says J n p c ≡ record { paper = p; count = 0; answer = Says.Refused k }) → Refused n r c
         both k x y =
             record {
               refusal = k;
@@ -176,7 +170,7 @@ module _ (n : ℕ) (least : 1 ≤ n) (most : n ≤ 64) where
               answer = λ J p. rw (x, y J p);
             }
         go : (a : Bool) → withinLimits (table c) ≡ a → (b : Bool) → ltb (length (buffer c)) (96 * n) ≡ b → cond a (cond b false true) false ≡ false
-            → Refused r c
+            → Refused n r c
         go true x true y h =
             both No.ShortBuffer (run-of-reading r c ∙ rw (x, withinReader-of-good r g, g .frames, y)) (λ J p. says-of-saying J n p c ∙ rw (x, y))
         go true x false y h = true-neq-false h

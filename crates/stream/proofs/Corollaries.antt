@@ -22,8 +22,8 @@ use Rattle.reader.specs.Machine.{startOf}
 use Rattle.reader.specs.Paper.{Call, feed, close, Judge, Judges, Paper, opening, nonempty, says}
 use Rattle.reader.specs.Claim.{run, answers, after, table, accepted, closes, Held, nothing, held, Fair}
 use Rattle.stream.specs.Bytes.{Reading}
-use Rattle.stream.specs.Records.{noRS, verdictsOf, verdictsBehind, andThen, verdictsIn, Hands, closed, fed, refused}
-use Rattle.stream.proofs.CallLaws.{Good, Fresh, good-of-fresh, accepted-of-true, refused-of-false, good-of-call, good-of-calls, fresh-of-closes, begun-of-start}
+use Rattle.stream.specs.Records.{noRS, verdictsOf, verdictsBehind, andThen, verdictsIn, Hands, closed, fed, refused, Fresh, StreamOf}
+use Rattle.stream.proofs.CallLaws.{Good, good-of-fresh, accepted-of-true, refused-of-false, good-of-call, good-of-calls, fresh-of-closes, begun-of-start}
 use Rattle.stream.proofs.Demand.{Alike, Stands, Took, took-of-accepted, fair-of-refused}
 use Rattle.stream.proofs.JudgeLaws.{judgeOf, judges-exist}
 use Rattle.stream.proofs.RecordLaws.{verdictsOf-append, verdictsBehind-append, verdictsFrom, verdictsBehind-of-record, from-close, from-feed}
@@ -42,10 +42,10 @@ getLast-append [] v = refl
 getLast-append (u ∷ []) v = refl
 getLast-append (u ∷ t ∷ vs) v = getLast-append (t ∷ vs) v
 
-module _ {Book : Table → List Entry → Type 0} {Tracks : Table → (es : List Entry) → ℕ → Mem → Track es → Type 0} (facts : Reading Book Tracks)
+module _ {Book : Table → List Entry → Type 0} {Tracks : (es : List Entry) → ℕ → Mem → Track es → Type 0} (facts : Reading Book Tracks)
     (es : List Entry) (n : ℕ) (least : 1 ≤ n) (most : n ≤ 64) where
   module _ (J : Judge) (judge : Judges es n J) where
-    verdicts-of-stands : (k : Held Book) (r : Reader) (p : Paper) (cs : List Call) (s : List ℕ) → Good n r → Stands facts es n least most J judge k r p
+    verdicts-of-stands : (k : Held Book) (r : Reader) (p : Paper) (cs : List Call) (s : List ℕ) → Good n r → Stands Tracks es n k r p
         → Fair Book es n k r cs → Hands n r cs s → verdictsIn (answers r cs) ≡ verdictsFrom J p s
     unfolding verdictsIn answers
     verdicts-of-stands k r p _ _ g s fair (closed {t = t} {w = w} e) =
@@ -76,13 +76,7 @@ module _ {Book : Table → List Entry → Type 0} {Tracks : Table → (es : List
   sound-of-hands k r _ _ fair (fed {t = t} {w = w} {s = s} u e rest) = facts .sound ((rw e at fair) .0)
   sound-of-hands k r _ s fair (refused {c = c} {cs = cs} e rest) = sound-of-hands k (run r c .reader) cs s (rw e at fair) rest
 
-  -- a stream of calls from a fresh reader that hands over the bytes s, with the book's entries es
-  pub record StreamOf (r : Reader) (cs : List Call) (s : List ℕ) : Type 0 where
-    pub fresh : Fresh n r
-    pub fair : Fair Book es n nothing r cs
-    pub hands : Hands n r cs s
-
-  module _ {r : Reader} {cs : List Call} {s : List ℕ} (x : StreamOf r cs s) where
+  module _ {r : Reader} {cs : List Call} {s : List ℕ} (x : StreamOf Book es n r cs s) where
     sound-of-stream : Sound es
     sound-of-stream = sound-of-hands nothing r cs s (x .fair) (x .hands)
 
@@ -90,13 +84,13 @@ module _ {Book : Table → List Entry → Type 0} {Tracks : Table → (es : List
     verdicts-of-stream = verdicts-of-bytes (judgeOf es n) (judges-exist sound-of-stream n) r cs s (x .fresh) (x .fair) (x .hands)
 
   -- the same bytes, cut otherwise, have the same verdicts
-  pub same-verdicts-of-same-bytes : {r q : Reader} {cs ds : List Call} {s : List ℕ} → StreamOf r cs s → StreamOf q ds s
+  pub same-verdicts-of-same-bytes : {r q : Reader} {cs ds : List Call} {s : List ℕ} → StreamOf Book es n r cs s → StreamOf Book es n q ds s
       → verdictsIn (answers r cs) ≡ verdictsIn (answers q ds)
   same-verdicts-of-same-bytes x y = verdicts-of-stream x ∙ sym (verdicts-of-stream y)
 
   -- a record p behind an RS has the verdict that it has alone, whatever the bytes a before the RS; here z stands behind the RS that ends it
   pub record-alone : {r : Reader} {cs : List Call} {v : Verdict} (a p z : List ℕ) → nonempty p ≡ true → noRS p ≡ true → Judged es n p v
-      → StreamOf r cs (a ++ (0x1E ∷ (p ++ (0x1E ∷ z))))
+      → StreamOf Book es n r cs (a ++ (0x1E ∷ (p ++ (0x1E ∷ z))))
       → verdictsIn (answers r cs) ≡ verdictsOf (judgeOf es n) a ++ (v ∷ verdictsBehind (judgeOf es n) z)
   record-alone a p z full plain j x =
       let J : Judge = judgeOf es n in
@@ -105,7 +99,7 @@ module _ {Book : Table → List Entry → Type 0} {Tracks : Table → (es : List
 
   -- here a close ends it
   pub last-record-alone : {r : Reader} {cs : List Call} {v : Verdict} (a p : List ℕ) → nonempty p ≡ true → noRS p ≡ true → Judged es n p v
-      → StreamOf r cs (a ++ (0x1E ∷ p)) → verdictsIn (answers r cs) ≡ verdictsOf (judgeOf es n) a ++ (v ∷ [])
+      → StreamOf Book es n r cs (a ++ (0x1E ∷ p)) → verdictsIn (answers r cs) ≡ verdictsOf (judgeOf es n) a ++ (v ∷ [])
   last-record-alone a p full plain j x =
       let J : Judge = judgeOf es n in
       let e : J false p ≡ _ = judged-unique (sound-of-stream x) (judges-exist (sound-of-stream x) n .part p) j in
@@ -113,7 +107,7 @@ module _ {Book : Table → List Entry → Type 0} {Tracks : Table → (es : List
 
   -- two streams that end in one record give it one verdict, whatever stood before it in each
   pub same-verdict-of-same-record : {r q : Reader} {cs ds : List Call} (a b p : List ℕ) → nonempty p ≡ true → noRS p ≡ true
-      → StreamOf r cs (a ++ (0x1E ∷ p)) → StreamOf q ds (b ++ (0x1E ∷ p)) → getLast? (verdictsIn (answers r cs)) ≡ getLast? (verdictsIn (answers q ds))
+      → StreamOf Book es n r cs (a ++ (0x1E ∷ p)) → StreamOf Book es n q ds (b ++ (0x1E ∷ p)) → getLast? (verdictsIn (answers r cs)) ≡ getLast? (verdictsIn (answers q ds))
   same-verdict-of-same-record a b p full plain x y =
       let j = judges-exist (sound-of-stream x) n .part p in
       rw (last-record-alone a p full plain j x, last-record-alone b p full plain j y)

@@ -18,8 +18,9 @@ use Rattle.reader.specs.Machine.{Outcome, freshLex, freshReader, startOf, memor
 use Rattle.reader.specs.Paper.{Call, feed, close, Judge, Judges, Paper, opening, nonempty, Said, goes, ends, says, told}
 use Rattle.reader.specs.Claim.{run, answers, after, table, buffer, accepted, closes, before, streams, Held, nothing, held, Same, when, Fair, Answered, Demand3}
 use Rattle.stream.specs.Bytes.{freshMem, Reading}
+use Rattle.stream.specs.Records.{Fresh}
 use Rattle.stream.proofs.PieceLaws.{Follows, heard, memoryAfter, Agrees, follows-of-fresh, judged-of-follows, agrees-of-piece}
-use Rattle.stream.proofs.CallLaws.{reading, saying, Good, Fresh, good-of-fresh, accepted-of-true, refused-of-false, good-of-call, fresh-of-closes, begun-of-start}
+use Rattle.stream.proofs.CallLaws.{reading, saying, Good, good-of-fresh, accepted-of-true, refused-of-false, good-of-call, fresh-of-closes, begun-of-start}
 
 -- ---- one accepted call
 
@@ -39,18 +40,32 @@ module _ {es : List Entry} {Along : Mem → Track es → Type 0} {n : ℕ} where
       go true q f = record { count = a .count; answer = q; follows = f }
       go false q f = record { count = a .count; answer = q; follows = f }
 
-module _ {Book : Table → List Entry → Type 0} {Tracks : Table → (es : List Entry) → ℕ → Mem → Track es → Type 0} (facts : Reading Book Tracks)
+-- ---- where a stream stands
+
+-- no call was accepted so far, or the reader and the buffer of the last follow the paper
+abbrev pub Stands : {Book : Table → List Entry → Type 0} → ((es : List Entry) → ℕ → Mem → Track es → Type 0) → List Entry → ℕ → Held Book → Reader → Paper
+    → Type 0
+Stands Tracks es n nothing r p = Fresh n r × (p ≡ opening)
+Stands Tracks es n (held t w) r p = Follows es (Tracks es n) n (memoryOf r w) p
+
+-- an accepted call of a fair stream: it does what the paper says, and the rest of the stream is fair
+pub record Took (Book : Table → List Entry → Type 0) (Tracks : (es : List Entry) → ℕ → Mem → Track es → Type 0) (es : List Entry) (n : ℕ) (J : Judge) (r : Reader) (p : Paper)
+    (c : Call) (cs : List Call) : Type 0 where
+  pub alike : Alike es (Tracks es n) n (run r c) (says J n p c)
+  pub fair : Fair Book es n (held (table c) (run r c .work)) (run r c .reader) cs
+
+module _ {Book : Table → List Entry → Type 0} {Tracks : (es : List Entry) → ℕ → Mem → Track es → Type 0} (facts : Reading Book Tracks)
     (es : List Entry) (n : ℕ) (least : 1 ≤ n) (most : n ≤ 64) (J : Judge) (judge : Judges es n J) where
-  alike-of-reading : (c : Call) (r : Reader) (p : Paper) → Book (table c) es → r .frames ≡ n → Follows es (Tracks (table c) es n) n (memoryOf r (buffer c)) p
-      → Alike es (Tracks (table c) es n) n (reading r c) (saying J p c)
+  alike-of-reading : (c : Call) (r : Reader) (p : Paper) → Book (table c) es → r .frames ≡ n → Follows es (Tracks es n) n (memoryOf r (buffer c)) p
+      → Alike es (Tracks es n) n (reading r c) (saying J p c)
   alike-of-reading (feed t w s) r p book e f =
       alike-of-agrees r (runMem t (r .frames) (memoryOf r w) 0 s) (goes J p 0 s) (rw e (agrees-of-piece facts book n least most J judge s (memoryOf r w) p 0 f))
   alike-of-reading (close t w) r p book e f = rw (f .some) (go (nonempty (p .part)))
     where
-      fresh : Follows es (Tracks t es n) n (freshMem true w) opening
+      fresh : Follows es (Tracks es n) n (freshMem true w) opening
       fresh = follows-of-fresh facts book n least most J judge true w (f .long)
       go : (b : Bool)
-          → Alike es (Tracks t es n) n
+          → Alike es (Tracks es n) n
             (cond b (ending r (memoryOf r w) 0 true) (record { reader = freshReader (r .frames) true (r .tally); count = 0; answer = Says.Quiet; work = w }))
             (record { paper = opening; count = 0; answer = cond b (Says.Judged (J (p .head) (p .part))) Says.Quiet })
       go true =
@@ -59,34 +74,22 @@ module _ {Book : Table → List Entry → Type 0} {Tracks : Table → (es : List
 
   -- ---- one stream
 
-  -- where a stream stands: no call was accepted so far, or the reader and the buffer of the last follow the paper
-  abbrev pub Stands : Held Book → Reader → Paper → Type 0
-  Stands nothing r p = Fresh n r × (p ≡ opening)
-  Stands (held t w) r p = Follows es (Tracks t es n) n (memoryOf r w) p
-
   -- a fair call that is accepted is handed what the stream stands at
-  follows-of-stands : (k : Held Book) (r : Reader) (p : Paper) (c : Call) → Book (table c) es → 96 * n ≤ length (buffer c) → Stands k r p → Same Book k c
-      → Follows es (Tracks (table c) es n) n (memoryOf r (buffer c)) p
+  follows-of-stands : (k : Held Book) (r : Reader) (p : Paper) (c : Call) → Book (table c) es → 96 * n ≤ length (buffer c) → Stands Tracks es n k r p → Same Book k c
+      → Follows es (Tracks es n) n (memoryOf r (buffer c)) p
   follows-of-stands nothing r p c book h s e =
       let f : Fresh n r = s .0 in
       rw (s .1, f .lex, f .root, f .key) (follows-of-fresh facts book n least most J judge true (buffer c) h)
-  follows-of-stands (held t w) r p c book h s e = rw (e .0, e .1) s
-
-  -- an accepted call of a fair stream: it does what the paper says, and the rest of the stream is fair
-  pub record Took (k : Held Book) (r : Reader) (p : Paper) (c : Call) (cs : List Call) : Type 0 where
-    pub alike : Alike es (Tracks (table c) es n) n (run r c) (says J n p c)
-    pub book : Book (table c) es
-    pub fair : Fair Book es n (held (table c) (run r c .work)) (run r c .reader) cs
+  follows-of-stands (held t w) r p c book h s e = rw (e .1) s
 
   module _ (k : Held Book) (r : Reader) (c : Call) (cs : List Call) (fair : Fair Book es n k r (c ∷ cs)) (g : Good n r) where
-    pub took-of-accepted : (p : Paper) → Stands k r p → accepted n c ≡ true → Took k r p c cs
+    pub took-of-accepted : (p : Paper) → Stands Tracks es n k r p → accepted n c ≡ true → Took Book Tracks es n J r p c cs
     unfolding Fair
     took-of-accepted p s e =
         let x = accepted-of-true n least most r c g e in
         let f : Book (table c) es × Same Book k c × Fair Book es n (held (table c) (run r c .work)) (run r c .reader) cs = rw e at fair in
         record {
           alike = rw (x .run-is, x .says-is J p) (alike-of-reading c r p (f .0) (g .frames) (follows-of-stands k r p c (f .0) (x .long) s (f .1)));
-          book = f .0;
           fair = f .2;
         }
 
@@ -96,8 +99,8 @@ module _ {Book : Table → List Entry → Type 0} {Tracks : Table → (es : List
         let f : Fair Book es n k (run r c .reader) cs = rw e at fair in
         subst (λ (y : Reader). Fair Book es n k y cs) (refused-of-false n least most r c g e .stays .reader) f
 
-  module _ (c : Call) (cs : List Call) (k : Held Book) (r : Reader) (p : Paper) (g : Good n r) (s : Stands k r p) (f : Fair Book es n k r (c ∷ cs))
-      (rest : (k : Held Book) (r : Reader) (p : Paper) → Good n r → Stands k r p → Fair Book es n k r cs → answers r cs ≡ told J n p cs) where
+  module _ (c : Call) (cs : List Call) (k : Held Book) (r : Reader) (p : Paper) (g : Good n r) (s : Stands Tracks es n k r p) (f : Fair Book es n k r (c ∷ cs))
+      (rest : (k : Held Book) (r : Reader) (p : Paper) → Good n r → Stands Tracks es n k r p → Fair Book es n k r cs → answers r cs ≡ told J n p cs) where
     answers-of-call : (b : Bool) → accepted n c ≡ b → answers r (c ∷ cs) ≡ told J n p (c ∷ cs)
     unfolding answers told
     answers-of-call true e =
@@ -110,7 +113,7 @@ module _ {Book : Table → List Entry → Type 0} {Tracks : Table → (es : List
         rw (x .count J p, x .answer J p, x .stays .reader, x .paper J p, rest k r p g s (fair-of-refused k r c cs f g e))
 
   -- the calls of a fair stream are answered as on paper
-  pub answers-of-stands : (cs : List Call) (k : Held Book) (r : Reader) (p : Paper) → Good n r → Stands k r p → Fair Book es n k r cs
+  pub answers-of-stands : (cs : List Call) (k : Held Book) (r : Reader) (p : Paper) → Good n r → Stands Tracks es n k r p → Fair Book es n k r cs
       → answers r cs ≡ told J n p cs
   unfolding answers told
   answers-of-stands [] k r p g s f = refl
@@ -121,7 +124,7 @@ module _ {Book : Table → List Entry → Type 0} {Tracks : Table → (es : List
 
 -- ---- all streams
 
-module _ {Book : Table → List Entry → Type 0} {Tracks : Table → (es : List Entry) → ℕ → Mem → Track es → Type 0} (facts : Reading Book Tracks)
+module _ {Book : Table → List Entry → Type 0} {Tracks : (es : List Entry) → ℕ → Mem → Track es → Type 0} (facts : Reading Book Tracks)
     (n : ℕ) (least : 1 ≤ n) (most : n ≤ 64) where
   -- the streams behind the first, whose beginning lies behind r
   abbrev Later : Reader → List (List Call) → Type 0
@@ -155,7 +158,7 @@ module _ {Book : Table → List Entry → Type 0} {Tracks : Table → (es : List
 
 -- ---- demand 3
 
-pub demand-3 : {Book : Table → List Entry → Type 0} {Tracks : Table → (es : List Entry) → ℕ → Mem → Track es → Type 0} → Reading Book Tracks
+pub demand-3 : {Book : Table → List Entry → Type 0} {Tracks : (es : List Entry) → ℕ → Mem → Track es → Type 0} → Reading Book Tracks
     → Demand3 Book
 demand-3 facts t w calls e =
     let b = begun-of-start t w e in

@@ -84,10 +84,10 @@ afterHead-of-false x e =
     ap (λ (h : Bool). record { mode = x .mode; fault = x .fault; head = h; level = x .level; pos = x .pos; place = x .place; bits = x .bits; high = x .high; len = x .len })
     (sym e)
 
-module _ {Book : Table → List Entry → Type 0} {Tracks : Table → (es : List Entry) → ℕ → Mem → Track es → Type 0} (facts : Reading Book Tracks)
+module _ {Book : Table → List Entry → Type 0} {Tracks : (es : List Entry) → ℕ → Mem → Track es → Type 0} (facts : Reading Book Tracks)
     {t : Table} {es : List Entry} (book : Book t es) (n : ℕ) (least : 1 ≤ n) (most : n ≤ 64) (J : Judge) (judge : Judges es n J) where
   abbrev Follow : Mem → Paper → Type 0
-  Follow m p = Follows es (Tracks t es n) n m p
+  Follow m p = Follows es (Tracks es n) n m p
 
   -- a record that begins, whatever the buffer holds
   pub follows-of-fresh : (head : Bool) (w : List ℕ) → 96 * n ≤ length w → Follow (freshMem head w) (record { head = head; part = [] })
@@ -107,18 +107,15 @@ module _ {Book : Table → List Entry → Type 0} {Tracks : Table → (es : List
   follows-of-byte m head part b e f =
       record {
         some = rw (moves-of-byte t n m b e .pos) (bump-pos (m .lex .pos) ∙ sym (nonempty-of-byte part b));
-        long = long-of head (f .reads);
+        long = rw (facts .length-kept t n m b) (f .long);
         reads = reads-of head (f .reads);
       }
     where
       in-head : InHead m → stepMem t n m b ≡ mem (headLex (bump (m .lex .pos))) false (replicate 32 0) (m .work)
       in-head i = stepMem-in-head t n m b e (ap (λ (x : Lex). x .head) (i .lex)) ∙ rw (i .lex, i .root, i .key)
-      tracked : InRecord es (Tracks t es n) n m part → Tracks t es n (stepMem t n m b) (track es n (trackStart es) (part ++ (b ∷ [])))
+      tracked : InRecord es (Tracks es n) n m part → Tracks es n (stepMem t n m b) (track es n (trackStart es) (part ++ (b ∷ [])))
       tracked i = rw (track-of-byte es n (trackStart es) part b) (facts .byte book least most (i .tracks) b e)
-      long-of : (h : Bool) → Reads es (Tracks t es n) n h m part → 96 * n ≤ length (stepMem t n m b .work)
-      long-of true i = rw (in-head i) (f .long)
-      long-of false i = facts .long (tracked i)
-      reads-of : (h : Bool) → Reads es (Tracks t es n) n h m part → Reads es (Tracks t es n) n h (stepMem t n m b) (part ++ (b ∷ []))
+      reads-of : (h : Bool) → Reads es (Tracks es n) n h m part → Reads es (Tracks es n) n h (stepMem t n m b) (part ++ (b ∷ []))
       reads-of true i = rw (in-head i) (record { lex = refl; root = refl; key = refl })
       reads-of false i = record { head = moves-of-byte t n m b e .head ∙ i .head; tracks = tracked i }
 
@@ -135,9 +132,9 @@ module _ {Book : Table → List Entry → Type 0} {Tracks : Table → (es : List
   follows-of-RS m false (c ∷ part) b e u f = true-neq-false u
 
   module _ (b : ℕ) (s : List ℕ) (m : Mem) (p : Paper) (i : ℕ) (f : Follow m p)
-      (rest : (m : Mem) (p : Paper) (i : ℕ) → Follow m p → Agrees es (Tracks t es n) n (runMem t n m i s) (goes J p i s)) where
+      (rest : (m : Mem) (p : Paper) (i : ℕ) → Follow m p → Agrees es (Tracks es n) n (runMem t n m i s) (goes J p i s)) where
     agrees-of-byte : (x : Bool) → eqb b 0x1E ≡ x → (y : Bool) → nonempty (p .part) ≡ y
-        → Agrees es (Tracks t es n) n (runMem t n m i (b ∷ s)) (goes J p i (b ∷ s))
+        → Agrees es (Tracks es n) n (runMem t n m i (b ∷ s)) (goes J p i (b ∷ s))
     unfolding runMem goes
     agrees-of-byte true e true u =
         rw (endsRecord-of-RS (m .lex) b e ∙ f .some ∙ u, e, u)
@@ -154,7 +151,7 @@ module _ {Book : Table → List Entry → Type 0} {Tracks : Table → (es : List
         (rest (stepMem t n m b) (record { head = p .head; part = p .part ++ (b ∷ []) }) (i + 1) (follows-of-byte m (p .head) (p .part) b e f))
 
   -- a piece read by the machine is gone through on paper
-  pub agrees-of-piece : (s : List ℕ) (m : Mem) (p : Paper) (i : ℕ) → Follow m p → Agrees es (Tracks t es n) n (runMem t n m i s) (goes J p i s)
+  pub agrees-of-piece : (s : List ℕ) (m : Mem) (p : Paper) (i : ℕ) → Follow m p → Agrees es (Tracks es n) n (runMem t n m i s) (goes J p i s)
   unfolding runMem goes
   agrees-of-piece [] m p i f = record { count = refl; answer = refl; follows = f }
   agrees-of-piece (b ∷ s) m p i f = agrees-of-byte b s m p i f (λ m p i f. agrees-of-piece s m p i f) (eqb b 0x1E) refl (nonempty (p .part)) refl

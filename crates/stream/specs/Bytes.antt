@@ -18,19 +18,19 @@ use Rattle.reader.specs.Machine.{freshLex}
 abbrev pub freshMem : Bool → List ℕ → Mem
 freshMem head w = mem (freshLex head) false (replicate 32 0) w
 
--- `Book t es`: the table t is that of an accepted book with the entries es. `Tracks t es n m s`: with n frames the memory m is that of a record
+-- `Book t es`: the table t is that of an accepted book with the entries es. `Tracks es n m s`: with n frames the memory m is that of a record
 -- whose track is s
-pub record Reading (Book : Table → List Entry → Type 0) (Tracks : Table → (es : List Entry) → ℕ → Mem → Track es → Type 0) : Type 0 where
+pub record Reading (Book : Table → List Entry → Type 0) (Tracks : (es : List Entry) → ℕ → Mem → Track es → Type 0) : Type 0 where
   -- the entries of an accepted book are sound
   pub sound : {t : Table} {es : List Entry} → Book t es → Sound es
   -- a record that begins, whatever the buffer holds
   pub start : {t : Table} {es : List Entry} → Book t es → (n : ℕ) → 1 ≤ n → n ≤ 64 → (w : List ℕ) → 96 * n ≤ length w
-      → Tracks t es n (freshMem false w) (trackStart es)
+      → Tracks es n (freshMem false w) (trackStart es)
   -- a byte other than RS
-  pub byte : {t : Table} {es : List Entry} → Book t es → {n : ℕ} → 1 ≤ n → n ≤ 64 → {m : Mem} {s : Track es} → Tracks t es n m s
-      → (b : ℕ) → eqb b 0x1E ≡ false → Tracks t es n (stepMem t n m b) (trackByte es n s b)
+  pub byte : {t : Table} {es : List Entry} → Book t es → {n : ℕ} → 1 ≤ n → n ≤ 64 → {m : Mem} {s : Track es} → Tracks es n m s
+      → (b : ℕ) → eqb b 0x1E ≡ false → Tracks es n (stepMem t n m b) (trackByte es n s b)
   -- the verdict of a record that ends here
-  pub verdict : {t : Table} {es : List Entry} → Book t es → {n : ℕ} {m : Mem} {s : Track es} → Tracks t es n m s
+  pub verdict : {t : Table} {es : List Entry} → Book t es → {n : ℕ} {m : Mem} {s : Track es} → Tracks es n m s
       → judged (m .lex) (m .root) ≡ trackEnd es s
-  -- the buffer has the frames
-  pub long : {t : Table} {es : List Entry} {n : ℕ} {m : Mem} {s : Track es} → Tracks t es n m s → 96 * n ≤ length (m .work)
+  -- no byte changes the length of the buffer, whatever table and memory
+  pub length-kept : (t : Table) (n : ℕ) (m : Mem) (b : ℕ) → length (stepMem t n m b .work) ≡ length (m .work)

@@ -5,15 +5,17 @@ use mathlib.Core.List.{List, [], _∷_, _++_}
 use mathlib.Core.Path.{_≡_}
 use Prim.Native.Nat.{ℕ}
 use lib.Dec.{eqb}
-use lib.ListN.{drop}
+use lib.ListN.{drop, replicate}
 use Rattle.laws.specs.Lists.{all}
 use Rattle.table.specs.declared.Table.{Table}
+use Rattle.book.specs.Entry.{Entry}
 use Rattle.verdict.specs.declared.Verdict.{Verdict}
 use Rattle.reader.specs.declared.Reader.{Reader}
 use Rattle.reader.specs.declared.Answer.{Answer}
 use Rattle.reader.specs.declared.Answer.the-variants as Says
+use Rattle.reader.specs.Machine.{freshLex}
 use Rattle.reader.specs.Paper.{Call, feed, close, Heard, Judge, nonempty}
-use Rattle.reader.specs.Claim.{run, accepted}
+use Rattle.reader.specs.Claim.{run, accepted, nothing, Fair}
 
 -- ---- the records of a stream
 
@@ -70,3 +72,18 @@ pub data Hands (n : ℕ) : Reader → List Call → List ℕ → Type 0 where
   fed : {r : Reader} {t : Table} {w s : List ℕ} {cs : List Call} (u : List ℕ) → accepted n (feed t w s) ≡ true
       → Hands n (run r (feed t w s) .reader) cs (drop (run r (feed t w s) .count) s ++ u) → Hands n r (feed t w s ∷ cs) (s ++ u)
   refused : {r : Reader} {c : Call} {cs : List Call} {s : List ℕ} → accepted n c ≡ false → Hands n (run r c .reader) cs s → Hands n r (c ∷ cs) s
+
+-- ---- a stream
+
+-- a reader at the beginning of a stream, with n frames
+pub record Fresh (n : ℕ) (r : Reader) : Type 0 where
+  pub frames : r .frames ≡ n
+  pub lex : r .lex ≡ freshLex true
+  pub root : r .root ≡ false
+  pub key : r .key ≡ replicate 32 0
+
+-- a stream from that reader on, fair by a book with the entries es, whose calls hand over the bytes s and close
+pub record StreamOf (Book : Table → List Entry → Type 0) (es : List Entry) (n : ℕ) (r : Reader) (cs : List Call) (s : List ℕ) : Type 0 where
+  pub fresh : Fresh n r
+  pub fair : Fair Book es n nothing r cs
+  pub hands : Hands n r cs s

@@ -39,7 +39,8 @@ abbrev pub saying : Judge → Paper → Call → Said
 saying J p (feed t w s) = goes J p 0 s
 saying J p (close t w) = ends J p
 
-run-of-reading : (r : Reader) (c : Call) → run r c ≡ orRefused r (table c) (buffer c) (reading r c)
+-- a call tests the table, the reader and the buffer, and does the rest
+pub run-of-reading : (r : Reader) (c : Call) → run r c ≡ orRefused r (table c) (buffer c) (reading r c)
 unfolding feedOf closeOf
 run-of-reading r (feed t w s) = refl
 run-of-reading r (close t w) = refl

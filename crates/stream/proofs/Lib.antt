@@ -6,3 +6,5 @@ pub mod StreamLaws
 pub mod JudgeLaws
 pub mod RecordLaws
 pub mod Corollaries
+pub mod TallyLaws
+pub mod Examples

@@ -10,10 +10,11 @@ use Rattle.laws.specs.Lists.{all}
 use Rattle.table.specs.declared.Table.{Table}
 use Rattle.book.specs.Entry.{Entry}
 use Rattle.verdict.specs.declared.Verdict.{Verdict}
+use Rattle.reader.specs.declared.Tally.{Tally}
 use Rattle.reader.specs.declared.Reader.{Reader}
 use Rattle.reader.specs.declared.Answer.{Answer}
 use Rattle.reader.specs.declared.Answer.the-variants as Says
-use Rattle.reader.specs.Machine.{freshLex}
+use Rattle.reader.specs.Machine.{freshLex, tallied}
 use Rattle.reader.specs.Paper.{Call, feed, close, Heard, Judge, nonempty}
 use Rattle.reader.specs.Claim.{run, accepted, nothing, Fair}
 
@@ -64,6 +65,11 @@ andThen (Says.Refused k) vs = vs
 unfoldable pub verdictsIn : List Heard → List Verdict
 verdictsIn [] = []
 verdictsIn (h ∷ hs) = andThen (h .answer) (verdictsIn hs)
+
+-- a tally after verdicts: each is counted
+unfoldable pub tallyAfter : List Verdict → Tally → Tally
+tallyAfter [] y = y
+tallyAfter (v ∷ vs) y = tallyAfter vs (tallied v y)
 
 -- calls from a reader on, with n frames, that hand over bytes and then close. The unread rest of a piece comes first in what the calls behind it
 -- hand over; a refused call hands over nothing

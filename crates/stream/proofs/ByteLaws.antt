@@ -1,11 +1,11 @@
 -- What a byte does to the numbers of a reader, whatever table and buffer it is handed. Assumes nothing.
-use mathlib.Core.Bool.{Bool, true, false, cond}
+use mathlib.Core.Bool.{Bool, true, false}
 use mathlib.Core.List.{List, [], _∷_}
-use mathlib.Core.Path.{_≡_, refl, sym, ap, _∙_}
-use Prim.Native.Nat.{ℕ, _+_, _-_, _≤_, _<_}
+use mathlib.Core.Path.{_≡_, refl}
+use Prim.Native.Nat.{ℕ, _+_, _≤_}
 use native.Mathlib.Omega.{arith}
-use lib.Dec.{T, eqb, ltb, ltb→lt, nltb→le}
-use borrow.Author.Tests.{ltb-true, ltb-false, lt-ltb}
+use lib.Dec.{eqb, ltb, ltb→lt, nltb→le}
+use borrow.Author.Tests.{lt-ltb}
 use Rattle.json.specs.Lexer.{stepOf}
 use Rattle.json.specs.declared.lexer.Mode.{Mode}
 use Rattle.json.specs.declared.lexer.Act.{Act}
@@ -13,14 +13,13 @@ use Rattle.json.specs.declared.lexer.Act.the-variants as A
 use Rattle.json.specs.declared.lexer.Step.{Step}
 use Rattle.table.specs.declared.Table.{Table}
 use Rattle.verdict.specs.Verdict.{longest}
-use Rattle.verdict.specs.declared.Verdict.the-variants as Is
 use Rattle.progress.specs.declared.Fault.{Fault}
 use Rattle.progress.specs.declared.Fault.the-variants as F
 use Rattle.progress.specs.declared.Lex.{Lex}
 use Rattle.progress.specs.declared.Task.{Task}
 use Rattle.progress.specs.declared.Task.the-variants as To
 use Rattle.progress.specs.declared.Advanced.{Advanced}
-use Rattle.progress.specs.Lex.{bump, advance, counted, faulted, charIn, moved, opening, keyChar, ended, closing, acted, sound, afterHead, byFault, advanced, judged}
+use Rattle.progress.specs.Lex.{bump, counted, faulted, charIn, moved, opening, keyChar, acted, sound, afterHead, byFault, advanced}
 use Rattle.progress.specs.Memory.{Mem, mem, topAt, closeAt, perform, advancedAt, stepMem, endsRecord, Ran, runMem}
 use Rattle.laws.proofs.TestLaws.{cond-elim}
 
@@ -65,8 +64,8 @@ module _ (n : ℕ) (x : Lex) where
     moves-keyChar c =
         cond-elim Moved (ltb (x .len) 32)
         (λ h. cond-elim Moved (ltb c 128)
-          (λ g. record { within = λ (i : Within n x). record { level = i .level; len = omega (arith, ltb→lt (x .len) 32 h) }; pos = refl; head = refl })
-          (λ g. moves-outgrown))
+        (λ g. record { within = λ (i : Within n x). record { level = i .level; len = omega (arith, ltb→lt (x .len) 32 h) }; pos = refl; head = refl })
+        (λ g. moves-outgrown))
         (λ h. moves-outgrown)
       where
         moves-outgrown : Moves n x (moved x b m (x .level) 33)

@@ -1,24 +1,22 @@
 -- One call: what it does where it is accepted, and that it changes nothing where it is refused. The reader's numbers stay in their bounds whatever
 -- the calls are handed, so that a reader from an accepted start is refused with 23 for the table alone: `never-above-limit`. Assumes nothing.
-use mathlib.Core.Bool.{Bool, true, false, cond, _&&_}
+use mathlib.Core.Bool.{Bool, true, false, cond}
 use mathlib.Core.List.{List, [], _∷_}
-use mathlib.Core.Path.{_≡_, refl, sym, ap, _∙_, subst}
-use Prim.Native.Nat.{ℕ, _+_, _*_, _/_, _≤_}
+use mathlib.Core.Path.{_≡_, refl, sym, ap, _∙_}
+use Prim.Native.Nat.{ℕ, _*_, _≤_}
 use native.Mathlib.Omega.{arith}
-use lib.Dec.{T, leb, ltb, nltb→le}
-use lib.ListN.{length, replicate}
-use borrow.Author.Tests.{le-leb, ltb-true, ltb-false}
+use lib.Dec.{ltb, nltb→le}
+use lib.ListN.{length}
+use borrow.Author.Tests.{le-leb, ltb-false}
 use Rattle.table.specs.declared.Table.{Table}
 use Rattle.table.specs.Limits.{withinLimits}
 use Rattle.frame.specs.Frame.{frameCount}
-use Rattle.progress.specs.declared.Lex.{Lex}
-use Rattle.progress.specs.Memory.{Mem, mem, Ran, runMem}
+use Rattle.progress.specs.Memory.{Ran, runMem}
 use Rattle.reader.specs.declared.Reader.{Reader}
 use Rattle.reader.specs.declared.Refusal.{Refusal}
 use Rattle.reader.specs.declared.Refusal.the-variants as No
-use Rattle.reader.specs.declared.Answer.{Answer}
 use Rattle.reader.specs.declared.Answer.the-variants as Says
-use Rattle.reader.specs.Machine.{Outcome, freshLex, freshReader, zeroTally, fitReader, withinReader, Start, startOf, refusing, orRefused, memoryOf, ending, going, outcome, feedOf, closeOf}
+use Rattle.reader.specs.Machine.{Outcome, freshLex, freshReader, fitReader, withinReader, Start, startOf, refusing, orRefused, memoryOf, ending, outcome, feedOf, closeOf}
 use Rattle.reader.specs.Paper.{Call, feed, close, Judge, Paper, Said, goes, ends, refuses, says}
 use Rattle.reader.specs.Claim.{run, after, table, buffer, accepted, closes}
 use Rattle.laws.proofs.TestLaws.{true-neq-false, cond-elim}
@@ -78,11 +76,11 @@ pub unchanged-of-refused : (r : Reader) (c : Call) (k : Refusal) → run r c .an
 unchanged-of-refused r c k =
     rw (run-of-reading r c)
     (cond-elim Stays (withinLimits (table c))
-      (λ a. cond-elim Stays (withinReader r)
-        (λ b. cond-elim Stays (ltb (length (buffer c)) (96 * r .frames)) (λ d q. unchanged-of-refusing r (buffer c) No.ShortBuffer)
-          (λ d q. absurd (reading-not-refused r c k q)))
-        (λ b q. unchanged-of-refusing r (buffer c) No.AboveLimit))
-      (λ a q. unchanged-of-refusing r (buffer c) No.AboveLimit))
+    (λ a. cond-elim Stays (withinReader r)
+    (λ b. cond-elim Stays (ltb (length (buffer c)) (96 * r .frames)) (λ d q. unchanged-of-refusing r (buffer c) No.ShortBuffer)
+    (λ d q. absurd (reading-not-refused r c k q)))
+    (λ b q. unchanged-of-refusing r (buffer c) No.AboveLimit))
+    (λ a q. unchanged-of-refusing r (buffer c) No.AboveLimit))
   where
     Stays : Outcome → Type 0
     Stays o = o .answer ≡ Says.Refused k → Unchanged r (buffer c) o
@@ -138,8 +136,12 @@ module _ (n : ℕ) (least : 1 ≤ n) (most : n ≤ 64) where
   unfolding fitReader
   withinReader-of-good r g =
       let f : r .frames ≡ n = g .frames in
-      rw (le-leb 1 (r .frames) (omega arith), le-leb (r .frames) 64 (omega arith), le-leb (r .lex .level) (r .frames) (omega (arith, g .within .level)),
-        le-leb (r .lex .len) 33 (g .within .len))
+      rw (
+        le-leb 1 (r .frames) (omega arith),
+        le-leb (r .frames) 64 (omega arith),
+        le-leb (r .lex .level) (r .frames) (omega (arith, g .within .level)),
+        le-leb (r .lex .len) 33 (g .within .len),
+      )
 
   module _ (r : Reader) (c : Call) (g : Good n r) where
     pub accepted-of-true : accepted n c ≡ true → Accepted n r c
@@ -170,6 +172,7 @@ module _ (n : ℕ) (least : 1 ≤ n) (most : n ≤ 64) where
               count = λ J p. rw (x, y J p);
               answer = λ J p. rw (x, y J p);
             }
+
         go : (a : Bool) → withinLimits (table c) ≡ a → (b : Bool) → ltb (length (buffer c)) (96 * n) ≡ b → cond a (cond b false true) false ≡ false
             → Refused n r c
         go true x true y h =
@@ -219,13 +222,14 @@ unfolding startOf
 begun-of-start t w =
     cond-elim Begins (withinLimits t)
     (λ a. cond-elim Begins (ltb (length w) 96) (λ b e. never No.SmallBuffer e)
-      (λ b e.
-        let h : 96 ≤ length w = nltb→le (length w) 96 b in
-        record { least = omega arith; most = omega arith; fresh = record { frames = refl; lex = refl; root = refl; key = refl } }))
+    (λ b e.
+    let h : 96 ≤ length w = nltb→le (length w) 96 b in
+    record { least = omega arith; most = omega arith; fresh = record { frames = refl; lex = refl; root = refl; key = refl } }))
     (λ a e. never No.AboveLimit e)
   where
     Begins : Start → Type 0
     Begins s = s .answer ≡ Says.Quiet → Begun (frameCount (length w)) (s .reader)
+
     never : {A : Type 0} (k : Refusal) → Says.Refused k ≡ Says.Quiet → A
     never k e = let z : _≡_ {A = ℕ} 0 1 = cc in absurd (omega arith)
 

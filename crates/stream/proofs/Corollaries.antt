@@ -1,11 +1,10 @@
 -- Demand 3 in the customer's words, of a fair stream whose calls hand over bytes and close: `verdicts-of-bytes`, one verdict for each record in
 -- stream order; `same-verdicts-of-same-bytes`, wherever they are cut; `record-alone`, whatever stands before it. Assumes nothing.
-use mathlib.Core.Bool.{Bool, true, false, cond}
+use mathlib.Core.Bool.{true, false}
 use mathlib.Core.List.{List, [], _∷_, _++_, getLast?}
 use mathlib.Core.Option.{some}
-use mathlib.Core.Path.{_≡_, refl, sym, ap, _∙_, subst}
+use mathlib.Core.Path.{_≡_, refl, sym, _∙_}
 use Prim.Native.Nat.{ℕ, _≤_}
-use lib.Dec.{eqb}
 use lib.ListN.{length, drop}
 use Rattle.table.specs.declared.Table.{Table}
 use Rattle.book.specs.Entry.{Entry}
@@ -20,11 +19,11 @@ use Rattle.reader.specs.declared.Reader.{Reader}
 use Rattle.reader.specs.declared.Answer.the-variants as Says
 use Rattle.reader.specs.Machine.{startOf}
 use Rattle.reader.specs.Paper.{Call, feed, close, Judge, Judges, Paper, opening, nonempty, says}
-use Rattle.reader.specs.Claim.{run, answers, after, table, accepted, closes, Held, nothing, held, Fair}
+use Rattle.reader.specs.Claim.{run, answers, after, closes, Held, nothing, held, Fair}
 use Rattle.stream.specs.Bytes.{Reading}
-use Rattle.stream.specs.Records.{noRS, verdictsOf, verdictsBehind, andThen, verdictsIn, Hands, closed, fed, refused, Fresh, StreamOf}
+use Rattle.stream.specs.Records.{noRS, verdictsOf, verdictsBehind, verdictsIn, Hands, closed, fed, refused, Fresh, StreamOf}
 use Rattle.stream.proofs.CallLaws.{Good, good-of-fresh, accepted-of-true, refused-of-false, good-of-call, good-of-calls, fresh-of-closes, begun-of-start}
-use Rattle.stream.proofs.Demand.{Alike, Stands, Took, took-of-accepted, fair-of-refused}
+use Rattle.stream.proofs.Demand.{Stands, took-of-accepted, fair-of-refused}
 use Rattle.stream.proofs.JudgeLaws.{judgeOf, judges-exist}
 use Rattle.stream.proofs.RecordLaws.{verdictsOf-append, verdictsBehind-append, verdictsFrom, verdictsBehind-of-record, from-close, from-feed}
 
@@ -56,12 +55,12 @@ module _ {Book : Table → List Entry → Type 0} {Tracks : (es : List Entry) �
         let x = took-of-accepted facts es n least most J judge k r (feed t w piece) cs fair g p s e in
         let q = accepted-of-true n least most r (feed t w piece) g e in
         let i = verdicts-of-stands (held t (run r (feed t w piece) .work)) (run r (feed t w piece) .reader) (says J n p (feed t w piece) .paper) cs
-          (drop (run r (feed t w piece) .count) piece ++ u) (good-of-call n least most r (feed t w piece) g) (x .alike .follows) (x .fair) rest in
+        (drop (run r (feed t w piece) .count) piece ++ u) (good-of-call n least most r (feed t w piece) g) (x .alike .follows) (x .fair) rest in
         rw (i, x .alike .answer, x .alike .count, q .says-is J p) (sym (from-feed J p piece u))
     verdicts-of-stands k r p _ bs g s fair (refused {c = c} {cs = cs} e rest) =
         let x = refused-of-false n least most r c g e in
         let i = verdicts-of-stands k (run r c .reader) p cs bs (good-of-call n least most r c g) (rw (x .stays .reader) s)
-          (rw (x .stays .reader) (fair-of-refused facts es n least most J judge k r c cs fair g e)) rest in
+        (rw (x .stays .reader) (fair-of-refused facts es n least most J judge k r c cs fair g e)) rest in
         rw (i, x .refused)
 
     -- the answers to the calls have one verdict for each record of the bytes, in stream order

@@ -2,24 +2,24 @@
 -- no accepted call and the reader is fresh. Assumes nothing.
 use mathlib.Core.Bool.{Bool, true, false, cond}
 use mathlib.Core.List.{List, [], _∷_}
-use mathlib.Core.Path.{_≡_, refl, sym, ap, _∙_, subst}
+use mathlib.Core.Path.{_≡_, refl, ap, subst}
 use Prim.Native.Nat.{ℕ, _*_, _≤_}
-use lib.Dec.{T, ltb}
-use lib.ListN.{length, replicate}
+use lib.Dec.{T}
+use lib.ListN.{length}
 use Rattle.table.specs.declared.Table.{Table}
 use Rattle.book.specs.Entry.{Entry}
 use Rattle.frame.specs.Frame.{frameCount}
 use Rattle.verdict.specs.Track.{Track}
 use Rattle.progress.specs.Lex.{judged}
-use Rattle.progress.specs.Memory.{Mem, mem, Ran, runMem}
+use Rattle.progress.specs.Memory.{Mem, Ran, runMem}
 use Rattle.reader.specs.declared.Reader.{Reader}
 use Rattle.reader.specs.declared.Answer.the-variants as Says
-use Rattle.reader.specs.Machine.{Outcome, freshLex, freshReader, startOf, memoryOf, ending, going, outcome}
-use Rattle.reader.specs.Paper.{Call, feed, close, Judge, Judges, Paper, opening, nonempty, Said, goes, ends, says, told}
-use Rattle.reader.specs.Claim.{run, answers, after, table, buffer, accepted, closes, before, streams, Held, nothing, held, Same, when, Fair, Answered, Demand3}
+use Rattle.reader.specs.Machine.{Outcome, freshReader, startOf, memoryOf, ending, going, outcome}
+use Rattle.reader.specs.Paper.{Call, feed, close, Judge, Judges, Paper, opening, nonempty, Said, goes, says, told}
+use Rattle.reader.specs.Claim.{run, answers, after, table, buffer, accepted, closes, before, streams, Held, nothing, held, Same, Fair, Answered, Demand3}
 use Rattle.stream.specs.Bytes.{freshMem, Reading}
 use Rattle.stream.specs.Records.{Fresh}
-use Rattle.stream.proofs.PieceLaws.{Follows, heard, memoryAfter, Agrees, follows-of-fresh, judged-of-follows, agrees-of-piece}
+use Rattle.stream.proofs.PieceLaws.{Follows, Agrees, follows-of-fresh, judged-of-follows, agrees-of-piece}
 use Rattle.stream.proofs.CallLaws.{reading, saying, Good, good-of-fresh, accepted-of-true, refused-of-false, good-of-call, fresh-of-closes, begun-of-start}
 
 -- ---- one accepted call
@@ -64,10 +64,11 @@ module _ {Book : Table → List Entry → Type 0} {Tracks : (es : List Entry) �
     where
       fresh : Follows es (Tracks es n) n (freshMem true w) opening
       fresh = follows-of-fresh facts book n least most J judge true w (f .long)
+
       go : (b : Bool)
           → Alike es (Tracks es n) n
-            (cond b (ending r (memoryOf r w) 0 true) (record { reader = freshReader (r .frames) true (r .tally); count = 0; answer = Says.Quiet; work = w }))
-            (record { paper = opening; count = 0; answer = cond b (Says.Judged (J (p .head) (p .part))) Says.Quiet })
+          (cond b (ending r (memoryOf r w) 0 true) (record { reader = freshReader (r .frames) true (r .tally); count = 0; answer = Says.Quiet; work = w }))
+          (record { paper = opening; count = 0; answer = cond b (Says.Judged (J (p .head) (p .part))) Says.Quiet })
       go true =
           record { count = refl; answer = ap Says.Judged (judged-of-follows facts book n least most J judge (memoryOf r w) (p .head) (p .part) f); follows = fresh }
       go false = record { count = refl; answer = refl; follows = fresh }
@@ -106,8 +107,11 @@ module _ {Book : Table → List Entry → Type 0} {Tracks : (es : List Entry) �
     answers-of-call true e =
         let x = took-of-accepted k r c cs f g p s e in
         let a = x .alike in
-        rw (a .count, a .answer,
-          rest (held (table c) (run r c .work)) (run r c .reader) (says J n p c .paper) (good-of-call n least most r c g) (a .follows) (x .fair))
+        rw (
+          a .count,
+          a .answer,
+          rest (held (table c) (run r c .work)) (run r c .reader) (says J n p c .paper) (good-of-call n least most r c g) (a .follows) (x .fair),
+        )
     answers-of-call false e =
         let x = refused-of-false n least most r c g e in
         rw (x .count J p, x .answer J p, x .stays .reader, x .paper J p, rest k r p g s (fair-of-refused k r c cs f g e))

@@ -1,11 +1,10 @@
 -- The definitions of a stream tried on small inputs: `z` RS `[` RS RS `1`, then a close. Assumes nothing.
-use mathlib.Core.Bool.{Bool, true, false}
+use mathlib.Core.Bool.{true, false}
 use mathlib.Core.List.{List, [], _∷_}
 use mathlib.Core.Path.{_≡_, refl}
 use Prim.Native.Nat.{ℕ}
-use Rattle.verdict.specs.declared.Verdict.{Verdict}
 use Rattle.reader.specs.declared.Answer.the-variants as Says
-use Rattle.reader.specs.Paper.{Judge, Paper, opening, goes, ends}
+use Rattle.reader.specs.Paper.{Judge, opening, goes, ends}
 use Rattle.stream.specs.Records.{split, givenAll, verdictsOf}
 
 bytes : List ℕ

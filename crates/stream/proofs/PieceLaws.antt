@@ -1,26 +1,24 @@
 -- The memory follows the paper: kept by each byte of a piece, an RS included. Assumes nothing.
 use mathlib.Core.Bool.{Bool, true, false, cond}
 use mathlib.Core.List.{List, [], _∷_, _++_}
-use mathlib.Core.Path.{_≡_, refl, sym, ap, _∙_, subst}
+use mathlib.Core.Path.{_≡_, refl, sym, ap, _∙_}
 use Prim.Native.Nat.{ℕ, _+_, _*_, _≤_}
 use native.Mathlib.Omega.{arith}
-use lib.Dec.{T, eqb, ltb}
+use lib.Dec.{eqb, ltb}
 use lib.ListN.{length, replicate}
 use borrow.Author.Tests.{ltb-false}
 use Rattle.json.specs.declared.lexer.Place.the-variants as P
 use Rattle.json.specs.declared.lexer.Mode.the-variants as M
 use Rattle.table.specs.declared.Table.{Table}
 use Rattle.book.specs.Entry.{Entry}
-use Rattle.verdict.specs.Track.{Track, trackStart, trackByte, trackEnd, track}
-use Rattle.verdict.specs.declared.Verdict.the-variants as Is
+use Rattle.verdict.specs.Track.{Track, trackStart, trackByte, track}
 use Rattle.verdict.proofs.JudgedLaws.{judged-iff-track}
 use Rattle.progress.specs.declared.Lex.{Lex}
 use Rattle.progress.specs.declared.Fault.the-variants as F
-use Rattle.progress.specs.Lex.{bump, counted, afterHead, judged}
-use Rattle.progress.specs.Memory.{Mem, mem, stepMem, endsRecord, Ran, runMem}
+use Rattle.progress.specs.Lex.{bump, afterHead, judged}
+use Rattle.progress.specs.Memory.{Mem, mem, stepMem, Ran, runMem}
 use Rattle.reader.specs.declared.Answer.{Answer}
 use Rattle.reader.specs.declared.Answer.the-variants as Says
-use Rattle.reader.specs.Machine.{freshLex}
 use Rattle.reader.specs.Paper.{Judge, Judges, Paper, nonempty, Said, goes}
 use Rattle.laws.proofs.TestLaws.{true-neq-false}
 use Rattle.stream.specs.Bytes.{freshMem, Reading}
@@ -113,8 +111,10 @@ module _ {Book : Table → List Entry → Type 0} {Tracks : (es : List Entry) �
     where
       in-head : InHead m → stepMem t n m b ≡ mem (headLex (bump (m .lex .pos))) false (replicate 32 0) (m .work)
       in-head i = stepMem-in-head t n m b e (ap (λ (x : Lex). x .head) (i .lex)) ∙ rw (i .lex, i .root, i .key)
+
       tracked : InRecord es (Tracks es n) n m part → Tracks es n (stepMem t n m b) (track es n (trackStart es) (part ++ (b ∷ [])))
       tracked i = rw (track-of-byte es n (trackStart es) part b) (facts .byte book least most (i .tracks) b e)
+
       reads-of : (h : Bool) → Reads es (Tracks es n) n h m part → Reads es (Tracks es n) n h (stepMem t n m b) (part ++ (b ∷ []))
       reads-of true i = rw (in-head i) (record { lex = refl; root = refl; key = refl })
       reads-of false i = record { head = moves-of-byte t n m b e .head ∙ i .head; tracks = tracked i }

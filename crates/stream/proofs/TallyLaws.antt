@@ -36,6 +36,7 @@ module _ (r : Reader) where
     where
       going-on : (e : Ran) → Counts (r .tally) (going r (e .memory) (e .count))
       going-on e = record { tally = refl }
+
       go : (e : Ran) → Counts (r .tally) (outcome r e)
       go e = cond-elim (Counts (r .tally)) (e .ended) (λ h. counts-of-ending (e .memory) (e .count) false) (λ h. going-on e)
   counts-of-reading (close t w) =
@@ -49,10 +50,10 @@ module _ (r : Reader) where
   counts-of-call c =
       rw (run-of-reading r c)
       (cond-elim (Counts (r .tally)) (withinLimits (table c))
-        (λ a. cond-elim (Counts (r .tally)) (withinReader r)
-          (λ b. cond-elim (Counts (r .tally)) (ltb (length (buffer c)) (96 * r .frames)) (λ d. none No.ShortBuffer) (λ d. counts-of-reading c))
-          (λ b. none No.AboveLimit))
-        (λ a. none No.AboveLimit))
+      (λ a. cond-elim (Counts (r .tally)) (withinReader r)
+      (λ b. cond-elim (Counts (r .tally)) (ltb (length (buffer c)) (96 * r .frames)) (λ d. none No.ShortBuffer) (λ d. counts-of-reading c))
+      (λ b. none No.AboveLimit))
+      (λ a. none No.AboveLimit))
     where
       none : (k : Refusal) → Counts (r .tally) (refusing r (buffer c) k)
       none k = record { tally = refl }

@@ -63,6 +63,7 @@ reading-not-refused r (close t w) k =
 
 -- ---- a refused call changes nothing, whatever the reader
 
+-- an outcome that leaves the reader r and the buffer w, and has read nothing
 pub record Unchanged (r : Reader) (w : List ℕ) (o : Outcome) : Type 0 where
   pub reader : o .reader ≡ r
   pub work : o .work ≡ w
@@ -95,6 +96,7 @@ pub record Good (n : ℕ) (r : Reader) : Type 0 where
 within-of-fresh : (n : ℕ) (head : Bool) → Within n (freshLex head)
 within-of-fresh n head = record { level = omega arith; len = omega arith }
 
+-- a fresh reader is within its bounds
 pub good-of-fresh : (n : ℕ) (r : Reader) → Fresh n r → Good n r
 good-of-fresh n r f = record { frames = f .frames; within = rw (f .lex) (within-of-fresh n true) }
 
@@ -144,6 +146,7 @@ module _ (n : ℕ) (least : 1 ≤ n) (most : n ≤ 64) where
       )
 
   module _ (r : Reader) (c : Call) (g : Good n r) where
+    -- a call that the paper accepts, of a reader within its bounds
     pub accepted-of-true : accepted n c ≡ true → Accepted n r c
     accepted-of-true = go (withinLimits (table c)) refl (ltb (length (buffer c)) (96 * n)) refl
       where
@@ -158,6 +161,7 @@ module _ (n : ℕ) (least : 1 ≤ n) (most : n ≤ 64) where
             }
         go false x b y h = true-neq-false (sym h)
 
+    -- a call that it refuses
     pub refused-of-false : accepted n c ≡ false → Refused n r c
     refused-of-false = go (withinLimits (table c)) refl (ltb (length (buffer c)) (96 * n)) refl
       where
@@ -201,10 +205,12 @@ module _ (n : ℕ) (least : 1 ≤ n) (most : n ≤ 64) where
             absurd (reading-not-refused r c No.AboveLimit (sym (ap (λ (o : Outcome). o .answer) (accepted-of-true (rw (x, y)) .run-is)) ∙ e))
         go false x b y = refl
 
+  -- a close that is not refused leaves a fresh reader
   pub fresh-of-closes : (r : Reader) (c : Call) → Good n r → closes n c ≡ true → Fresh n (run r c .reader)
   fresh-of-closes r (feed t w s) g e = true-neq-false (sym e)
   fresh-of-closes r (close t w) g e = rw (accepted-of-true r (close t w) g e .run-is) (fresh-of-close n r t w (g .frames))
 
+  -- any calls keep the bounds
   pub good-of-calls : (cs : List Call) (r : Reader) → Good n r → Good n (after r cs)
   unfolding after
   good-of-calls [] r g = g
@@ -212,11 +218,13 @@ module _ (n : ℕ) (least : 1 ≤ n) (most : n ≤ 64) where
 
 -- ---- an accepted start
 
+-- a reader that may begin: 1 to 64 frames, and fresh
 pub record Begun (n : ℕ) (r : Reader) : Type 0 where
   pub least : 1 ≤ n
   pub most : n ≤ 64
   pub fresh : Fresh n r
 
+-- an accepted start gives such a reader, with the frames of its buffer
 pub begun-of-start : (t : Table) (w : List ℕ) → startOf t w .answer ≡ Says.Quiet → Begun (frameCount (length w)) (startOf t w .reader)
 unfolding startOf
 begun-of-start t w =

@@ -84,6 +84,7 @@ module _ {Book : Table → List Entry → Type 0} {Tracks : (es : List Entry) �
   follows-of-stands (held t w) r p c book h s e = rw (e .1) s
 
   module _ (k : Held Book) (r : Reader) (c : Call) (cs : List Call) (fair : Fair Book es n k r (c ∷ cs)) (g : Good n r) where
+    -- a call that the paper accepts
     pub took-of-accepted : (p : Paper) → Stands Tracks es n k r p → accepted n c ≡ true → Took Book Tracks es n J r p c cs
     unfolding Fair
     took-of-accepted p s e =
@@ -94,6 +95,7 @@ module _ {Book : Table → List Entry → Type 0} {Tracks : (es : List Entry) �
           fair = f .2;
         }
 
+    -- behind a call that it refuses the stream is fair from the same reader on
     pub fair-of-refused : accepted n c ≡ false → Fair Book es n k r cs
     unfolding Fair
     fair-of-refused e =
@@ -123,6 +125,7 @@ module _ {Book : Table → List Entry → Type 0} {Tracks : (es : List Entry) �
   answers-of-stands [] k r p g s f = refl
   answers-of-stands (c ∷ cs) k r p g s f = answers-of-call c cs k r p g s f (λ k r p g s f. answers-of-stands cs k r p g s f) (accepted n c) refl
 
+  -- and so from a fresh reader on
   pub answers-of-fair : (cs : List Call) (r : Reader) → Fresh n r → Fair Book es n nothing r cs → answers r cs ≡ told J n opening cs
   answers-of-fair cs r f fair = answers-of-stands cs nothing r opening (good-of-fresh n r f) (f, refl) fair
 
@@ -157,11 +160,13 @@ module _ {Book : Table → List Entry → Type 0} {Tracks : (es : List Entry) �
   later-of-good [] r g = tt
   later-of-good (c ∷ cs) r g = later-of-call c cs r g (λ r g. later-of-good cs r g) (closes n c) refl
 
+  -- all streams of a list of calls from a fresh reader on
   pub answered-of-fresh : (cs : List Call) (r : Reader) → Fresh n r → Answered Book n r (streams n cs)
   answered-of-fresh cs r f = answered-of-later (streams n cs) r f (later-of-good cs r (good-of-fresh n r f))
 
 -- ---- demand 3
 
+-- after an accepted start each fair stream of any list of calls is answered as on paper
 pub demand-3 : {Book : Table → List Entry → Type 0} {Tracks : (es : List Entry) → ℕ → Mem → Track es → Type 0} → Reading Book Tracks
     → Demand3 Book
 demand-3 facts t w calls e =

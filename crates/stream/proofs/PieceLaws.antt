@@ -53,6 +53,7 @@ pub record Follows (es : List Entry) (Along : Mem → Track es → Type 0) (n : 
 
 -- ---- what a piece gives
 
+-- the answer to it
 abbrev pub heard : Ran → Answer
 heard e = cond (e .ended) (Says.Judged (judged (e .memory .lex) (e .memory .root))) Says.Quiet
 
@@ -60,6 +61,7 @@ heard e = cond (e .ended) (Says.Judged (judged (e .memory .lex) (e .memory .root
 abbrev pub memoryAfter : Ran → Mem
 memoryAfter e = cond (e .ended) (freshMem false (e .memory .work)) (e .memory)
 
+-- what a piece gives is what the paper says to it
 pub record Agrees (es : List Entry) (Along : Mem → Track es → Type 0) (n : ℕ) (e : Ran) (said : Said) : Type 0 where
   pub count : e .count ≡ said .count
   pub answer : heard e ≡ said .answer

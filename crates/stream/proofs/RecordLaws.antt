@@ -64,6 +64,7 @@ module _ (J : Judge) where
       rw (split-append a s, givenAll-append (split a .behind) (split s .first ∷ split s .behind), givenAll-split s)
       (given-append true (split a .first) (givenAll J (split a .behind)) (verdictsBehind J s))
 
+  -- the same of bytes that stand behind an RS themselves
   pub verdictsBehind-append : (a s : List ℕ) → verdictsBehind J (a ++ (0x1E ∷ s)) ≡ verdictsBehind J a ++ verdictsBehind J s
   verdictsBehind-append a s =
       rw (split-append a s, givenAll-append (split a .behind) (split s .first ∷ split s .behind), givenAll-split s)
@@ -136,6 +137,7 @@ module _ (J : Judge) where
     given-of-piece [] p i e = rw e
     given-of-piece (b ∷ s) p i e = given-of-byte p i b s e (λ p i e. given-of-piece s p i e) (eqb b 0x1E) refl (nonempty (p .part)) refl
 
+  -- a feed gives the verdict that the paper says, and the unread rest stands before the bytes behind the piece
   pub from-feed : (p : Paper) (s u : List ℕ)
       → verdictsFrom p (s ++ u) ≡ andThen (goes J p 0 s .answer) (verdictsFrom (goes J p 0 s .paper) (drop (goes J p 0 s .count) s ++ u))
   from-feed p s u = given-of-piece s u s p 0 refl

@@ -1,0 +1,170 @@
+-- What a byte does to the numbers of a reader, whatever table and buffer it is handed. Assumes nothing.
+use mathlib.Core.Bool.{Bool, true, false}
+use mathlib.Core.List.{List, [], _∷_}
+use mathlib.Core.Path.{_≡_, refl}
+use Prim.Native.Nat.{ℕ, _+_, _≤_}
+use native.Mathlib.Omega.{arith}
+use lib.Dec.{eqb, ltb, ltb→lt, nltb→le}
+use borrow.Author.Tests.{lt-ltb}
+use Rattle.json.specs.Lexer.{stepOf}
+use Rattle.json.specs.declared.lexer.Mode.{Mode}
+use Rattle.json.specs.declared.lexer.Act.{Act}
+use Rattle.json.specs.declared.lexer.Act.the-variants as A
+use Rattle.json.specs.declared.lexer.Step.{Step}
+use Rattle.table.specs.declared.Table.{Table}
+use Rattle.verdict.specs.Verdict.{longest}
+use Rattle.progress.specs.declared.Fault.{Fault}
+use Rattle.progress.specs.declared.Fault.the-variants as F
+use Rattle.progress.specs.declared.Lex.{Lex}
+use Rattle.progress.specs.declared.Task.{Task}
+use Rattle.progress.specs.declared.Task.the-variants as To
+use Rattle.progress.specs.declared.Advanced.{Advanced}
+use Rattle.progress.specs.Lex.{bump, counted, faulted, charIn, moved, opening, keyChar, acted, sound, afterHead, byFault, advanced}
+use Rattle.progress.specs.Memory.{Mem, mem, topAt, closeAt, perform, advancedAt, stepMem, endsRecord, Ran, runMem}
+use Rattle.laws.proofs.TestLaws.{cond-elim}
+
+-- no more open levels than n, and at most 33 characters of a key
+pub record Within (n : ℕ) (x : Lex) : Type 0 where
+  pub level : x .level ≤ n
+  pub len : x .len ≤ 33
+
+-- what a byte other than RS does: the bounds stay, it is counted, and the head stays
+pub record Moves (n : ℕ) (x y : Lex) : Type 0 where
+  pub within : Within n x → Within n y
+  pub pos : y .pos ≡ bump (x .pos)
+  pub head : y .head ≡ x .head
+
+-- ---- each step of the lexer
+
+module _ (n : ℕ) (x : Lex) where
+  abbrev Moved : Advanced → Type 0
+  Moved a = Moves n x (a .lex)
+
+  -- a byte that opens no level and adds no character to a key
+  moves-of-le : (y : Lex) → y .level ≤ x .level → y .len ≤ x .len → y .pos ≡ bump (x .pos) → y .head ≡ x .head → Moves n x y
+  moves-of-le y h g p e =
+      record { within = λ (i : Within n x). record { level = omega (arith, i .level); len = omega (arith, i .len) }; pos = p; head = e }
+
+  moves-counted : Moved (counted x)
+  moves-counted = moves-of-le _ (omega arith) (omega arith) refl refl
+
+  moves-faulted : (f : Fault) → Moved (faulted x f)
+  moves-faulted f = moves-of-le _ (omega arith) (omega arith) refl refl
+
+  module _ (b : ℕ) (m : Mode) where
+    moves-opening : (t : Task) → Moved (opening x n b m t)
+    unfolding opening
+    moves-opening t =
+        cond-elim Moved (ltb (x .level) n)
+        (λ h. record { within = λ (i : Within n x). record { level = omega (arith, ltb→lt (x .level) n h); len = i .len }; pos = refl; head = refl })
+        (λ h. moves-faulted F.TooDeep)
+
+    moves-keyChar : (c : ℕ) → Moved (keyChar x b m c)
+    unfolding keyChar
+    moves-keyChar c =
+        cond-elim Moved (ltb (x .len) 32)
+        (λ h. cond-elim Moved (ltb c 128)
+        (λ g. record { within = λ (i : Within n x). record { level = i .level; len = omega (arith, ltb→lt (x .len) 32 h) }; pos = refl; head = refl })
+        (λ g. moves-outgrown))
+        (λ h. moves-outgrown)
+      where
+        moves-outgrown : Moves n x (moved x b m (x .level) 33)
+        moves-outgrown = record { within = λ (i : Within n x). record { level = i .level; len = omega arith }; pos = refl; head = refl }
+
+    moves-acted : (a : Act) (e : Bool) → Moved (acted a e x n b m)
+    moves-acted A.Fault e = moves-faulted F.Malformed
+    moves-acted A.Pass e = moves-of-le _ (omega arith) (omega arith) refl refl
+    moves-acted A.OpenArray e = moves-opening To.OpenArray
+    moves-acted A.OpenObject e = moves-opening To.OpenObject
+    moves-acted A.Close e = moves-of-le _ (omega arith) (omega arith) refl refl
+    moves-acted A.KeyStart e = moves-of-le _ (omega arith) (omega arith) refl refl
+    moves-acted A.KeyChar e = moves-keyChar (charIn (x .mode) (x .bits) (x .high) b)
+    moves-acted A.KeyEnd e = moves-of-le _ (omega arith) (omega arith) refl refl
+    moves-acted A.TextStart e = moves-of-le _ (omega arith) (omega arith) refl refl
+    moves-acted A.TextChar e = moves-of-le _ (omega arith) (omega arith) refl refl
+    moves-acted A.TextEnd e = moves-of-le _ (omega arith) (omega arith) refl refl
+    moves-acted A.NumberStart e = moves-of-le _ (omega arith) (omega arith) refl refl
+    moves-acted A.NumberByte e = moves-of-le _ (omega arith) (omega arith) refl refl
+    moves-acted (A.WordEnd w) e = moves-of-le _ (omega arith) (omega arith) refl refl
+
+  module _ (b : ℕ) (st : Step) where
+    moves-sound : Moved (sound x n b st)
+    unfolding sound
+    moves-sound = cond-elim Moved (ltb (x .pos) longest) (λ h. moves-acted b (st .mode) (st .act) (st .ends)) (λ h. moves-faulted F.TooLong)
+
+    moves-byFault : (f : Fault) → Moved (byFault f x n b st)
+    moves-byFault F.Sound = moves-sound
+    moves-byFault F.Malformed = moves-counted
+    moves-byFault F.TooDeep = moves-counted
+    moves-byFault F.TooLong = moves-counted
+
+    moves-advanced : eqb b 0x1E ≡ false → Moved (advanced x n b st)
+    unfolding advanced
+    moves-advanced e = rw e (cond-elim Moved (x .head) (λ h. moves-counted) (λ h. moves-byFault (x .fault)))
+
+-- ---- the memory
+
+-- what is to be done does not change what is known of the record
+lex-of-perform : (k : Task) (t : Table) (m : Mem) (x : Lex) → perform k t m x .lex ≡ x
+unfolding closeAt
+lex-of-perform To.Idle t m x = refl
+lex-of-perform (To.Put c) t m x = refl
+lex-of-perform To.Named t m x = refl
+lex-of-perform To.OpenArray t m x = refl
+lex-of-perform To.OpenObject t m x = refl
+lex-of-perform (To.Finish s) t m x = refl
+lex-of-perform (To.Number s) t m x = refl
+lex-of-perform To.Close t m x = refl
+lex-of-perform (To.NumberClose s) t m x = refl
+
+module _ (t : Table) (n : ℕ) (m : Mem) where
+  -- a byte other than RS
+  pub moves-of-byte : (b : ℕ) → eqb b 0x1E ≡ false → Moves n (m .lex) (stepMem t n m b .lex)
+  unfolding stepMem
+  moves-of-byte b e =
+      rw (lex-of-perform (advancedAt n m b .task) t m (advancedAt n m b .lex))
+      (moves-advanced n (m .lex) b (stepOf (m .lex .mode) (topAt (m .work) (m .lex .level)) b) e)
+
+  -- in the head it is counted, and no more
+  pub stepMem-in-head : (b : ℕ) → eqb b 0x1E ≡ false → m .lex .head ≡ true
+      → stepMem t n m b ≡ mem (counted (m .lex) .lex) (m .root) (m .key) (m .work)
+  unfolding stepMem advanced
+  stepMem-in-head b e h = rw (e, h)
+
+  -- an RS that ends no record ends the head, and no more
+  pub stepMem-of-RS : (b : ℕ) → eqb b 0x1E ≡ true → stepMem t n m b ≡ mem (afterHead (m .lex)) (m .root) (m .key) (m .work)
+  unfolding stepMem advanced
+  stepMem-of-RS b e = rw e
+
+  -- a byte keeps the bounds
+  pub within-of-byte : (b : ℕ) → Within n (m .lex) → Within n (stepMem t n m b .lex)
+  within-of-byte b i = go (eqb b 0x1E) refl
+    where
+      go : (x : Bool) → eqb b 0x1E ≡ x → Within n (stepMem t n m b .lex)
+      go true e = rw (stepMem-of-RS b e) (record { level = i .level; len = i .len })
+      go false e = moves-of-byte b e .within i
+
+-- a count of bytes after one more is not 0
+pub bump-pos : (p : ℕ) → ltb 0 (bump p) ≡ true
+unfolding bump
+bump-pos p = cond-elim (λ (k : ℕ). ltb 0 k ≡ true) (ltb p 4294967295) (λ h. lt-ltb 0 (p + 1) (omega arith)) (λ h. lt-ltb 0 p (omega (arith, nltb→le p 4294967295 h)))
+
+-- ---- pieces
+
+module _ (x : Lex) (b : ℕ) where
+  -- an RS ends a record where one is open, and no other byte does
+  pub endsRecord-of-RS : eqb b 0x1E ≡ true → endsRecord x b ≡ ltb 0 (x .pos)
+  unfolding endsRecord
+  endsRecord-of-RS e = rw e
+
+  pub endsRecord-of-byte : eqb b 0x1E ≡ false → endsRecord x b ≡ false
+  unfolding endsRecord
+  endsRecord-of-byte e = rw e
+
+-- a piece keeps the bounds
+pub within-of-piece : (t : Table) (n : ℕ) (s : List ℕ) (m : Mem) (i : ℕ) → Within n (m .lex) → Within n (runMem t n m i s .memory .lex)
+unfolding runMem
+within-of-piece t n [] m i w = w
+within-of-piece t n (b ∷ s) m i w =
+    cond-elim (λ (e : Ran). Within n (e .memory .lex)) (endsRecord (m .lex) b) (λ h. w)
+    (λ h. within-of-piece t n s (stepMem t n m b) (i + 1) (within-of-byte t n m b w))

@@ -1,0 +1,250 @@
+-- One call: what it does where it is accepted, and that it changes nothing where it is refused. The reader's numbers stay in their bounds whatever
+-- the calls are handed, so that a reader from an accepted start is refused with 23 for the table alone: `never-above-limit`. Assumes nothing.
+use mathlib.Core.Bool.{Bool, true, false, cond}
+use mathlib.Core.List.{List, [], _∷_}
+use mathlib.Core.Path.{_≡_, refl, sym, ap, _∙_}
+use Prim.Native.Nat.{ℕ, _*_, _≤_}
+use native.Mathlib.Omega.{arith}
+use lib.Dec.{ltb, nltb→le}
+use lib.ListN.{length}
+use borrow.Author.Tests.{le-leb, ltb-false}
+use Rattle.table.specs.declared.Table.{Table}
+use Rattle.table.specs.Limits.{withinLimits}
+use Rattle.frame.specs.Frame.{frameCount}
+use Rattle.progress.specs.Memory.{Ran, runMem}
+use Rattle.reader.specs.declared.Reader.{Reader}
+use Rattle.reader.specs.declared.Refusal.{Refusal}
+use Rattle.reader.specs.declared.Refusal.the-variants as No
+use Rattle.reader.specs.declared.Answer.the-variants as Says
+use Rattle.reader.specs.Machine.{Outcome, freshLex, freshReader, fitReader, withinReader, Start, startOf, refusing, orRefused, memoryOf, ending, outcome, feedOf, closeOf}
+use Rattle.reader.specs.Paper.{Call, feed, close, Judge, Paper, Said, goes, ends, refuses, says}
+use Rattle.reader.specs.Claim.{run, after, table, buffer, accepted, closes}
+use Rattle.laws.proofs.TestLaws.{true-neq-false, cond-elim}
+use Rattle.stream.specs.Records.{Fresh}
+use Rattle.stream.proofs.ByteLaws.{Within, within-of-piece}
+
+-- ---- a call that is not refused
+
+-- what it does
+abbrev pub reading : Reader → Call → Outcome
+reading r (feed t w s) = outcome r (runMem t (r .frames) (memoryOf r w) 0 s)
+reading r (close t w) =
+    cond (ltb 0 (r .lex .pos)) (ending r (memoryOf r w) 0 true)
+    (record { reader = freshReader (r .frames) true (r .tally); count = 0; answer = Says.Quiet; work = w })
+
+-- and on paper
+abbrev pub saying : Judge → Paper → Call → Said
+saying J p (feed t w s) = goes J p 0 s
+saying J p (close t w) = ends J p
+
+-- a call tests the table, the reader and the buffer, and does the rest
+pub run-of-reading : (r : Reader) (c : Call) → run r c ≡ orRefused r (table c) (buffer c) (reading r c)
+unfolding feedOf closeOf
+run-of-reading r (feed t w s) = refl
+run-of-reading r (close t w) = refl
+
+says-of-saying : (J : Judge) (n : ℕ) (p : Paper) (c : Call) → says J n p c ≡ refuses n p (table c) (buffer c) (saying J p c)
+says-of-saying J n p (feed t w s) = refl
+says-of-saying J n p (close t w) = refl
+
+-- a record that ends, or goes on, is no refusal
+reading-not-refused : (r : Reader) (c : Call) (k : Refusal) → reading r c .answer ≡ Says.Refused k → ⊥
+reading-not-refused r (feed t w s) k = go (runMem t (r .frames) (memoryOf r w) 0 s)
+  where
+    go : (e : Ran) → outcome r e .answer ≡ Says.Refused k → ⊥
+    go e =
+        cond-elim (λ (o : Outcome). o .answer ≡ Says.Refused k → ⊥) (e .ended)
+        (λ h q. let z : _≡_ {A = ℕ} 0 1 = cc in omega arith)
+        (λ h q. let z : _≡_ {A = ℕ} 0 1 = cc in omega arith)
+reading-not-refused r (close t w) k =
+    cond-elim (λ (o : Outcome). o .answer ≡ Says.Refused k → ⊥) (ltb 0 (r .lex .pos))
+    (λ h q. let z : _≡_ {A = ℕ} 0 1 = cc in omega arith)
+    (λ h q. let z : _≡_ {A = ℕ} 0 1 = cc in omega arith)
+
+-- ---- a refused call changes nothing, whatever the reader
+
+-- an outcome that leaves the reader r and the buffer w, and has read nothing
+pub record Unchanged (r : Reader) (w : List ℕ) (o : Outcome) : Type 0 where
+  pub reader : o .reader ≡ r
+  pub work : o .work ≡ w
+  pub count : o .count ≡ 0
+
+unchanged-of-refusing : (r : Reader) (w : List ℕ) (k : Refusal) → Unchanged r w (refusing r w k)
+unchanged-of-refusing r w k = record { reader = refl; work = refl; count = refl }
+
+-- a refused call leaves reader and buffer as they were, and reads nothing
+pub unchanged-of-refused : (r : Reader) (c : Call) (k : Refusal) → run r c .answer ≡ Says.Refused k → Unchanged r (buffer c) (run r c)
+unchanged-of-refused r c k =
+    rw (run-of-reading r c)
+    (cond-elim Stays (withinLimits (table c))
+    (λ a. cond-elim Stays (withinReader r)
+    (λ b. cond-elim Stays (ltb (length (buffer c)) (96 * r .frames)) (λ d q. unchanged-of-refusing r (buffer c) No.ShortBuffer)
+    (λ d q. absurd (reading-not-refused r c k q)))
+    (λ b q. unchanged-of-refusing r (buffer c) No.AboveLimit))
+    (λ a q. unchanged-of-refusing r (buffer c) No.AboveLimit))
+  where
+    Stays : Outcome → Type 0
+    Stays o = o .answer ≡ Says.Refused k → Unchanged r (buffer c) o
+
+-- ---- the bounds of a reader
+
+-- n frames, and what is known of the record within their bounds
+pub record Good (n : ℕ) (r : Reader) : Type 0 where
+  pub frames : r .frames ≡ n
+  pub within : Within n (r .lex)
+
+within-of-fresh : (n : ℕ) (head : Bool) → Within n (freshLex head)
+within-of-fresh n head = record { level = omega arith; len = omega arith }
+
+-- a fresh reader is within its bounds
+pub good-of-fresh : (n : ℕ) (r : Reader) → Fresh n r → Good n r
+good-of-fresh n r f = record { frames = f .frames; within = rw (f .lex) (within-of-fresh n true) }
+
+good-of-outcome : (n : ℕ) (r : Reader) (e : Ran) → r .frames ≡ n → Within n (e .memory .lex) → Good n (outcome r e .reader)
+good-of-outcome n r e f i =
+    cond-elim (λ (o : Outcome). Good n (o .reader)) (e .ended) (λ h. record { frames = f; within = within-of-fresh n false })
+    (λ h. record { frames = f; within = i })
+
+fresh-of-close : (n : ℕ) (r : Reader) (t : Table) (w : List ℕ) → r .frames ≡ n → Fresh n (reading r (close t w) .reader)
+fresh-of-close n r t w f =
+    cond-elim (λ (o : Outcome). Fresh n (o .reader)) (ltb 0 (r .lex .pos)) (λ h. record { frames = f; lex = refl; root = refl; key = refl })
+    (λ h. record { frames = f; lex = refl; root = refl; key = refl })
+
+good-of-reading : (n : ℕ) (r : Reader) (c : Call) → Good n r → Good n (reading r c .reader)
+good-of-reading n r (feed t w s) g =
+    good-of-outcome n r (runMem t (r .frames) (memoryOf r w) 0 s) (g .frames)
+    (rw (g .frames) (within-of-piece t n s (memoryOf r w) 0 (g .within)))
+good-of-reading n r (close t w) g = good-of-fresh n (reading r (close t w) .reader) (fresh-of-close n r t w (g .frames))
+
+-- ---- a call by its tests, with n frames
+
+-- where the paper accepts a call, so does the machine
+pub record Accepted (n : ℕ) (r : Reader) (c : Call) : Type 0 where
+  pub run-is : run r c ≡ reading r c
+  pub says-is : (J : Judge) (p : Paper) → says J n p c ≡ saying J p c
+  pub long : 96 * n ≤ length (buffer c)
+
+-- where it refuses, so does the machine, and both stay as they were
+pub record Refused (n : ℕ) (r : Reader) (c : Call) : Type 0 where
+  pub refusal : Refusal
+  pub refused : run r c .answer ≡ Says.Refused refusal
+  pub stays : Unchanged r (buffer c) (run r c)
+  pub paper : (J : Judge) (p : Paper) → says J n p c .paper ≡ p
+  pub count : (J : Judge) (p : Paper) → run r c .count ≡ says J n p c .count
+  pub answer : (J : Judge) (p : Paper) → run r c .answer ≡ says J n p c .answer
+
+module _ (n : ℕ) (least : 1 ≤ n) (most : n ≤ 64) where
+  withinReader-of-good : (r : Reader) → Good n r → withinReader r ≡ true
+  unfolding fitReader
+  withinReader-of-good r g =
+      let f : r .frames ≡ n = g .frames in
+      rw (
+        le-leb 1 (r .frames) (omega arith),
+        le-leb (r .frames) 64 (omega arith),
+        le-leb (r .lex .level) (r .frames) (omega (arith, g .within .level)),
+        le-leb (r .lex .len) 33 (g .within .len),
+      )
+
+  module _ (r : Reader) (c : Call) (g : Good n r) where
+    -- a call that the paper accepts, of a reader within its bounds
+    pub accepted-of-true : accepted n c ≡ true → Accepted n r c
+    accepted-of-true = go (withinLimits (table c)) refl (ltb (length (buffer c)) (96 * n)) refl
+      where
+        go : (a : Bool) → withinLimits (table c) ≡ a → (b : Bool) → ltb (length (buffer c)) (96 * n) ≡ b → cond a (cond b false true) false ≡ true
+            → Accepted n r c
+        go true x true y h = true-neq-false (sym h)
+        go true x false y h =
+            record {
+              run-is = run-of-reading r c ∙ rw (x, withinReader-of-good r g, g .frames, y);
+              says-is = λ J p. says-of-saying J n p c ∙ rw (x, y);
+              long = ltb-false (length (buffer c)) (96 * n) y;
+            }
+        go false x b y h = true-neq-false (sym h)
+
+    -- a call that it refuses
+    pub refused-of-false : accepted n c ≡ false → Refused n r c
+    refused-of-false = go (withinLimits (table c)) refl (ltb (length (buffer c)) (96 * n)) refl
+      where
+        both : (k : Refusal) → run r c ≡ refusing r (buffer c) k
+            → ((J : Judge) (p : Paper) → says J n p c ≡ record { paper = p; count = 0; answer = Says.Refused k }) → Refused n r c
+        both k x y =
+            record {
+              refusal = k;
+              refused = rw x;
+              stays = rw x (unchanged-of-refusing r (buffer c) k);
+              paper = λ J p. rw (y J p);
+              count = λ J p. rw (x, y J p);
+              answer = λ J p. rw (x, y J p);
+            }
+
+        go : (a : Bool) → withinLimits (table c) ≡ a → (b : Bool) → ltb (length (buffer c)) (96 * n) ≡ b → cond a (cond b false true) false ≡ false
+            → Refused n r c
+        go true x true y h =
+            both No.ShortBuffer (run-of-reading r c ∙ rw (x, withinReader-of-good r g, g .frames, y)) (λ J p. says-of-saying J n p c ∙ rw (x, y))
+        go true x false y h = true-neq-false h
+        go false x b y h = both No.AboveLimit (run-of-reading r c ∙ rw x) (λ J p. says-of-saying J n p c ∙ rw x)
+
+    -- any call keeps the bounds
+    pub good-of-call : Good n (run r c .reader)
+    good-of-call = go (accepted n c) refl
+      where
+        go : (b : Bool) → accepted n c ≡ b → Good n (run r c .reader)
+        go true e = rw (accepted-of-true e .run-is) (good-of-reading n r c g)
+        go false e = rw (refused-of-false e .stays .reader) g
+
+    -- 23 is for the table
+    limits-of-refused : run r c .answer ≡ Says.Refused No.AboveLimit → withinLimits (table c) ≡ false
+    limits-of-refused e = go (withinLimits (table c)) refl (ltb (length (buffer c)) (96 * n)) refl
+      where
+        go : (a : Bool) → withinLimits (table c) ≡ a → (b : Bool) → ltb (length (buffer c)) (96 * n) ≡ b → a ≡ false
+        go true x true y =
+            let q : run r c ≡ refusing r (buffer c) No.ShortBuffer = run-of-reading r c ∙ rw (x, withinReader-of-good r g, g .frames, y) in
+            let z : Says.Refused No.ShortBuffer ≡ Says.Refused No.AboveLimit = sym (ap (λ (o : Outcome). o .answer) q) ∙ e in
+            cc
+        go true x false y =
+            absurd (reading-not-refused r c No.AboveLimit (sym (ap (λ (o : Outcome). o .answer) (accepted-of-true (rw (x, y)) .run-is)) ∙ e))
+        go false x b y = refl
+
+  -- a close that is not refused leaves a fresh reader
+  pub fresh-of-closes : (r : Reader) (c : Call) → Good n r → closes n c ≡ true → Fresh n (run r c .reader)
+  fresh-of-closes r (feed t w s) g e = true-neq-false (sym e)
+  fresh-of-closes r (close t w) g e = rw (accepted-of-true r (close t w) g e .run-is) (fresh-of-close n r t w (g .frames))
+
+  -- any calls keep the bounds
+  pub good-of-calls : (cs : List Call) (r : Reader) → Good n r → Good n (after r cs)
+  unfolding after
+  good-of-calls [] r g = g
+  good-of-calls (c ∷ cs) r g = good-of-calls cs (run r c .reader) (good-of-call r c g)
+
+-- ---- an accepted start
+
+-- a reader that may begin: 1 to 64 frames, and fresh
+pub record Begun (n : ℕ) (r : Reader) : Type 0 where
+  pub least : 1 ≤ n
+  pub most : n ≤ 64
+  pub fresh : Fresh n r
+
+-- an accepted start gives such a reader, with the frames of its buffer
+pub begun-of-start : (t : Table) (w : List ℕ) → startOf t w .answer ≡ Says.Quiet → Begun (frameCount (length w)) (startOf t w .reader)
+unfolding startOf
+begun-of-start t w =
+    cond-elim Begins (withinLimits t)
+    (λ a. cond-elim Begins (ltb (length w) 96) (λ b e. never No.SmallBuffer e)
+    (λ b e.
+    let h : 96 ≤ length w = nltb→le (length w) 96 b in
+    record { least = omega arith; most = omega arith; fresh = record { frames = refl; lex = refl; root = refl; key = refl } }))
+    (λ a e. never No.AboveLimit e)
+  where
+    Begins : Start → Type 0
+    Begins s = s .answer ≡ Says.Quiet → Begun (frameCount (length w)) (s .reader)
+
+    never : {A : Type 0} (k : Refusal) → Says.Refused k ≡ Says.Quiet → A
+    never k e = let z : _≡_ {A = ℕ} 0 1 = cc in absurd (omega arith)
+
+-- after an accepted start and any calls, a call refused with 23 has a table with a number above its limit
+pub never-above-limit : (t : Table) (w : List ℕ) → startOf t w .answer ≡ Says.Quiet → (calls : List Call) (c : Call)
+    → run (after (startOf t w .reader) calls) c .answer ≡ Says.Refused No.AboveLimit → withinLimits (table c) ≡ false
+never-above-limit t w e calls c =
+    let b = begun-of-start t w e in
+    let g = good-of-calls (frameCount (length w)) (b .least) (b .most) calls (startOf t w .reader) (good-of-fresh (frameCount (length w)) (startOf t w .reader) (b .fresh)) in
+    limits-of-refused (frameCount (length w)) (b .least) (b .most) (after (startOf t w .reader) calls) c g

@@ -1,0 +1,143 @@
+-- The parts and verdicts of a stream's bytes, and the paper that goes through them. Assumes nothing.
+use mathlib.Core.Bool.{Bool, true, false, cond, not, _&&_}
+use mathlib.Core.List.{List, [], _∷_, _++_, append-assoc, append-nil}
+use mathlib.Core.Path.{_≡_, refl, sym, ap, _∙_}
+use Prim.Native.Nat.{ℕ, _+_}
+use lib.Dec.{eqb}
+use lib.ListN.{drop}
+use lib.Seq.{drop-drop}
+use Rattle.laws.specs.Lists.{all}
+use Rattle.verdict.specs.declared.Verdict.{Verdict}
+use Rattle.reader.specs.declared.Answer.the-variants as Says
+use Rattle.reader.specs.Paper.{Judge, Paper, nonempty, Said, goes, ends}
+use Rattle.laws.proofs.TestLaws.{true-neq-false}
+use Rattle.stream.specs.Records.{Parts, withByte, split, noRS, given, givenAll, verdictsOf, verdictsBehind, andThen}
+
+-- ---- what stands behind an RS
+
+module _ (b : ℕ) (s : List ℕ) where
+  split-of-RS : eqb b 0x1E ≡ true → split (b ∷ s) ≡ record { first = []; behind = split s .first ∷ split s .behind }
+  unfolding split
+  split-of-RS e = rw e
+
+  split-of-byte : eqb b 0x1E ≡ false → split (b ∷ s) ≡ record { first = b ∷ split s .first; behind = split s .behind }
+  unfolding split
+  split-of-byte e = rw e
+
+-- the parts on both sides of an RS
+abbrev around : Parts → Parts → Parts
+around x y = record { first = x .first; behind = x .behind ++ (y .first ∷ y .behind) }
+
+withByte-around : (b : ℕ) (x y : Parts) → withByte b (around x y) ≡ around (withByte b x) y
+withByte-around b x y = go (eqb b 0x1E) refl
+  where
+    go : (z : Bool) → eqb b 0x1E ≡ z → withByte b (around x y) ≡ around (withByte b x) y
+    go true e = rw e
+    go false e = rw e
+
+-- the parts before an RS are those of the bytes before it
+split-append : (a s : List ℕ) → split (a ++ (0x1E ∷ s)) ≡ around (split a) (split s)
+unfolding split
+split-append [] s = refl
+split-append (b ∷ a) s = rw (split-append a s) (withByte-around b (split a) (split s))
+
+module _ (J : Judge) where
+  given-append : (head : Bool) (p : List ℕ) (vs us : List Verdict) → given J head p (vs ++ us) ≡ given J head p vs ++ us
+  given-append head p vs us = go (nonempty p)
+    where
+      go : (x : Bool) → cond x (J head p ∷ (vs ++ us)) (vs ++ us) ≡ cond x (J head p ∷ vs) vs ++ us
+      go true = refl
+      go false = refl
+
+  givenAll-append : (ps qs : List (List ℕ)) → givenAll J (ps ++ qs) ≡ givenAll J ps ++ givenAll J qs
+  unfolding givenAll
+  givenAll-append [] qs = refl
+  givenAll-append (p ∷ ps) qs = rw (givenAll-append ps qs) (given-append false p (givenAll J ps) (givenAll J qs))
+
+  givenAll-split : (s : List ℕ) → givenAll J (split s .first ∷ split s .behind) ≡ verdictsBehind J s
+  unfolding givenAll
+  givenAll-split s = refl
+
+  -- the verdicts before an RS, then those behind it: neither depends on the other side
+  pub verdictsOf-append : (a s : List ℕ) → verdictsOf J (a ++ (0x1E ∷ s)) ≡ verdictsOf J a ++ verdictsBehind J s
+  verdictsOf-append a s =
+      rw (split-append a s, givenAll-append (split a .behind) (split s .first ∷ split s .behind), givenAll-split s)
+      (given-append true (split a .first) (givenAll J (split a .behind)) (verdictsBehind J s))
+
+  -- the same of bytes that stand behind an RS themselves
+  pub verdictsBehind-append : (a s : List ℕ) → verdictsBehind J (a ++ (0x1E ∷ s)) ≡ verdictsBehind J a ++ verdictsBehind J s
+  verdictsBehind-append a s =
+      rw (split-append a s, givenAll-append (split a .behind) (split s .first ∷ split s .behind), givenAll-split s)
+      (given-append false (split a .first) (givenAll J (split a .behind)) (verdictsBehind J s))
+
+-- a record behind an RS
+split-of-noRS : (p : List ℕ) → noRS p ≡ true → split p ≡ record { first = p; behind = [] }
+unfolding split all
+split-of-noRS [] h = refl
+split-of-noRS (b ∷ p) h = go (λ g. split-of-noRS p g) (eqb b 0x1E) refl h
+  where
+    go : (noRS p ≡ true → split p ≡ record { first = p; behind = [] }) → (x : Bool) → eqb b 0x1E ≡ x → not x && noRS p ≡ true
+        → withByte b (split p) ≡ record { first = b ∷ p; behind = [] }
+    go rest true e h = true-neq-false (sym h)
+    go rest false e h = rw (e, rest h)
+
+-- has one verdict
+pub verdictsBehind-of-record : (J : Judge) (p : List ℕ) → nonempty p ≡ true → noRS p ≡ true → verdictsBehind J p ≡ J false p ∷ []
+unfolding givenAll
+verdictsBehind-of-record J p e h = rw (split-of-noRS p h, e)
+
+-- ---- the paper
+
+module _ (J : Judge) where
+  -- the verdicts of the bytes behind what the paper holds
+  abbrev pub verdictsFrom : Paper → List ℕ → List Verdict
+  verdictsFrom p s = given J (p .head) (p .part ++ split s .first) (givenAll J (split s .behind))
+
+  from-byte : (p : Paper) (b : ℕ) (s : List ℕ) → eqb b 0x1E ≡ false
+      → verdictsFrom p (b ∷ s) ≡ verdictsFrom (record { head = p .head; part = p .part ++ (b ∷ []) }) s
+  from-byte p b s e = rw (split-of-byte b s e, append-assoc (p .part) (b ∷ []) (split s .first))
+
+  -- an RS gives the part its verdict, where it has one
+  from-RS : (p : Paper) (b : ℕ) (s : List ℕ) → eqb b 0x1E ≡ true
+      → verdictsFrom p (b ∷ s) ≡ given J (p .head) (p .part) (verdictsFrom (record { head = false; part = [] }) s)
+  unfolding givenAll
+  from-RS p b s e = rw (split-of-RS b s e, append-nil (p .part))
+
+  -- a close too
+  pub from-close : (p : Paper) → verdictsFrom p [] ≡ andThen (ends J p .answer) []
+  unfolding split givenAll
+  from-close p = rw (append-nil (p .part)) (go (nonempty (p .part)))
+    where
+      go : (x : Bool) → cond x (J (p .head) (p .part) ∷ []) [] ≡ andThen (cond x (Says.Judged (J (p .head) (p .part))) Says.Quiet) []
+      go true = refl
+      go false = refl
+
+  -- the bytes behind the next one
+  drop-next : (i : ℕ) (whole : List ℕ) (b : ℕ) (s : List ℕ) → drop i whole ≡ b ∷ s → drop (i + 1) whole ≡ s
+  drop-next i whole b s e = sym (drop-drop 1 i whole) ∙ ap (drop 1) e
+
+  module _ (whole u : List ℕ) where
+    -- the verdicts are what the paper says to a piece, and then those of the unread rest and the bytes behind the piece
+    abbrev Given : Paper → List ℕ → Said → Type 0
+    Given p s said = verdictsFrom p (s ++ u) ≡ andThen (said .answer) (verdictsFrom (said .paper) (drop (said .count) whole ++ u))
+
+    module _ (p : Paper) (i : ℕ) (b : ℕ) (s : List ℕ) (e : drop i whole ≡ b ∷ s)
+        (rest : (p : Paper) (i : ℕ) → drop i whole ≡ s → Given p s (goes J p i s)) where
+      given-of-byte : (x : Bool) → eqb b 0x1E ≡ x → (y : Bool) → nonempty (p .part) ≡ y → Given p (b ∷ s) (goes J p i (b ∷ s))
+      unfolding goes
+      given-of-byte true d true h = from-RS p b (s ++ u) d ∙ rw (d, h, drop-next i whole b s e)
+      given-of-byte true d false h =
+          from-RS p b (s ++ u) d ∙ rw (d, h) (rest (record { head = false; part = [] }) (i + 1) (drop-next i whole b s e))
+      given-of-byte false d y h =
+          from-byte p b (s ++ u) d
+          ∙ rw d (rest (record { head = p .head; part = p .part ++ (b ∷ []) }) (i + 1) (drop-next i whole b s e))
+
+    given-of-piece : (s : List ℕ) (p : Paper) (i : ℕ) → drop i whole ≡ s → Given p s (goes J p i s)
+    unfolding goes
+    given-of-piece [] p i e = rw e
+    given-of-piece (b ∷ s) p i e = given-of-byte p i b s e (λ p i e. given-of-piece s p i e) (eqb b 0x1E) refl (nonempty (p .part)) refl
+
+  -- a feed gives the verdict that the paper says, and the unread rest stands before the bytes behind the piece
+  pub from-feed : (p : Paper) (s u : List ℕ)
+      → verdictsFrom p (s ++ u) ≡ andThen (goes J p 0 s .answer) (verdictsFrom (goes J p 0 s .paper) (drop (goes J p 0 s .count) s ++ u))
+  from-feed p s u = given-of-piece s u s p 0 refl

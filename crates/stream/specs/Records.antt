@@ -1,0 +1,95 @@
+-- A stream by its bytes: RS splits it into parts, each nonempty one a record with one verdict, and calls hand its bytes over piece by piece: 01,
+-- "The stream" and "The stream on paper". Stated. Assumes nothing.
+use mathlib.Core.Bool.{Bool, true, false, cond, not}
+use mathlib.Core.List.{List, [], _∷_, _++_}
+use mathlib.Core.Path.{_≡_}
+use Prim.Native.Nat.{ℕ}
+use lib.Dec.{eqb}
+use lib.ListN.{drop, replicate}
+use Rattle.laws.specs.Lists.{all}
+use Rattle.table.specs.declared.Table.{Table}
+use Rattle.book.specs.Entry.{Entry}
+use Rattle.verdict.specs.declared.Verdict.{Verdict}
+use Rattle.reader.specs.declared.Tally.{Tally}
+use Rattle.reader.specs.declared.Reader.{Reader}
+use Rattle.reader.specs.declared.Answer.{Answer}
+use Rattle.reader.specs.declared.Answer.the-variants as Says
+use Rattle.reader.specs.Machine.{freshLex, tallied}
+use Rattle.reader.specs.Paper.{Call, feed, close, Heard, Judge, nonempty}
+use Rattle.reader.specs.Claim.{run, accepted, nothing, Fair}
+
+-- ---- the records of a stream
+
+-- the parts that RS splits bytes into: those before the first RS, and those behind each RS
+pub record Parts : Type 0 where
+  pub first : List ℕ
+  pub behind : List (List ℕ)
+
+-- a byte before parts: an RS makes them stand behind it, any other byte joins the first
+abbrev pub withByte : ℕ → Parts → Parts
+withByte b x = cond (eqb b 0x1E) (record { first = []; behind = x .first ∷ x .behind }) (record { first = b ∷ x .first; behind = x .behind })
+
+unfoldable pub split : List ℕ → Parts
+split [] = record { first = []; behind = [] }
+split (b ∷ s) = withByte b (split s)
+
+-- bytes with no RS among them
+abbrev pub noRS : List ℕ → Bool
+noRS s = all (λ (b : ℕ). not (eqb b 0x1E)) s
+
+-- a nonempty part is a record with one verdict, an empty part has none; vs are the verdicts behind it
+abbrev pub given : Judge → Bool → List ℕ → List Verdict → List Verdict
+given J head p vs = cond (nonempty p) (J head p ∷ vs) vs
+
+-- the verdicts of parts behind an RS, in stream order
+unfoldable pub givenAll : Judge → List (List ℕ) → List Verdict
+givenAll J [] = []
+givenAll J (p ∷ ps) = given J false p (givenAll J ps)
+
+-- the verdicts of a stream's bytes: the part before the first RS is the head
+abbrev pub verdictsOf : Judge → List ℕ → List Verdict
+verdictsOf J s = given J true (split s .first) (givenAll J (split s .behind))
+
+-- the verdicts of bytes behind an RS
+abbrev pub verdictsBehind : Judge → List ℕ → List Verdict
+verdictsBehind J s = given J false (split s .first) (givenAll J (split s .behind))
+
+-- ---- what calls answer, and the bytes that they hand over
+
+abbrev pub andThen : Answer → List Verdict → List Verdict
+andThen Says.Quiet vs = vs
+andThen (Says.Judged v) vs = v ∷ vs
+andThen (Says.Refused k) vs = vs
+
+-- the verdicts among answers
+unfoldable pub verdictsIn : List Heard → List Verdict
+verdictsIn [] = []
+verdictsIn (h ∷ hs) = andThen (h .answer) (verdictsIn hs)
+
+-- a tally after verdicts: each is counted
+unfoldable pub tallyAfter : List Verdict → Tally → Tally
+tallyAfter [] y = y
+tallyAfter (v ∷ vs) y = tallyAfter vs (tallied v y)
+
+-- calls from a reader on, with n frames, that hand over bytes and then close. The unread rest of a piece comes first in what the calls behind it
+-- hand over; a refused call hands over nothing
+pub data Hands (n : ℕ) : Reader → List Call → List ℕ → Type 0 where
+  closed : {r : Reader} {t : Table} {w : List ℕ} → accepted n (close t w) ≡ true → Hands n r (close t w ∷ []) []
+  fed : {r : Reader} {t : Table} {w s : List ℕ} {cs : List Call} (u : List ℕ) → accepted n (feed t w s) ≡ true
+      → Hands n (run r (feed t w s) .reader) cs (drop (run r (feed t w s) .count) s ++ u) → Hands n r (feed t w s ∷ cs) (s ++ u)
+  refused : {r : Reader} {c : Call} {cs : List Call} {s : List ℕ} → accepted n c ≡ false → Hands n (run r c .reader) cs s → Hands n r (c ∷ cs) s
+
+-- ---- a stream
+
+-- a reader at the beginning of a stream, with n frames
+pub record Fresh (n : ℕ) (r : Reader) : Type 0 where
+  pub frames : r .frames ≡ n
+  pub lex : r .lex ≡ freshLex true
+  pub root : r .root ≡ false
+  pub key : r .key ≡ replicate 32 0
+
+-- a stream from that reader on, fair by a book with the entries es, whose calls hand over the bytes s and close
+pub record StreamOf (Book : Table → List Entry → Type 0) (es : List Entry) (n : ℕ) (r : Reader) (cs : List Call) (s : List ℕ) : Type 0 where
+  pub fresh : Fresh n r
+  pub fair : Fair Book es n nothing r cs
+  pub hands : Hands n r cs s

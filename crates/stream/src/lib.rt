@@ -1,0 +1,1 @@
+// Demand 3, from what is known of single bytes: definitions and theorems only.

@@ -18,8 +18,11 @@ use Rattle.laws.proofs.TestLaws.{T-of-true}
 use Rattle.load.specs.Step.{Lens}
 use Rattle.frame.specs.Frame.{frameCount}
 use Rattle.progress.specs.declared.Lex.{Lex}
-use Rattle.progress.specs.Lex.{judged}
-use Rattle.progress.specs.Memory.{Mem, mem, Ran, topAt, stepMem, runMem, endsRecord}
+use Rattle.progress.specs.declared.Task.{Task}
+use Rattle.progress.specs.declared.Task.the-variants as To
+use Rattle.progress.specs.Lex.{advanced}
+use Rattle.progress.specs.Memory.{Mem, mem, topAt, keyFound, valueAt, rulesAt, closeAt, perform, stepMem, runMem, endsRecord}
+use Rattle.book.specs.Holds.{tableKeys}
 use Rattle.turn.specs.Turn.{lent, turned}
 use Rattle.turn.proofs.TurnLaws.{turned-stepMem}
 use Rattle.reader.specs.declared.Reader.{Reader}
@@ -164,3 +167,29 @@ module _ (r : Reader) (t : Table) (w : List ℕ) where
 
     pub out-done : length s ≤ i → going r m i ≡ feedOf r t w s
     out-done l = ap (outcome r) (sym (run-done t (r .frames) m s i l) ∙ inv) ∙ feed-ran s e q h
+
+-- ---- the arrays of a table, lent one by one
+
+-- the lent arrays of a table serve as the table
+lent-serves : (z : Task) (t : Table) (m : Mem) (x : Lex)
+    → perform z (lent (t .edges) (t .keys) (t .«edge_rule») (t .«edge_state») (t .«edge_key») (t .«edge_kind») (t .«edge_next») (t .«key_bytes») (t .«key_len») (t .ends) (t .forms)) m x
+    ≡ perform z t m x
+unfolding keyFound tableKeys valueAt rulesAt closeAt
+lent-serves To.Idle t m x = refl
+lent-serves (To.Put c) t m x = refl
+lent-serves To.Named t m x = refl
+lent-serves To.OpenArray t m x = refl
+lent-serves To.OpenObject t m x = refl
+lent-serves (To.Finish s) t m x = refl
+lent-serves (To.Number s) t m x = refl
+lent-serves To.Close t m x = refl
+lent-serves (To.NumberClose s) t m x = refl
+
+pub turned-of-lent : (t : Table) (n : ℕ) (m : Mem) (b : ℕ) (bytes classes : List ℕ) (k : Mem) → bytes ≡ t .«key_bytes» → classes ≡ classTable
+    → k ≡ turned (lent (t .edges) (t .keys) (t .«edge_rule») (t .«edge_state») (t .«edge_key») (t .«edge_kind») (t .«edge_next») bytes (t .«key_len») (t .ends) (t .forms)) n m b
+      (stepBy (classAt classes b) (m .lex .mode) (topAt (m .work) (m .lex .level)) b)
+    → k ≡ turned t n m b (stepBy (classAt classTable b) (m .lex .mode) (topAt (m .work) (m .lex .level)) b)
+turned-of-lent t n m b bytes classes k e f h =
+    (rw (e, f) at h)
+    ∙ lent-serves (advanced (m .lex) n b (stepBy (classAt classTable b) (m .lex .mode) (topAt (m .work) (m .lex .level)) b) .task) t m
+      (advanced (m .lex) n b (stepBy (classAt classTable b) (m .lex .mode) (topAt (m .work) (m .lex .level)) b) .lex)

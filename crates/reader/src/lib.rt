@@ -1,5 +1,6 @@
 // The reader: start, feed and close.
 ghost use mathlib.Core.Path.{_≡_};
+ghost use lib.ListN.{length};
 ghost use Rattle.progress.specs.Lex.{judged};
 ghost use Rattle.progress.specs.Memory.{endsRecord};
 ghost use Rattle.reader.specs.Machine.{freshLex, freshReader, zeroTally, countValid, countInvalid, countRefused, tallied, fitReader, startOf, feedOf, closeOf};
@@ -179,6 +180,20 @@ fn ended(frames: usize, tally: Tally, x: Lex, root: bool, count: usize, head: bo
     }
 }
 
+// The characters of a key, with their number.
+fn whole_key(key: [u8; 32]) -> [u8; 32]
+    ensures { λ r. ⌜ (r ≡ key) × (length r ≡ 32) ⌝ }
+{
+    key
+}
+
+// The bytes of a table's keys, with their number.
+fn whole_bytes(bytes: [u8; 4096]) -> [u8; 4096]
+    ensures { λ r. ⌜ (r ≡ bytes) × (length r ≡ 4096) ⌝ }
+{
+    bytes
+}
+
 impl Reader {
     // the bytes of a frame, and the most levels
     pub const FRAME: usize = 96;
@@ -250,7 +265,10 @@ pub fn feed(r: Reader, t: Table, work: &mut [u8], piece: &[u8]) -> Fed
     let tally = r.tally;
     let mut lex = x;
     let mut root = r.root;
-    let mut key = r.key;
+    let kept = r.key;
+    let mut key = whole_key(kept);
+    let names = t.key_bytes;
+    let bytes = whole_bytes(names);
     let mut i = 0;
     while i < piece.len() {
         let b = piece[i];
@@ -258,7 +276,7 @@ pub fn feed(r: Reader, t: Table, work: &mut [u8], piece: &[u8]) -> Fed
         if ends_record(lex, b) {
             return ended(frames, tally, lex, root, i, false);
         }
-        let s = turn::turn(&classes, lex, root, &mut key, work, frames, t.edges, t.keys, &t.edge_rule, &t.edge_state, &t.edge_key, &t.edge_kind, &t.edge_next, &t.key_bytes, &t.key_len, &t.ends, &t.forms, b);
+        let s = turn::turn(&classes, lex, root, &mut key, work, frames, t.edges, t.keys, &t.edge_rule, &t.edge_state, &t.edge_key, &t.edge_kind, &t.edge_next, &bytes, &t.key_len, &t.ends, &t.forms, b);
         lex = s.lex;
         root = s.root;
     }

@@ -1,0 +1,3 @@
+pub mod StackLaws
+pub mod KeyLaws
+pub mod NumberLaws

@@ -7,7 +7,7 @@ use Prim.Native.Nat.{ℕ, suc, _+_, _≤_, _<_}
 use native.Mathlib.Decide.{decLt}
 use native.Mathlib.Numerals.{add-one}
 use native.Mathlib.Omega.{arith}
-use lib.Dec.{T, eqb, ltb}
+use lib.Dec.{T, ltb, T-not}
 use lib.ListN.{length, take, set, length-append, length-set}
 use lib.Seq.{take-suc-set}
 use borrow.Author.Tests.{lt-ltb, le-ltb, ne-eqb, not-false}
@@ -58,13 +58,9 @@ module _ {key : List ℕ} {len : ℕ} {s : List ℕ} where
 
 -- ---- the number of a finished key
 
-not-T-not : (b : Bool) → T b → T (not b) → ⊥
-not-T-not true h g = g
-not-T-not false h g = h
-
 not-all-of-any : (f : ℕ → Bool) (s : List ℕ) → T (all f s) → T (any (λ (c : ℕ). not (f c)) s) → ⊥
 not-all-of-any f s h g =
-    let m = member-of-any (λ (c : ℕ). not (f c)) s g in not-T-not (f (m .0)) (T-of-all f s h (m .1)) (m .2)
+    let m = member-of-any (λ (c : ℕ). not (f c)) s g in T-not (f (m .0)) (m .2) (T-of-all f s h (m .1))
 
 -- a key that has a number is among the keys
 member-of-number : (ks : List (List ℕ)) (s : List ℕ) → numberOf ks s < length ks → List·Memᴰ s ks

@@ -1,3 +1,5 @@
 pub mod StackLaws
 pub mod KeyLaws
 pub mod NumberLaws
+pub mod LexerLaws
+pub mod MemoryLaws

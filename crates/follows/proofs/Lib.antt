@@ -3,3 +3,4 @@ pub mod KeyLaws
 pub mod NumberLaws
 pub mod LexerLaws
 pub mod MemoryLaws
+pub mod LandLaws

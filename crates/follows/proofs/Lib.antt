@@ -4,3 +4,4 @@ pub mod NumberLaws
 pub mod LexerLaws
 pub mod MemoryLaws
 pub mod LandLaws
+pub mod StepLaws

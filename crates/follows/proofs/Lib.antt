@@ -5,3 +5,4 @@ pub mod LexerLaws
 pub mod MemoryLaws
 pub mod LandLaws
 pub mod StepLaws
+pub mod TrackLaws

@@ -52,7 +52,7 @@ use Rattle.verdict.specs.Track.{Track, sound, stopped, trackTo, trackByte}
 use Rattle.verdict.proofs.TrackLaws.{trackByte-short, trackByte-long}
 use Rattle.progress.specs.declared.Fault.the-variants as F
 use Rattle.progress.specs.declared.Lex.{Lex}
-use Rattle.progress.specs.Lex.{bump, bitsIn, highIn, opening, keyChar, scalarOf, acted}
+use Rattle.progress.specs.Lex.{advanced, sound as sounding, bump, bitsIn, highIn, opening, keyChar, scalarOf, acted}
 use Rattle.progress.specs.declared.Task.{Task}
 use Rattle.progress.specs.declared.Task.the-variants as Do
 use Rattle.progress.specs.Memory.{Mem, mem, keyFound, valueAt, perform, stepMem}
@@ -61,7 +61,7 @@ use Rattle.follows.proofs.StackLaws.{topAt-shows, shows-opened-array, s
 use Rattle.follows.proofs.KeyLaws.{keyKept-put, keyKept-high, keyKept-full, showsKey-keyFound}
 use Rattle.follows.proofs.NumberLaws.{numberMove-elim}
 use Rattle.follows.proofs.LexerLaws.{valueStart-elim, afterValue-elim}
-use Rattle.follows.proofs.MemoryLaws.{length-opened-frame, length-keyed-frame, length-valueAt}
+use Rattle.follows.proofs.MemoryLaws.{length-opened-frame, length-keyed-frame, length-valueAt, one-le-bump}
 use Rattle.follows.proofs.LandLaws.{depth-finish, noRoot-of-opened, scalar-no-rule, lands-malformed, lands-deep, lands, lands-finished, lands-closed}
 
 -- ---- the registers of the open token
@@ -386,3 +386,26 @@ module _ {t : Table} {es : List Entry} (kept : Kept t es) (plain : PlainKeys es)
   step-any (M.Text x) s = step-string x (stringMove x b) s
   step-any (M.Number x) s = step-digits x s
   step-any (M.Word x j) s = step-word x j (wordMove x j b) s
+
+-- ---- one byte
+
+-- a memory that follows a state tracks what the machine makes of a byte, which is not RS
+pub follows-step : {t : Table} {es : List Entry} → Kept t es → PlainKeys es → (n : ℕ) → n ≤ 64 → {m : Mem} {q : State (judging es)} {i : ℕ} (b : ℕ)
+    → eqb b 0x1E ≡ false → Follows es n m q i → Tracks es n (stepMem t n m b) (trackByte es n (sound q i) b)
+unfolding stepMem advanced sounding step
+follows-step {t} {es} kept plain n few b e (follows {m} {g} {k} {i} {place} {len} {root} {key} {w} s) =
+    rw (e, topAt-shows es w k (s .stack)) (go (ltb i longest) refl)
+  where
+    x : Lex
+    x = lexAt m (depth (judging es) k) i place (g .bits) (g .high) len
+
+    st : Step
+    st = stepOf m (topOf (judging es) k) b
+
+    go : (v : Bool) → ltb i longest ≡ v
+        → Tracks es n (perform (sounding x n b st .task) t (mem x root key w) (sounding x n b st .lex)) (trackByte es n (sound (at m g k) i) b)
+    go true f =
+        let h = ltb-true i longest f in
+        rw (f, trackByte-short es n (at m g k) b h) (step-any kept plain n few g k i place len root key w b h m s (proper-step (judging es) (at m g k) b (s .proper)))
+    go false f =
+        rw (f, trackByte-long es n (at m g k) b (ltb-false i longest f)) (off-track {v = Is.TooLong} refl refl (one-le-bump i))

@@ -6,3 +6,4 @@ pub mod MemoryLaws
 pub mod LandLaws
 pub mod StepLaws
 pub mod TrackLaws
+pub mod PartLaws

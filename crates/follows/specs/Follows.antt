@@ -145,6 +145,11 @@ abbrev pub NoRS : List ℕ → Type 0
 NoRS [] = T true
 NoRS (b ∷ p) = (eqb b 0x1E ≡ false) × NoRS p
 
+-- a part is a record
+abbrev pub nonempty : List ℕ → Bool
+nonempty [] = false
+nonempty (b ∷ p) = true
+
 -- a memory after the bytes of a part
 abbrev pub readPart : Table → ℕ → Mem → List ℕ → Mem
 readPart t n m [] = m

@@ -1,14 +1,11 @@
 -- Where a byte leaves the memory: behind each task the memory tracks the state behind the machine's act. Assumes nothing.
-use mathlib.Core.Bool.{Bool, true, false, cond}
-use mathlib.Core.List.{List, []}
+use mathlib.Core.Bool.{Bool, false}
+use mathlib.Core.List.{List}
 use mathlib.Core.Path.{_≡_, refl, sym, _∙_}
-use Prim.Native.Nat.{ℕ, suc, _+_, _*_, _-_, _≤_, _<_}
-use native.Mathlib.Numerals.{add-one}
+use Prim.Native.Nat.{ℕ, suc, _*_, _-_, _≤_, _<_}
 use native.Mathlib.Omega.{arith}
-use lib.Dec.{ltb}
 use lib.ListN.{length}
-use borrow.Author.Tests.{ltb-false, ltb-true}
-use Rattle.json.specs.Machine.{Stack, bare, whole, in-array, in-object, depth, finish, close, Token, State, fault, at}
+use Rattle.json.specs.Machine.{Stack, bare, whole, in-array, in-object, depth, finish, close, Token, fault, at}
 use Rattle.json.specs.declared.lexer.Place.{Place}
 use Rattle.json.specs.declared.lexer.Place.the-variants as P
 use Rattle.json.specs.declared.lexer.Mode.{Mode}
@@ -25,14 +22,14 @@ use Rattle.meaning.specs.Shows.{Kept, ShowsValue}
 use Rattle.meaning.proofs.CloseLaws.{shows-scalar}
 use Rattle.verdict.specs.Verdict.{longest}
 use Rattle.verdict.specs.declared.Verdict.the-variants as Is
-use Rattle.verdict.specs.Track.{stopped, trackTo}
+use Rattle.verdict.specs.Track.{trackTo}
 use Rattle.verdict.proofs.TrackLaws.{trackTo-fault, trackTo-deep, trackTo-sound}
 use Rattle.progress.specs.declared.Fault.the-variants as F
 use Rattle.progress.specs.declared.Lex.{Lex}
 use Rattle.progress.specs.Lex.{bump, faulted}
 use Rattle.progress.specs.Memory.{mem, valueAt, rulesAt, closeAt}
 use Rattle.follows.specs.Follows.{lexAt, ShowsStack, NoRoot, AnyRoot, ShowsRoot, Shown, follows, Tracks, on-track, off-track}
-use Rattle.follows.proofs.StackLaws.{shows-finished, shows-rules-array, shows-rules-object, root-finished, root-closed}
+use Rattle.follows.proofs.StackLaws.{shows-finished, shows-rules-array, shows-rules-object, root-closed}
 use Rattle.follows.proofs.MemoryLaws.{length-valueAt, one-le-bump, bump-short}
 
 module _ (es : List Entry) where

@@ -1,9 +1,8 @@
 -- What the lexer does with the first byte of a value and with a byte behind one: a claim about every step that may come is one about the step
 -- that comes. Assumes nothing.
 use mathlib.Core.Bool.{not}
-use mathlib.Core.Path.{_≡_}
 use Prim.Native.Nat.{ℕ}
-use lib.Dec.{T, eqb}
+use lib.Dec.{eqb}
 use borrow.Author.Tests.{eqb-true}
 use Rattle.laws.proofs.TestLaws.{cond-elim, true-of-T}
 use Rattle.json.specs.Bytes.{isBlank}

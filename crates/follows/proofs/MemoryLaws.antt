@@ -1,7 +1,7 @@
 -- What a byte leaves of any memory: the lengths of the buffer and of the key, whether the record is the head, and the count of bytes.
 -- Assumes nothing.
-use mathlib.Core.Bool.{Bool, true, false, cond}
-use mathlib.Core.List.{List, [], _∷_}
+use mathlib.Core.Bool.{Bool, true, false}
+use mathlib.Core.List.{List}
 use mathlib.Core.Path.{_≡_, refl, sym, ap, _∙_}
 use Prim.Native.Nat.{ℕ, suc, _-_, _≤_, _<_}
 use native.Mathlib.Numerals.{add-one}
@@ -19,7 +19,7 @@ use Rattle.table.specs.declared.Table.{Table}
 use Rattle.table.specs.declared.kind.Finished.{Finished}
 use Rattle.table.specs.declared.kind.Finished.the-variants as Done
 use Rattle.frame.specs.Frame.{hasFrame, frameAt, putFrame}
-use Rattle.frame.specs.Ops.{opened, keyed, valued}
+use Rattle.frame.specs.Ops.{opened, keyed}
 use Rattle.frame.proofs.LevelLaws.{putFrame-none, length-frameAt, length-putFrame}
 use Rattle.frame.proofs.OpenLaws.{length-opened}
 use Rattle.frame.proofs.KeyLaws.{length-keyed}
@@ -32,7 +32,7 @@ use Rattle.progress.specs.declared.Lex.{Lex}
 use Rattle.progress.specs.declared.Task.{Task}
 use Rattle.progress.specs.declared.Task.the-variants as To
 use Rattle.progress.specs.declared.Advanced.{Advanced}
-use Rattle.progress.specs.Lex.{bump, counted, opening, keyChar, charIn, acted, sound, byFault, advanced}
+use Rattle.progress.specs.Lex.{bump, opening, keyChar, charIn, acted, sound, byFault, advanced}
 use Rattle.progress.specs.Memory.{Mem, keyFound, valueAt, rulesAt, closeAt, perform, topAt, advancedAt, stepMem}
 
 -- ---- lengths

@@ -5,7 +5,7 @@ use Prim.Native.Nat.{ℕ, _≤_}
 use native.Mathlib.Omega.{arith}
 use lib.Dec.{T, eqb}
 use borrow.Author.Tests.{ne-eqb, eqb-true}
-use Rattle.laws.proofs.TestLaws.{cond-elim, cond-byte, true-of-T, T-or-elim}
+use Rattle.laws.proofs.TestLaws.{cond-elim, true-of-T, T-or-elim}
 use Rattle.json.specs.Bytes.{within}
 use Rattle.json.specs.Numbers.{isDigit, isDigit1-9, isE}
 use Rattle.json.specs.Lexer.{orExp, afterMinus, afterZero, afterInt, afterFrac, afterE, afterExp, digitOnly, numberMove}

@@ -1,11 +1,11 @@
 -- A whole part: the verdict of a memory that has read it is that of the machine; how many bytes are counted; the head. Assumes nothing.
-use mathlib.Core.Bool.{Bool, true, false, _&&_}
+use mathlib.Core.Bool.{Bool, true, false}
 use mathlib.Core.List.{List, [], _∷_, _++_}
-use mathlib.Core.Path.{_≡_, refl, sym, ap, _∙_}
-use Prim.Native.Nat.{ℕ, _+_, _*_, _≤_, _<_}
-use native.Mathlib.Nat.{add-zero, add-assoc}
+use mathlib.Core.Path.{_≡_, refl, _∙_}
+use Prim.Native.Nat.{ℕ, _+_, _*_, _≤_}
+use native.Mathlib.Nat.{add-zero}
 use native.Mathlib.Omega.{arith}
-use lib.Dec.{eqb, ltb}
+use lib.Dec.{ltb}
 use lib.ListN.{length}
 use borrow.Author.Tests.{lt-ltb}
 use Rattle.table.specs.declared.Table.{Table}
@@ -13,7 +13,7 @@ use Rattle.book.specs.Entry.{Entry}
 use Rattle.meaning.specs.Shows.{Kept}
 use Rattle.verdict.specs.declared.Verdict.the-variants as Is
 use Rattle.verdict.specs.Track.{Track, track, trackByte, trackStart, trackEnd}
-use Rattle.progress.specs.Lex.{bump, advanced, judged}
+use Rattle.progress.specs.Lex.{advanced, judged}
 use Rattle.progress.specs.Memory.{Mem, stepMem, endsRecord, runMem}
 use Rattle.follows.specs.Follows.{PlainKeys, Tracks, NoRS, nonempty, readPart, freshMem}
 use Rattle.follows.proofs.MemoryLaws.{length-stepMem, one-le-bump, counts-stepMem}

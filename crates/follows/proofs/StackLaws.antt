@@ -2,13 +2,13 @@
 -- the other levels. Assumes nothing.
 use mathlib.Core.Bool.{Bool, true, false, cond}
 use mathlib.Core.List.{List}
-use mathlib.Core.Path.{_≡_, refl, sym, ap, _∙_}
-use Prim.Native.Nat.{ℕ, zero, suc, _*_, _-_, _≤_, _<_}
+use mathlib.Core.Path.{_≡_, refl, sym, _∙_}
+use Prim.Native.Nat.{ℕ, suc, _*_, _≤_, _<_}
 use native.Mathlib.Omega.{arith}
 use lib.Dec.{eqb, lit<}
 use lib.ListN.{length}
 use borrow.Author.Tests.{lt-ltb, le-leb, ne-eqb}
-use Rattle.json.specs.Machine.{Stack, bare, whole, in-array, in-object, topOf, depth, finish, close}
+use Rattle.json.specs.Machine.{Stack, bare, whole, in-array, in-object, topOf, depth, finish}
 use Rattle.table.specs.Kind.{codeOf, ruleFits}
 use Rattle.table.specs.declared.Table.{Table}
 use Rattle.table.specs.declared.kind.Finished.{Finished}
@@ -20,7 +20,6 @@ use Rattle.runs.specs.Walk.{judging, States, OpenObject, startOf, atOpening, af
 use Rattle.frame.specs.Frame.{frameCount, hasFrame, frameAt, putFrame}
 use Rattle.frame.specs.Ops.{opened, keyed}
 use Rattle.frame.proofs.LevelLaws.{frameAt-putFrame, frameAt-putFrame-other}
-use Rattle.frame.proofs.OpenLaws.{length-opened}
 use Rattle.meaning.specs.Shows.{Kept, ShowsValue, ShowsArray, ShowsObject, ShowsKey}
 use Rattle.meaning.proofs.OpenLaws.{shows-open-array, shows-open-object, shows-key}
 use Rattle.meaning.proofs.ValueLaws.{shows-pair, shows-element}

@@ -1,25 +1,23 @@
 -- One byte: the memory that follows a state tracks what the machine makes of the byte, mode by mode. Assumes nothing.
 use mathlib.Core.Bool.{Bool, true, false, not, cond, _&&_}
 use mathlib.Core.List.{List, [], _∷_, _++_}
-use mathlib.Core.Path.{_≡_, refl, sym, ap, _∙_}
-use Prim.Native.Nat.{ℕ, suc, _+_, _*_, _≤_, _<_}
-use native.Mathlib.Decide.{decLt}
+use mathlib.Core.Path.{_≡_, refl, sym, _∙_}
+use Prim.Native.Nat.{ℕ, suc, _+_, _≤_, _<_}
 use native.Mathlib.Numerals.{add-one}
 use native.Mathlib.Omega.{arith}
 use lib.Dec.{eqb, ltb}
-use lib.ListN.{length, set, length-set}
-use borrow.Author.Tests.{ltb-false, ltb-true, lt-ltb, le-ltb}
+use lib.ListN.{length, length-set}
+use borrow.Author.Tests.{ltb-false, ltb-true}
 use Rattle.laws.proofs.TestLaws.{cond-elim}
 use Rattle.json.specs.Bytes.{isBlank}
-use Rattle.json.specs.Lexer.{charOf, stringMove, numberMove, wordMove, valueStart, atValue, atFirstElement, atFirstKey, atFirst, atKey, atColon, afterValue, keyStep, textStep, numberStep, wordStep, stepOf, stepTo, faultStep, stay, endedBefore}
-use Rattle.json.specs.Machine.{Stack, bare, whole, in-array, in-object, topOf, depth, finish, name, Token, State, fault, at, gather, charIn, withString, withNumber, take, step}
+use Rattle.json.specs.Lexer.{charOf, stringMove, numberMove, wordMove, valueStart, atValue, atFirstElement, atFirstKey, atFirst, atKey, atColon, afterValue, keyStep, textStep, numberStep, wordStep, stepOf, stepTo, stay, endedBefore}
+use Rattle.json.specs.Machine.{Stack, bare, whole, in-array, in-object, topOf, depth, finish, name, Token, State, at, gather, charIn, withString, withNumber, take, step}
 use Rattle.json.specs.declared.string.StringMode.{StringMode}
 use Rattle.json.specs.declared.string.StringMode.the-variants as S
 use Rattle.json.specs.declared.string.StringMove.{StringMove}
 use Rattle.json.specs.declared.string.StringMove.the-variants as SM
 use Rattle.json.specs.declared.number.NumberMode.{NumberMode}
 use Rattle.json.specs.declared.number.NumberMove.{NumberMove}
-use Rattle.json.specs.declared.number.NumberMove.the-variants as NM
 use Rattle.json.specs.declared.word.Word.{Word}
 use Rattle.json.specs.declared.word.Word.the-variants as W
 use Rattle.json.specs.declared.word.WordMove.{WordMove}
@@ -46,17 +44,15 @@ use Rattle.frame.specs.Ops.{opened, keyed}
 use Rattle.meaning.specs.Shows.{Kept}
 use Rattle.meaning.proofs.CloseLaws.{shows-scalar}
 use Rattle.verdict.specs.Verdict.{longest}
-use Rattle.verdict.specs.declared.Verdict.{Verdict}
 use Rattle.verdict.specs.declared.Verdict.the-variants as Is
-use Rattle.verdict.specs.Track.{Track, sound, stopped, trackTo, trackByte}
+use Rattle.verdict.specs.Track.{sound, trackTo, trackByte}
 use Rattle.verdict.proofs.TrackLaws.{trackByte-short, trackByte-long}
-use Rattle.progress.specs.declared.Fault.the-variants as F
 use Rattle.progress.specs.declared.Lex.{Lex}
-use Rattle.progress.specs.Lex.{advanced, sound as sounding, bump, bitsIn, highIn, opening, keyChar, scalarOf, acted}
+use Rattle.progress.specs.Lex.{advanced, sound as sounding, bump, bitsIn, highIn, opening, keyChar, acted}
 use Rattle.progress.specs.declared.Task.{Task}
 use Rattle.progress.specs.declared.Task.the-variants as Do
 use Rattle.progress.specs.Memory.{Mem, mem, keyFound, valueAt, perform, stepMem}
-use Rattle.follows.specs.Follows.{PlainKeys, KeyKept, all-kept, ShowsText, ShowsNumber, lexAt, ShowsStack, NoRoot, AnyRoot, ShowsRoot, Shown, Follows, follows, Tracks, on-track, off-track}
+use Rattle.follows.specs.Follows.{PlainKeys, all-kept, ShowsText, ShowsNumber, lexAt, ShowsStack, NoRoot, AnyRoot, ShowsRoot, Shown, Follows, follows, Tracks, off-track}
 use Rattle.follows.proofs.StackLaws.{topAt-shows, shows-opened-array, shows-opened-object, shows-named, shows-finished, root-finished}
 use Rattle.follows.proofs.KeyLaws.{keyKept-put, keyKept-high, keyKept-full, showsKey-keyFound}
 use Rattle.follows.proofs.NumberLaws.{numberMove-elim}

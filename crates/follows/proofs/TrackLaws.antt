@@ -3,16 +3,15 @@ use mathlib.Core.Bool.{Bool, true, false, cond}
 use mathlib.Core.List.{List, []}
 use mathlib.Core.Option.{none, some}
 use mathlib.Core.Path.{_≡_, refl, sym}
-use Prim.Native.Nat.{ℕ, suc, _*_, _≤_, _<_}
+use Prim.Native.Nat.{ℕ, suc, _*_, _≤_}
 use native.Mathlib.Omega.{arith}
-use lib.Dec.{eqb, ltb}
+use lib.Dec.{eqb}
 use lib.ListN.{length, replicate}
-use borrow.Author.Tests.{ltb-true, ltb-false, ne-eqb}
+use borrow.Author.Tests.{ne-eqb}
 use Rattle.laws.proofs.TestLaws.{cond-elim}
-use Rattle.json.specs.Lexer.{stepOf, mayEnd}
-use Rattle.json.specs.Machine.{Stack, bare, whole, in-array, in-object, depth, Token, at, step, result}
+use Rattle.json.specs.Lexer.{mayEnd}
+use Rattle.json.specs.Machine.{Stack, bare, whole, in-array, in-object, depth, Token, at, result}
 use Rattle.json.specs.declared.number.NumberMode.{NumberMode}
-use Rattle.json.specs.declared.number.NumberMode.the-variants as N
 use Rattle.json.specs.declared.lexer.Place.the-variants as P
 use Rattle.json.specs.declared.lexer.Mode.{Mode}
 use Rattle.json.specs.declared.lexer.Mode.the-variants as M
@@ -22,15 +21,12 @@ use Rattle.table.specs.declared.kind.Scalar.the-variants as K
 use Rattle.book.specs.Entry.{Entry}
 use Rattle.runs.specs.Walk.{judging, ofScalar}
 use Rattle.meaning.specs.Shows.{Kept}
-use Rattle.verdict.specs.Verdict.{longest}
 use Rattle.verdict.specs.declared.Verdict.{Verdict}
 use Rattle.verdict.specs.declared.Verdict.the-variants as Is
 use Rattle.verdict.specs.Track.{Track, sound, stopped, trackByte, trackStart, verdictOf, trackEnd}
-use Rattle.verdict.proofs.TrackLaws.{trackByte-short, trackByte-long}
-use Rattle.progress.specs.Lex.{advanced, sound as sounding, wholeNumber, wholeIn, whole as wholeBy, judged}
-use Rattle.progress.specs.Memory.{Mem, mem, topAt, stepMem}
+use Rattle.progress.specs.Lex.{advanced, wholeNumber, wholeIn, whole as wholeBy, judged}
+use Rattle.progress.specs.Memory.{Mem, stepMem}
 use Rattle.follows.specs.Follows.{PlainKeys, NoRoot, AnyRoot, ShowsRoot, Shown, follows, Tracks, on-track, off-track, freshMem}
-use Rattle.follows.proofs.StackLaws.{topAt-shows}
 use Rattle.follows.proofs.MemoryLaws.{one-le-bump}
 use Rattle.follows.proofs.StepLaws.{follows-step}
 

@@ -30,7 +30,7 @@ use Rattle.progress.specs.Lex.{bump, faulted}
 use Rattle.progress.specs.Memory.{mem, valueAt, rulesAt, closeAt}
 use Rattle.follows.specs.Follows.{lexAt, ShowsStack, NoRoot, AnyRoot, ShowsRoot, Shown, follows, Tracks, on-track, off-track}
 use Rattle.follows.proofs.StackLaws.{shows-finished, shows-rules-array, shows-rules-object, root-closed}
-use Rattle.follows.proofs.MemoryLaws.{length-valueAt, one-le-bump, bump-short}
+use Rattle.follows.proofs.MemoryLaws.{length-valueAt, one-le-bump, bump-below}
 
 module _ (es : List Entry) where
   -- a finished value leaves the number of open levels
@@ -68,7 +68,7 @@ module _ (es : List Entry) (n : ℕ) {i : ℕ} where
   pub lands : {m : Mode} {g : Token (judging es)} {k : Stack (judging es)} {level place bits high len : ℕ} {root : Bool} {key w : List ℕ} → i < longest
       → level ≡ depth (judging es) k → bits ≡ g .bits → high ≡ g .high → Shown es n m g k (suc i) len root key w
       → Tracks es n (mem (lexAt m level (bump i) place bits high len) root key w) (trackTo es n (at m g k) i)
-  lands {m} {g} {k} h e eb eh s = rw (e, eb, eh, bump-short i h, trackTo-sound es n (at m g k) i refl (s .room)) (on-track (follows s))
+  lands {m} {g} {k} h e eb eh s = rw (e, eb, eh, bump-below i (omega arith), trackTo-sound es n (at m g k) i refl (s .room)) (on-track (follows s))
 
 module _ {t : Table} {es : List Entry} (kept : Kept t es) (n : ℕ) (few : n ≤ 64) (i : ℕ) (h : i < longest) (place len : ℕ) (root : Bool) (key : List ℕ)
     (keyLong : length key ≡ 32) (g : Token (judging es)) (level bits high : ℕ) (eb : bits ≡ g .bits) (eh : high ≡ g .high) (w : List ℕ)

@@ -7,3 +7,4 @@ pub mod LandLaws
 pub mod StepLaws
 pub mod TrackLaws
 pub mod PartLaws
+pub mod Examples

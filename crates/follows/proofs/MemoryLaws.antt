@@ -83,10 +83,10 @@ pub one-le-bump : (p : ℕ) → 1 ≤ bump p
 unfolding bump
 one-le-bump p = cond-elim (λ (x : ℕ). 1 ≤ x) (ltb p 4294967295) (λ h. omega arith) (λ h. omega (arith, nltb→le p 4294967295 h))
 
--- below the most bytes of a record it counts
-pub bump-short : (i : ℕ) → i < longest → bump i ≡ suc i
+-- below the largest number it counts
+pub bump-below : (i : ℕ) → i < 4294967295 → bump i ≡ suc i
 unfolding bump
-bump-short i h = rw (lt-ltb i 4294967295 (omega arith), add-one i)
+bump-below i h = rw (lt-ltb i 4294967295 h, add-one i)
 
 -- the byte is counted, and the head stays the head
 pub record Counts (x y : Lex) : Type 0 where

@@ -1,8 +1,8 @@
 -- A whole part: the verdict of a memory that has read it is that of the machine; how many bytes are counted; the head. Assumes nothing.
 use mathlib.Core.Bool.{Bool, true, false}
 use mathlib.Core.List.{List, [], _∷_, _++_}
-use mathlib.Core.Path.{_≡_, refl, _∙_}
-use Prim.Native.Nat.{ℕ, _+_, _*_, _≤_}
+use mathlib.Core.Path.{_≡_, refl, sym, _∙_}
+use Prim.Native.Nat.{ℕ, suc, _+_, _*_, _≤_}
 use native.Mathlib.Nat.{add-zero}
 use native.Mathlib.Omega.{arith}
 use lib.Dec.{ltb}
@@ -16,7 +16,7 @@ use Rattle.verdict.specs.Track.{Track, track, trackByte, trackStart, trackEnd}
 use Rattle.progress.specs.Lex.{advanced, judged}
 use Rattle.progress.specs.Memory.{Mem, stepMem, endsRecord, runMem}
 use Rattle.follows.specs.Follows.{PlainKeys, Tracks, NoRS, nonempty, readPart, freshMem}
-use Rattle.follows.proofs.MemoryLaws.{length-stepMem, one-le-bump, counts-stepMem}
+use Rattle.follows.proofs.MemoryLaws.{length-stepMem, one-le-bump, bump-below, counts-stepMem}
 use Rattle.follows.proofs.TrackLaws.{tracks-step, tracks-start, tracks-judged}
 
 -- ---- the verdict
@@ -54,6 +54,13 @@ module _ (t : Table) (n : ℕ) where
   pub judged-head : (m : Mem) (p : List ℕ) → NoRS p → m .lex .head ≡ true → judged (readPart t n m p .lex) (readPart t n m p .root) ≡ Is.Head
   unfolding judged
   judged-head m p h e = rw (head-part m p h, e)
+
+  -- each byte of a part is counted, up to the largest number
+  pub pos-counts : (m : Mem) (p : List ℕ) → NoRS p → m .lex .pos + length p ≤ 4294967295 → readPart t n m p .lex .pos ≡ m .lex .pos + length p
+  pos-counts m [] h l = sym (add-zero (m .lex .pos))
+  pos-counts m (b ∷ p) h l =
+      let e : stepMem t n m b .lex .pos ≡ suc (m .lex .pos) = counts-stepMem t n m b (h .0) .pos ∙ bump-below (m .lex .pos) (omega arith) in
+      pos-counts (stepMem t n m b) p (h .1) (omega arith) ∙ omega arith
 
   -- a count of at least 1 stays so
   one-le-pos-more : (m : Mem) (p : List ℕ) → NoRS p → 1 ≤ m .lex .pos → 1 ≤ readPart t n m p .lex .pos

@@ -51,20 +51,21 @@ shows-below es w f l (in-object o k) long d h =
     (rw (frameAt-putFrame-other w f l long (suc (depth (judging es) k)) (λ e. omega arith)) (h .0), shows-below es w f l k long (omega arith) (h .1))
 
 module _ {t : Table} {es : List Entry} (kept : Kept t es) (n : ℕ) (few : n ≤ 64) (w : List ℕ) (long : 96 * n ≤ length w) where
-  -- a frame that is put at the level above a stack shows an array or an object
+  -- a frame that is put at the level above a stack stands there, and leaves the stack
+  shows-put : (f : List ℕ) (k : Stack (judging es)) → depth (judging es) k < n → ShowsStack es w k → length f ≡ 96
+      → (frameAt (putFrame w (suc (depth (judging es) k)) f) (suc (depth (judging es) k)) ≡ f) × ShowsStack es (putFrame w (suc (depth (judging es) k)) f) k
+  shows-put f k d h l = (
+    frameAt-putFrame w f (suc (depth (judging es) k)) l (hasFrame-of-le n (length w) (suc (depth (judging es) k)) few long (omega arith) (omega arith)),
+    shows-below es w f (suc (depth (judging es) k)) k l (omega arith) h,
+  )
+
   shows-put-array : (f : List ℕ) {S : States} (k : Stack (judging es)) → depth (judging es) k < n → ShowsStack es w k → ShowsArray f S
       → ShowsStack es (putFrame w (suc (depth (judging es) k)) f) (in-array S k)
-  shows-put-array f k d h a = (
-    rw (frameAt-putFrame w f (suc (depth (judging es) k)) (a .long) (hasFrame-of-le n (length w) (suc (depth (judging es) k)) few long (omega arith) (omega arith))) a,
-    shows-below es w f (suc (depth (judging es) k)) k (a .long) (omega arith) h,
-  )
+  shows-put-array f k d h a = let p = shows-put f k d h (a .long) in (rw (p .0) a, p .1)
 
   shows-put-object : (f : List ℕ) {o : OpenObject} (k : Stack (judging es)) → depth (judging es) k < n → ShowsStack es w k → ShowsObject es f o
       → ShowsStack es (putFrame w (suc (depth (judging es) k)) f) (in-object o k)
-  shows-put-object f k d h a = (
-    rw (frameAt-putFrame w f (suc (depth (judging es) k)) (a .long) (hasFrame-of-le n (length w) (suc (depth (judging es) k)) few long (omega arith) (omega arith))) a,
-    shows-below es w f (suc (depth (judging es) k)) k (a .long) (omega arith) h,
-  )
+  shows-put-object f k d h a = let p = shows-put f k d h (a .long) in (rw (p .0) a, p .1)
 
   -- an array or object is opened
   pub shows-opened-array : (k : Stack (judging es)) → depth (judging es) k < n → ShowsStack es w k

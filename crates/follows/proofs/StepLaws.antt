@@ -50,7 +50,7 @@ use Rattle.verdict.proofs.TrackLaws.{trackByte-short, trackByte-long}
 use Rattle.progress.specs.declared.Lex.{Lex}
 use Rattle.progress.specs.Lex.{advanced, sound as sounding, bump, bitsIn, highIn, opening, keyChar, acted}
 use Rattle.progress.specs.declared.Task.{Task}
-use Rattle.progress.specs.declared.Task.the-variants as Do
+use Rattle.progress.specs.declared.Task.the-variants as To
 use Rattle.progress.specs.Memory.{Mem, mem, keyFound, valueAt, perform, stepMem}
 use Rattle.follows.specs.Follows.{PlainKeys, all-kept, ShowsText, ShowsNumber, lexAt, ShowsStack, NoRoot, AnyRoot, ShowsRoot, Shown, Follows, follows, Tracks, off-track}
 use Rattle.follows.proofs.StackLaws.{topAt-shows, shows-opened-array, shows-opened-object, shows-named, shows-finished, root-finished}
@@ -108,8 +108,8 @@ module _ (t : Table) (es : List Entry) (n : ℕ) (g : Token (judging es)) (k : S
   abbrev behind : Step → State (judging es)
   behind st = take (judging es) st (charIn (judging es) m g b) b g (gather (judging es) m g b) k
 
-  abbrev Next : Step → Type 0
-  Next st =
+  abbrev StepTracked : Step → Type 0
+  StepTracked st =
       Proper (judging es) (behind st)
       → Tracks es n (perform (acted (st .act) (st .ends) before n b (st .mode) .task) t (mem before root key w) (acted (st .act) (st .ends) before n b (st .mode) .lex))
       (trackTo es n (behind st) i)
@@ -120,14 +120,14 @@ module _ {t : Table} {es : List Entry} (kept : Kept t es) (plain : PlainKeys es)
   abbrev Known : Mode → Type 0
   Known m = Shown es n m g k i len root key w
 
-  abbrev To : Mode → Step → Type 0
-  To m st = Next t es n g k i place len root key w b m st
+  abbrev Tracked : Mode → Step → Type 0
+  Tracked m st = StepTracked t es n g k i place len root key w b m st
 
   abbrev lexer : Mode → Lex
   lexer m = before t es n g k i place len root key w b m
 
   -- a fault
-  step-fault : (m m′ : Mode) (e : Bool) → To m (record { mode = m′; ends = e; act = A.Fault })
+  step-fault : (m m′ : Mode) (e : Bool) → Tracked m (record { mode = m′; ends = e; act = A.Fault })
   step-fault m m′ e p = lands-malformed es n (lexer m) root key w refl refl
 
   -- a byte that leaves the frames and the root
@@ -150,11 +150,11 @@ module _ {t : Table} {es : List Entry} (kept : Kept t es) (plain : PlainKeys es)
         number = y;
       }
 
-  step-pass : (m m′ : Mode) → Known m → ShowsRoot es m′ root k → ShowsText m′ key len (g .string) → ShowsNumber m′ (g .number) → To m (stepTo m′ A.Pass)
+  step-pass : (m m′ : Mode) → Known m → ShowsRoot es m′ root k → ShowsText m′ key len (g .string) → ShowsNumber m′ (g .number) → Tracked m (stepTo m′ A.Pass)
   step-pass m m′ s r x y p =
       step-stays m m′ (gather (judging es) m g b) s refl refl (s .key-long) p r (rw (string-gather es g b m) x) (rw (number-gather es g b m) y)
 
-  step-keyStart : (m : Mode) → Known m → NoRoot es root k → To m (stepTo (M.Key S.Char) A.KeyStart)
+  step-keyStart : (m : Mode) → Known m → NoRoot es root k → Tracked m (stepTo (M.Key S.Char) A.KeyStart)
   step-keyStart m s r p =
       step-stays m (M.Key S.Char) (withString (judging es) (gather (judging es) m g b) []) s refl refl (s .key-long) p r (all-kept refl (omega arith) refl) tt
 
@@ -203,16 +203,16 @@ module _ {t : Table} {es : List Entry} (kept : Kept t es) (plain : PlainKeys es)
           let l = ltb-false (depth (judging es) k) n e in
           rw e (lands-deep es n (lexer m) root key w (M.At P.First) (gather (judging es) m g b) k′ refl refl (omega arith))
 
-  step-openArray : (m : Mode) → Known m → NoRoot es root k → To m (stepTo (M.At P.First) A.OpenArray)
+  step-openArray : (m : Mode) → Known m → NoRoot es root k → Tracked m (stepTo (M.At P.First) A.OpenArray)
   step-openArray m s r p =
-      step-opened m false (in-array (startOf es arr) k) Do.OpenArray s (λ y. refl) refl (λ l. shows-opened-array kept n few w (s .long) k l (s .stack)) r tt
+      step-opened m false (in-array (startOf es arr) k) To.OpenArray s (λ y. refl) refl (λ l. shows-opened-array kept n few w (s .long) k l (s .stack)) r tt
 
-  step-openObject : (m : Mode) → Known m → NoRoot es root k → To m (stepTo (M.At P.First) A.OpenObject)
+  step-openObject : (m : Mode) → Known m → NoRoot es root k → Tracked m (stepTo (M.At P.First) A.OpenObject)
   step-openObject m s r p =
-      step-opened m true (in-object (atOpening es) k) Do.OpenObject s (λ y. refl) refl (λ l. shows-opened-object kept n few w (s .long) k l (s .stack)) r tt
+      step-opened m true (in-object (atOpening es) k) To.OpenObject s (λ y. refl) refl (λ l. shows-opened-object kept n few w (s .long) k l (s .stack)) r tt
 
   -- a character of a key is finished
-  step-keyChar : (x : StringMode) → Known (M.Key x) → To (M.Key x) (stepTo (M.Key S.Char) A.KeyChar)
+  step-keyChar : (x : StringMode) → Known (M.Key x) → Tracked (M.Key x) (stepTo (M.Key S.Char) A.KeyChar)
   unfolding keyChar
   step-keyChar x s p = go (ltb len 32) refl (ltb c 128) refl
     where
@@ -241,7 +241,7 @@ module _ {t : Table} {es : List Entry} (kept : Kept t es) (plain : PlainKeys es)
       w (s .long) k refl (s .room) (s .stack) x P.After p (root-finished es root (ofScalar x) (scalar-no-rule es x) k r)
 
   -- a key is finished
-  step-keyEnd : (x : StringMode) → Known (M.Key x) → To (M.Key x) (stepTo (M.At P.Colon) A.KeyEnd)
+  step-keyEnd : (x : StringMode) → Known (M.Key x) → Tracked (M.Key x) (stepTo (M.At P.Colon) A.KeyEnd)
   step-keyEnd x s p = go k (s .room) (s .stack) (s .root-shown) (s .proper)
     where
       go : (y : Stack (judging es)) → depth (judging es) y ≤ n → ShowsStack es w y → NoRoot es root y → InObject (judging es) y
@@ -265,106 +265,107 @@ module _ {t : Table} {es : List Entry} (kept : Kept t es) (plain : PlainKeys es)
           }
 
   -- the innermost value is closed
-  step-closed : (p : Place) → Known (M.At p) → NoRoot es root k → Opened (judging es) k → To (M.At p) (stepTo (M.At P.After) A.Close)
+  step-closed : (p : Place) → Known (M.At p) → NoRoot es root k → Opened (judging es) k → Tracked (M.At p) (stepTo (M.At P.After) A.Close)
   step-closed p s r o y =
       lands-closed kept n few i h place len root key (s .key-long) g (depth (judging es) k) (g .bits) (g .high) refl refl w (s .long) k refl (s .room) (s .stack) r o y
 
   -- ---- a byte that ends a number
 
   module _ (x : NumberMode) (s : Known (M.Number x)) where
-    abbrev v : ValueKind → Bool
-    v = ofScalar (cond (g .number) K.Int K.Num)
+    -- the kinds that it fits
+    abbrev numberFits : ValueKind → Bool
+    numberFits = ofScalar (cond (g .number) K.Int K.Num)
 
-    anyRoot-number : AnyRoot es root (finish (judging es) v k)
-    anyRoot-number = root-finished es root v (scalar-no-rule es (cond (g .number) K.Int K.Num)) k (s .root-shown)
+    anyRoot-number : AnyRoot es root (finish (judging es) numberFits k)
+    anyRoot-number = root-finished es root numberFits (scalar-no-rule es (cond (g .number) K.Int K.Num)) k (s .root-shown)
 
-    step-endedPass : (p : Place) → ShowsRoot es (M.At p) root (finish (judging es) v k) → To (M.Number x) (endedBefore (stay p))
+    step-endedPass : (p : Place) → ShowsRoot es (M.At p) root (finish (judging es) numberFits k) → Tracked (M.Number x) (endedBefore (stay p))
     step-endedPass p r y =
         rw (s .number)
         (lands-finished kept n few i h place len root key (s .key-long) g (depth (judging es) k) (g .bits) (g .high) refl refl w (s .long) k refl (s .room) (s .stack)
         (cond (g .number) K.Int K.Num) p y r)
 
-    step-endedClose : Opened (judging es) (finish (judging es) v k) → To (M.Number x) (endedBefore (stepTo (M.At P.After) A.Close))
+    step-endedClose : Opened (judging es) (finish (judging es) numberFits k) → Tracked (M.Number x) (endedBefore (stepTo (M.At P.After) A.Close))
     step-endedClose o y =
         let z : Scalar = cond (g .number) K.Int K.Num in
         rw (s .number)
         (lands-closed kept n few i h place len root key (s .key-long) g (depth (judging es) k) (g .bits) (g .high) refl refl (valueAt t w (depth (judging es) k) (Done.Scalar z))
-        (rw (length-valueAt t w (depth (judging es) k) (Done.Scalar z)) (s .long)) (finish (judging es) v k) (sym (depth-finish es v k))
-        (rw (depth-finish es v k) (s .room)) (shows-finished kept n few w (s .long) (Done.Scalar z) v (shows-scalar z) k (s .room) (s .stack))
-        (noRoot-of-opened es root (finish (judging es) v k) o anyRoot-number) o y)
+        (rw (length-valueAt t w (depth (judging es) k) (Done.Scalar z)) (s .long)) (finish (judging es) numberFits k) (sym (depth-finish es numberFits k))
+        (rw (depth-finish es numberFits k) (s .room)) (shows-finished kept n few w (s .long) (Done.Scalar z) numberFits (shows-scalar z) k (s .room) (s .stack))
+        (noRoot-of-opened es root (finish (judging es) numberFits k) o anyRoot-number) o y)
 
   -- ---- mode by mode
 
-  step-valueStart : (m : Mode) → Known m → NoRoot es root k → To m (valueStart b)
+  step-valueStart : (m : Mode) → Known m → NoRoot es root k → Tracked m (valueStart b)
   step-valueStart m s r =
-      valueStart-elim (To m) b (step-fault m (M.At P.Value) false) (λ _. step-text m [] s r) (step-openArray m s r) (step-openObject m s r)
+      valueStart-elim (Tracked m) b (step-fault m (M.At P.Value) false) (λ _. step-text m [] s r) (step-openArray m s r) (step-openObject m s r)
       (λ x y _. step-number m x (not (beginsPart b)) s r y) (λ x. step-pass m (M.Word x 1) s r tt tt)
 
-  step-value : Known (M.At P.Value) → To (M.At P.Value) (atValue b)
+  step-value : Known (M.At P.Value) → Tracked (M.At P.Value) (atValue b)
   unfolding atValue
   step-value s =
-      cond-elim (To (M.At P.Value)) (isBlank b) (λ _. step-pass (M.At P.Value) (M.At P.Value) s (s .root-shown) tt tt)
+      cond-elim (Tracked (M.At P.Value)) (isBlank b) (λ _. step-pass (M.At P.Value) (M.At P.Value) s (s .root-shown) tt tt)
       (λ _. step-valueStart (M.At P.Value) s (s .root-shown))
 
-  step-firstElement : Known (M.At P.First) → To (M.At P.First) (atFirstElement b)
+  step-firstElement : Known (M.At P.First) → Tracked (M.At P.First) (atFirstElement b)
   unfolding atFirstElement
   step-firstElement s =
       let r = s .root-shown in
-      cond-elim (To (M.At P.First)) (isBlank b) (λ _. step-pass (M.At P.First) (M.At P.First) s r tt tt)
-      (λ _. cond-elim (To (M.At P.First)) (eqb b 0x5D) (λ _. step-closed P.First s r (s .proper)) (λ _. step-valueStart (M.At P.First) s r))
+      cond-elim (Tracked (M.At P.First)) (isBlank b) (λ _. step-pass (M.At P.First) (M.At P.First) s r tt tt)
+      (λ _. cond-elim (Tracked (M.At P.First)) (eqb b 0x5D) (λ _. step-closed P.First s r (s .proper)) (λ _. step-valueStart (M.At P.First) s r))
 
-  step-first : (top : Top) → Known (M.At P.First) → To (M.At P.First) (atFirst top b)
+  step-first : (top : Top) → Known (M.At P.First) → Tracked (M.At P.First) (atFirst top b)
   unfolding atFirstKey
   step-first T.Bare s = step-firstElement s
   step-first T.Array s = step-firstElement s
   step-first T.Object s =
       let r = s .root-shown in
-      cond-elim (To (M.At P.First)) (isBlank b) (λ _. step-pass (M.At P.First) (M.At P.First) s r tt tt)
-      (λ _. cond-elim (To (M.At P.First)) (eqb b 0x7D) (λ _. step-closed P.First s r (s .proper))
-      (λ _. cond-elim (To (M.At P.First)) (eqb b 0x22) (λ _. step-keyStart (M.At P.First) s r) (λ _. step-fault (M.At P.First) (M.At P.Value) false)))
+      cond-elim (Tracked (M.At P.First)) (isBlank b) (λ _. step-pass (M.At P.First) (M.At P.First) s r tt tt)
+      (λ _. cond-elim (Tracked (M.At P.First)) (eqb b 0x7D) (λ _. step-closed P.First s r (s .proper))
+      (λ _. cond-elim (Tracked (M.At P.First)) (eqb b 0x22) (λ _. step-keyStart (M.At P.First) s r) (λ _. step-fault (M.At P.First) (M.At P.Value) false)))
 
-  step-atKey : Known (M.At P.Key) → To (M.At P.Key) (atKey b)
+  step-atKey : Known (M.At P.Key) → Tracked (M.At P.Key) (atKey b)
   unfolding atKey
   step-atKey s =
-      cond-elim (To (M.At P.Key)) (isBlank b) (λ _. step-pass (M.At P.Key) (M.At P.Key) s (s .root-shown) tt tt)
-      (λ _. cond-elim (To (M.At P.Key)) (eqb b 0x22) (λ _. step-keyStart (M.At P.Key) s (s .root-shown)) (λ _. step-fault (M.At P.Key) (M.At P.Value) false))
+      cond-elim (Tracked (M.At P.Key)) (isBlank b) (λ _. step-pass (M.At P.Key) (M.At P.Key) s (s .root-shown) tt tt)
+      (λ _. cond-elim (Tracked (M.At P.Key)) (eqb b 0x22) (λ _. step-keyStart (M.At P.Key) s (s .root-shown)) (λ _. step-fault (M.At P.Key) (M.At P.Value) false))
 
-  step-colon : Known (M.At P.Colon) → To (M.At P.Colon) (atColon b)
+  step-colon : Known (M.At P.Colon) → Tracked (M.At P.Colon) (atColon b)
   unfolding atColon
   step-colon s =
-      cond-elim (To (M.At P.Colon)) (isBlank b) (λ _. step-pass (M.At P.Colon) (M.At P.Colon) s (s .root-shown) tt tt)
-      (λ _. cond-elim (To (M.At P.Colon)) (eqb b 0x3A) (λ _. step-pass (M.At P.Colon) (M.At P.Value) s (s .root-shown) tt tt) (λ _. step-fault (M.At P.Colon) (M.At P.Value) false))
+      cond-elim (Tracked (M.At P.Colon)) (isBlank b) (λ _. step-pass (M.At P.Colon) (M.At P.Colon) s (s .root-shown) tt tt)
+      (λ _. cond-elim (Tracked (M.At P.Colon)) (eqb b 0x3A) (λ _. step-pass (M.At P.Colon) (M.At P.Value) s (s .root-shown) tt tt) (λ _. step-fault (M.At P.Colon) (M.At P.Value) false))
 
-  step-after : Known (M.At P.After) → To (M.At P.After) (afterValue (topOf (judging es) k) b)
+  step-after : Known (M.At P.After) → Tracked (M.At P.After) (afterValue (topOf (judging es) k) b)
   step-after s =
       let r : Opened (judging es) k → NoRoot es root k = λ o. noRoot-of-opened es root k o (s .root-shown) in
-      afterValue-elim (To (M.At P.After)) b (judging es) k (step-fault (M.At P.After) (M.At P.Value) false)
+      afterValue-elim (Tracked (M.At P.After)) b (judging es) k (step-fault (M.At P.After) (M.At P.Value) false)
       (step-pass (M.At P.After) (M.At P.After) s (s .root-shown) tt tt) (λ o. step-pass (M.At P.After) (M.At P.Value) s (r o) tt tt)
       (λ o. step-pass (M.At P.After) (M.At P.Key) s (r o) tt tt) (λ o. step-closed P.After s (r o) o)
 
-  step-key : (x : StringMode) (v : StringMove) → Known (M.Key x) → To (M.Key x) (keyStep v)
+  step-key : (x : StringMode) (v : StringMove) → Known (M.Key x) → Tracked (M.Key x) (keyStep v)
   step-key x SM.Fault s = step-fault (M.Key x) (M.At P.Value) false
   step-key x (SM.Go y) s = step-pass (M.Key x) (M.Key y) s (s .root-shown) (s .text) tt
   step-key x SM.Char s = step-keyChar x s
   step-key x SM.Close s = step-keyEnd x s
 
-  step-string : (x : StringMode) (v : StringMove) → Known (M.Text x) → To (M.Text x) (textStep v)
+  step-string : (x : StringMode) (v : StringMove) → Known (M.Text x) → Tracked (M.Text x) (textStep v)
   step-string x SM.Fault s = step-fault (M.Text x) (M.At P.Value) false
   step-string x (SM.Go y) s = step-pass (M.Text x) (M.Text y) s (s .root-shown) tt tt
   step-string x SM.Char s = λ _. step-text (M.Text x) (g .string ++ (charOf x (g .bits) (g .high) b ∷ [])) s (s .root-shown)
   step-string x SM.Close s = step-finished (M.Text x) K.Str s (s .root-shown)
 
-  step-digits : (x : NumberMode) → Known (M.Number x) → To (M.Number x) (numberStep (numberMove x b) (topOf (judging es) k) b)
+  step-digits : (x : NumberMode) → Known (M.Number x) → Tracked (M.Number x) (numberStep (numberMove x b) (topOf (judging es) k) b)
   step-digits x s =
-      let r : Opened (judging es) k → NoRoot es root (finish (judging es) (v x s) k) =
-      λ o. noRoot-of-opened es root (finish (judging es) (v x s) k) (opened-finish es (v x s) k o) (anyRoot-number x s) in
-      numberMove-elim b (λ (y : NumberMove). To (M.Number x) (numberStep y (topOf (judging es) k) b)) (g .number) (step-fault (M.Number x) (M.At P.Value) false)
-      (afterValue-elim (λ (st : Step). To (M.Number x) (endedBefore st)) b (judging es) k (step-fault (M.Number x) (M.At P.Value) true)
+      let r : Opened (judging es) k → NoRoot es root (finish (judging es) (numberFits x s) k) =
+      λ o. noRoot-of-opened es root (finish (judging es) (numberFits x s) k) (opened-finish es (numberFits x s) k o) (anyRoot-number x s) in
+      numberMove-elim b (λ (y : NumberMove). Tracked (M.Number x) (numberStep y (topOf (judging es) k) b)) (g .number) (step-fault (M.Number x) (M.At P.Value) false)
+      (afterValue-elim (λ (st : Step). Tracked (M.Number x) (endedBefore st)) b (judging es) k (step-fault (M.Number x) (M.At P.Value) true)
       (step-endedPass x s P.After (anyRoot-number x s)) (λ o. step-endedPass x s P.Value (r o)) (λ o. step-endedPass x s P.Key (r o))
-      (λ o. step-endedClose x s (opened-finish es (v x s) k o)))
+      (λ o. step-endedClose x s (opened-finish es (numberFits x s) k o)))
       (λ y z _. step-number (M.Number x) y (g .number && not (beginsPart b)) s (s .root-shown) z) x (s .number)
 
-  step-word : (x : Word) (j : ℕ) (v : WordMove) → Known (M.Word x j) → To (M.Word x j) (wordStep v x j)
+  step-word : (x : Word) (j : ℕ) (v : WordMove) → Known (M.Word x j) → Tracked (M.Word x j) (wordStep v x j)
   unfolding ofWord
   step-word x j WM.Fault s = step-fault (M.Word x j) (M.At P.Value) false
   step-word x j WM.Go s = step-pass (M.Word x j) (M.Word x (j + 1)) s (s .root-shown) tt tt
@@ -372,7 +373,7 @@ module _ {t : Table} {es : List Entry} (kept : Kept t es) (plain : PlainKeys es)
   step-word W.True j WM.End s = step-finished (M.Word W.True j) K.True s (s .root-shown)
   step-word W.False j WM.End s = step-finished (M.Word W.False j) K.False s (s .root-shown)
 
-  step-any : (m : Mode) → Known m → To m (stepOf m (topOf (judging es) k) b)
+  step-any : (m : Mode) → Known m → Tracked m (stepOf m (topOf (judging es) k) b)
   step-any (M.At P.Value) s = step-value s
   step-any (M.At P.First) s = step-first (topOf (judging es) k) s
   step-any (M.At P.Key) s = step-atKey s

@@ -2,7 +2,7 @@
 use mathlib.Core.Bool.{Bool, true, false, cond}
 use mathlib.Core.List.{List, []}
 use mathlib.Core.Option.{none, some}
-use mathlib.Core.Path.{_≡_, refl, sym}
+use mathlib.Core.Path.{_≡_, refl}
 use Prim.Native.Nat.{ℕ, suc, _*_, _≤_}
 use native.Mathlib.Omega.{arith}
 use lib.Dec.{eqb}
@@ -10,7 +10,7 @@ use lib.ListN.{length, replicate}
 use borrow.Author.Tests.{ne-eqb}
 use Rattle.laws.proofs.TestLaws.{cond-elim}
 use Rattle.json.specs.Lexer.{mayEnd}
-use Rattle.json.specs.Machine.{Stack, bare, whole, in-array, in-object, depth, Token, at, result}
+use Rattle.json.specs.Machine.{Stack, bare, whole, in-array, in-object, topOf, depth, Token, State, at, result}
 use Rattle.json.specs.declared.number.NumberMode.{NumberMode}
 use Rattle.json.specs.declared.lexer.Place.the-variants as P
 use Rattle.json.specs.declared.lexer.Mode.{Mode}
@@ -25,10 +25,22 @@ use Rattle.verdict.specs.declared.Verdict.{Verdict}
 use Rattle.verdict.specs.declared.Verdict.the-variants as Is
 use Rattle.verdict.specs.Track.{Track, sound, stopped, trackByte, trackStart, verdictOf, trackEnd}
 use Rattle.progress.specs.Lex.{advanced, wholeNumber, wholeIn, whole as wholeBy, judged}
-use Rattle.progress.specs.Memory.{Mem, stepMem}
-use Rattle.follows.specs.Follows.{PlainKeys, NoRoot, AnyRoot, ShowsRoot, Shown, follows, Tracks, on-track, off-track, freshMem}
+use Rattle.progress.specs.Memory.{Mem, mem, topAt, stepMem}
+use Rattle.follows.specs.Follows.{PlainKeys, NoRoot, AnyRoot, ShowsRoot, Shown, Follows, follows, Tracks, on-track, off-track, freshMem}
+use Rattle.follows.proofs.StackLaws.{topAt-shows}
 use Rattle.follows.proofs.MemoryLaws.{one-le-bump}
 use Rattle.follows.proofs.StepLaws.{follows-step}
+
+-- ---- what a memory that follows a state tells
+
+-- the kind of the innermost open value
+pub topAt-follows : (es : List Entry) (n : ℕ) (x : Mem) (m : Mode) (g : Token (judging es)) (k : Stack (judging es)) (i : ℕ) → Follows es n x (at m g k) i
+    → topAt (x .work) (x .lex .level) ≡ topOf (judging es) k
+topAt-follows es n x m g k i (follows {w} s) = topAt-shows es w k (s .stack)
+
+-- the number of bytes
+pub pos-follows : (es : List Entry) (n : ℕ) (x : Mem) (q : State (judging es)) (i : ℕ) → Follows es n x q i → x .lex .pos ≡ i
+pos-follows es n x q i (follows s) = refl
 
 -- ---- one byte
 
@@ -45,6 +57,11 @@ stopped-step t es n n′ m (Is.TooDeep i) b e (off-track h f p) =
 stopped-step t es n n′ m Is.TooLong b e (off-track h f p) = rw (e, h, f) (off-track {v = Is.TooLong} refl refl (one-le-bump (m .lex .pos)))
 stopped-step t es n n′ m (Is.Unfinished i) b e (off-track h f p) = absurd f
 stopped-step t es n n′ m Is.Head b e (off-track h f p) = absurd f
+
+-- it stays so with any root, key and buffer too
+pub stopped-anywhere : (es : List Entry) (n : ℕ) (m : Mem) (v : Verdict) → Tracks es n m (stopped v) → (root : Bool) (key w : List ℕ)
+    → Tracks es n (mem (m .lex) root key w) (stopped v)
+stopped-anywhere es n m v (off-track h f p) root key w = off-track h f p
 
 -- a memory that keeps a track keeps it at each byte but RS
 pub tracks-step : {t : Table} {es : List Entry} → Kept t es → PlainKeys es → (n : ℕ) → n ≤ 64 → (m : Mem) (s : Track es) (b : ℕ) → eqb b 0x1E ≡ false
@@ -76,8 +93,13 @@ tracks-start es n w long = on-track (follows shown)
 
 module _ (es : List Entry) (i : ℕ) where
   -- inside a value, or before one, the part is unfinished
-  unfinished : (d : ℕ) → Is.Unfinished i ≡ cond (eqb d 0) (Is.Unfinished i) (Is.Unfinished i)
-  unfinished d = cond-elim (λ (v : Verdict). Is.Unfinished i ≡ v) (eqb d 0) (λ _. refl) (λ _. refl)
+  unfinished : (d : ℕ) → cond (eqb d 0) (Is.Unfinished i) (Is.Unfinished i) ≡ Is.Unfinished i
+  unfinished d = cond-elim (λ (v : Verdict). v ≡ Is.Unfinished i) (eqb d 0) (λ _. refl) (λ _. refl)
+
+  unfinished-number : (v : Bool) → Is.Unfinished i ≡ verdictOf es (cond v none none) i
+  unfolding verdictOf
+  unfinished-number true = refl
+  unfinished-number false = refl
 
   -- a scalar at the root is invalid, where it is finished
   whole-number : (x : NumberMode) (g : Token (judging es)) (k : Stack (judging es)) (root : Bool) → NoRoot es root k
@@ -89,16 +111,8 @@ module _ (es : List Entry) (i : ℕ) where
       go true = refl
       go false = refl
   whole-number x g (whole v) root r = absurd r
-  whole-number x g (in-array S k) root r = rw (ne-eqb (suc (depth (judging es) k)) 0 (λ e. omega arith)) (go (mayEnd x))
-    where
-      go : (v : Bool) → Is.Unfinished i ≡ verdictOf es (cond v none none) i
-      go true = refl
-      go false = refl
-  whole-number x g (in-object o k) root r = rw (ne-eqb (suc (depth (judging es) k)) 0 (λ e. omega arith)) (go (mayEnd x))
-    where
-      go : (v : Bool) → Is.Unfinished i ≡ verdictOf es (cond v none none) i
-      go true = refl
-      go false = refl
+  whole-number x g (in-array S k) root r = rw (ne-eqb (suc (depth (judging es) k)) 0 (λ e. omega arith)) (unfinished-number (mayEnd x))
+  whole-number x g (in-object o k) root r = rw (ne-eqb (suc (depth (judging es) k)) 0 (λ e. omega arith)) (unfinished-number (mayEnd x))
 
   -- behind a value with nothing open the root decides
   whole-after : (g : Token (judging es)) (k : Stack (judging es)) (root : Bool) → Begun (judging es) k → AnyRoot es root k
@@ -112,15 +126,15 @@ module _ (es : List Entry) (i : ℕ) where
   whole-shown : (m : Mode) (g : Token (judging es)) (k : Stack (judging es)) (root : Bool) → ProperAt (judging es) m k → ShowsRoot es m root k
       → cond (eqb (depth (judging es) k) 0) (wholeIn m i root) (Is.Unfinished i) ≡ verdictOf es (result (judging es) (at m g k)) i
   unfolding verdictOf
-  whole-shown (M.At P.Value) g k root p r = sym (unfinished (depth (judging es) k))
-  whole-shown (M.At P.First) g k root p r = sym (unfinished (depth (judging es) k))
-  whole-shown (M.At P.Key) g k root p r = sym (unfinished (depth (judging es) k))
-  whole-shown (M.At P.Colon) g k root p r = sym (unfinished (depth (judging es) k))
+  whole-shown (M.At P.Value) g k root p r = unfinished (depth (judging es) k)
+  whole-shown (M.At P.First) g k root p r = unfinished (depth (judging es) k)
+  whole-shown (M.At P.Key) g k root p r = unfinished (depth (judging es) k)
+  whole-shown (M.At P.Colon) g k root p r = unfinished (depth (judging es) k)
   whole-shown (M.At P.After) g k root p r = whole-after g k root p r
-  whole-shown (M.Key x) g k root p r = sym (unfinished (depth (judging es) k))
-  whole-shown (M.Text x) g k root p r = sym (unfinished (depth (judging es) k))
+  whole-shown (M.Key x) g k root p r = unfinished (depth (judging es) k)
+  whole-shown (M.Text x) g k root p r = unfinished (depth (judging es) k)
   whole-shown (M.Number x) g k root p r = whole-number x g k root r
-  whole-shown (M.Word x j) g k root p r = sym (unfinished (depth (judging es) k))
+  whole-shown (M.Word x j) g k root p r = unfinished (depth (judging es) k)
 
 -- the verdict of a memory is that of the track which it keeps
 pub tracks-judged : {es : List Entry} {n : ℕ} (m : Mem) (s : Track es) → Tracks es n m s → judged (m .lex) (m .root) ≡ trackEnd es s

@@ -5,7 +5,7 @@ use mathlib.Core.Path.{_≡_, refl, sym, _∙_}
 use Prim.Native.Nat.{ℕ, suc, _+_, _*_, _≤_}
 use native.Mathlib.Nat.{add-zero}
 use native.Mathlib.Omega.{arith}
-use lib.Dec.{ltb}
+use lib.Dec.{eqb, ltb}
 use lib.ListN.{length}
 use borrow.Author.Tests.{lt-ltb}
 use Rattle.table.specs.declared.Table.{Table}
@@ -18,6 +18,11 @@ use Rattle.progress.specs.Memory.{Mem, stepMem, endsRecord, runMem}
 use Rattle.follows.specs.Follows.{PlainKeys, Tracks, NoRS, nonempty, readPart, freshMem}
 use Rattle.follows.proofs.MemoryLaws.{length-stepMem, one-le-bump, bump-below, counts-stepMem}
 use Rattle.follows.proofs.TrackLaws.{tracks-step, tracks-start, tracks-judged}
+
+-- a byte other than RS joins a part without RS
+pub noRS-last : (p : List ℕ) (b : ℕ) → NoRS p → eqb b 0x1E ≡ false → NoRS (p ++ (b ∷ []))
+noRS-last [] b h e = (e, tt)
+noRS-last (c ∷ p) b h e = (h .0, noRS-last p b (h .1) e)
 
 -- ---- the verdict
 

@@ -69,6 +69,20 @@ abbrev pub lexAt : Mode → ℕ → ℕ → ℕ → ℕ → ℕ → ℕ → Lex
 lexAt m level pos place bits high len =
     record { mode = m; fault = F.Sound; head = false; level = level; pos = pos; place = place; bits = bits; high = high; len = len }
 
+-- ---- what is known of a record with one
+
+-- the fault of a record that was stopped with a verdict
+abbrev pub FaultIs : Verdict → Lex → Type 0
+FaultIs Is.Valid x = ⊥
+FaultIs Is.Invalid x = ⊥
+FaultIs (Is.Malformed p) x = (x .fault ≡ F.Malformed) × (x .place ≡ p)
+FaultIs (Is.TooDeep p) x = (x .fault ≡ F.TooDeep) × (x .place ≡ p)
+FaultIs Is.TooLong x = x .fault ≡ F.TooLong
+FaultIs (Is.Unfinished p) x = ⊥
+FaultIs Is.Head x = ⊥
+
+-- ---- the machine, over the entries of a book
+
 module _ (es : List Entry) where
   -- the frame of each open level shows what the machine keeps of it
   abbrev pub ShowsStack : List ℕ → Stack (judging es) → Type 0
@@ -105,10 +119,13 @@ module _ (es : List Entry) where
 
   -- with n frames: the state at mode m behind i bytes, beside the characters kept, the root and the buffer
   pub record Shown (n : ℕ) (m : Mode) (g : Token (judging es)) (k : Stack (judging es)) (i len : ℕ) (root : Bool) (key w : List ℕ) : Type 0 where
+    -- the limits on bytes and levels
     pub short : i ≤ longest
     pub room : depth (judging es) k ≤ n
+    -- the sizes of the buffer and of the key
     pub long : 96 * n ≤ length w
     pub key-long : length key ≡ 32
+    -- the machine comes to such states only
     pub proper : ProperAt (judging es) m k
     pub stack : ShowsStack w k
     pub root-shown : ShowsRoot m root k
@@ -122,16 +139,6 @@ module _ (es : List Entry) where
         → Follows n (mem (lexAt m (depth (judging es) k) i place (g .bits) (g .high) len) root key w) (at m g k) i
 
   -- ---- tracks
-
-  -- the fault of a record that was stopped with a verdict
-  abbrev pub FaultIs : Verdict → Lex → Type 0
-  FaultIs Is.Valid x = ⊥
-  FaultIs Is.Invalid x = ⊥
-  FaultIs (Is.Malformed p) x = (x .fault ≡ F.Malformed) × (x .place ≡ p)
-  FaultIs (Is.TooDeep p) x = (x .fault ≡ F.TooDeep) × (x .place ≡ p)
-  FaultIs Is.TooLong x = x .fault ≡ F.TooLong
-  FaultIs (Is.Unfinished p) x = ⊥
-  FaultIs Is.Head x = ⊥
 
   -- a memory keeps a track: it follows the state, or is stopped with the verdict, behind at least one byte
   pub data Tracks (n : ℕ) : Mem → Track es → Type 0 where

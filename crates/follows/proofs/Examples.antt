@@ -1,0 +1,30 @@
+-- The keys of book B of 01 are plain: with a table that keeps the book and 64 frames, every part has the machine's verdict. Assumes nothing.
+use mathlib.Core.Bool.{false}
+use mathlib.Core.List.{List}
+use mathlib.Core.Path.{_≡_}
+use Prim.Native.Nat.{ℕ}
+use lib.Dec.{ltb, leb, leb→le, lit≤}
+use lib.ListN.{length, replicate}
+use Rattle.laws.specs.Lists.{same, all, any}
+use Rattle.laws.proofs.ListLaws.{T-of-all}
+use Rattle.table.specs.declared.Table.{Table}
+use Rattle.book.specs.Entry.{withKey, keysFrom, keysOf}
+use Rattle.runs.specs.Examples.{bookB}
+use Rattle.meaning.specs.Shows.{Kept}
+use Rattle.verdict.specs.Track.{track, trackStart, trackEnd}
+use Rattle.progress.specs.Lex.{judged}
+use Rattle.follows.specs.Follows.{PlainKeys, NoRS, readPart, freshMem}
+use Rattle.follows.proofs.PartLaws.{judged-part}
+
+plain-b : PlainKeys bookB
+unfolding withKey keysFrom keysOf same any all
+plain-b = record {
+  short = λ {k} h. leb→le (length k) 32 (T-of-all (λ (s : List ℕ). leb (length s) 32) (keysOf bookB) tt h);
+  low = λ h. T-of-all (all (λ (c : ℕ). ltb c 128)) (keysOf bookB) tt h;
+}
+
+-- crate meaning has such a table
+pub judged-b : {t : Table} → Kept t bookB → (p : List ℕ) → NoRS p
+    → judged (readPart t 64 (freshMem false (replicate 6144 0)) p .lex) (readPart t 64 (freshMem false (replicate 6144 0)) p .root)
+    ≡ trackEnd bookB (track bookB 64 (trackStart bookB) p)
+judged-b kept p h = judged-part kept plain-b 64 (lit≤ tt) (replicate 6144 0) p (lit≤ tt) h

@@ -94,7 +94,8 @@ loads-elim P none h b = go (readBook b) (book-agrees b)
     go (refused k n) a = none
     go (entries es) a = checked-elim P none es (h es (a .1))
 
-loads-kept : (b : List ℕ) → Kept (tableOf (loads b .entries)) (loads b .entries)
+-- all that is kept as a book is read
+pub loads-kept : (b : List ℕ) → Kept (tableOf (loads b .entries)) (loads b .entries)
 loads-kept = loads-elim (λ es. Kept (tableOf es) es) kept-none (λ es k e. k)
 
 -- the table of the entries holds them

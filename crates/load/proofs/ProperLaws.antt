@@ -30,9 +30,10 @@ codeOf-lt (Rule n) h = let l = ltb-true n 32 h in omega arith
 
 -- ---- six fields
 module _ (r f q k v m : List ℕ) where
-  -- the key of an edge: 1 to 32 bytes in `obj`, none in `arr`
-  key-proper : cond (same f word-obj) (isKey k) (same k dash) ≡ true → (length (keyOf k) ≤ 32) × (isEmpty (keyOf k) ≡ isArr (formOf f))
-  unfolding isKey keyOf formOf isArr isEmpty
+  -- the key of an edge: 1 to 32 visible bytes in `obj`, none in `arr`
+  key-proper : cond (same f word-obj) (isKey k) (same k dash) ≡ true
+      → (length (keyOf k) ≤ 32) × (isEmpty (keyOf k) ≡ isArr (formOf f)) × (all isVisible (keyOf k) ≡ true)
+  unfolding isKey keyOf formOf isArr isEmpty all
   key-proper = go (same f word-obj) (same k dash)
     where
       some : (s : List ℕ) → 1 ≤ length s → isEmpty s ≡ false
@@ -40,7 +41,7 @@ module _ (r f q k v m : List ℕ) where
       some (b ∷ s) h = refl
 
       go : (b d : Bool) → cond b (leb 1 (length k) && (leb (length k) 32 && (all isVisible k && not d))) d ≡ true
-          → (length (cond d [] k) ≤ 32) × (isEmpty (cond d [] k) ≡ isArr (cond b obj arr))
+          → (length (cond d [] k) ≤ 32) × (isEmpty (cond d [] k) ≡ isArr (cond b obj arr)) × (all isVisible (cond d [] k) ≡ true)
       go true true h =
           let a = and-true (leb 1 (length k)) _ h in
           let b = and-true (leb (length k) 32) _ (a .1) in
@@ -49,8 +50,9 @@ module _ (r f q k v m : List ℕ) where
       go true false h =
           let a = and-true (leb 1 (length k)) _ h in
           let b = and-true (leb (length k) 32) _ (a .1) in
-          (leb-true (length k) 32 (b .0), some k (leb-true 1 (length k) (a .0)))
-      go false true h = (omega arith, refl)
+          let c = and-true (all isVisible k) _ (b .1) in
+          (leb-true (length k) 32 (b .0), some k (leb-true 1 (length k) (a .0)), c .0)
+      go false true h = (omega arith, refl, refl)
       go false false h = true-not-false false h refl
 
   edge-proper : formed r f q k v m ≡ true → small r q v m ≡ true → same v word-end ≡ false
@@ -70,6 +72,7 @@ module _ (r f q k v m : List ℕ) where
         rule = ltb-true (number r) 32 (a .0);
         state = ltb-true (number q) 16 (b .0);
         len = k' .0;
+        visible = k' .2;
         keyed = k' .1;
         kind = codeOf-lt (kindIn v) (c .0);
         next = ltb-true (number m) 16 (c .1);

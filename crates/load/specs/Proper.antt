@@ -4,11 +4,12 @@ use mathlib.Core.List.{List}
 use mathlib.Core.Path.{_≡_}
 use Prim.Native.Nat.{ℕ, _<_, _≤_}
 use lib.ListN.{length}
+use Rattle.laws.specs.Lists.{all}
 use Rattle.table.specs.declared.kind.ValueKind.{ValueKind}
 use Rattle.table.specs.Kind.{codeOf}
 use Rattle.book.specs.Entry.{Form, obj, arr, Entry, edge, end-state}
 use Rattle.book.specs.Text.{isEmpty}
-use Rattle.book.specs.Line.{Said, bad, good}
+use Rattle.book.specs.Line.{isVisible, Said, bad, good}
 
 -- the form has no keys
 unfoldable pub isArr : Form → Bool
@@ -19,6 +20,7 @@ pub record ProperEdge (r : ℕ) (f : Form) (q : ℕ) (k : List ℕ) (v : ValueKi
   pub rule : r < 32
   pub state : q < 16
   pub len : length k ≤ 32
+  pub visible : all isVisible k ≡ true
   pub keyed : isEmpty k ≡ isArr f
   pub kind : codeOf v < 38
   pub next : m < 16

@@ -1,0 +1,1 @@
+// Demand 3 of accepted books: definitions and theorems only.

@@ -1,7 +1,5 @@
 -- Demand 3: after an accepted start, whatever is fed and closed, each stream that gets one accepted book and its own buffer back is answered as on
 -- paper, where each record is judged alone. Assumes nothing.
-use mathlib.Core.Path.{_≡_, refl}
-use Rattle.reader.specs.Machine.{freshLex}
 use Rattle.reader.specs.Claim.{Demand3}
 use Rattle.stream.specs.Bytes.{Reading}
 use Rattle.stream.proofs.Demand.{demand-3 as demand-3-of-bytes}
@@ -12,7 +10,7 @@ use Rattle.demand.specs.Book.{Book}
 use Rattle.demand.proofs.BookLaws.{kept-of-book, plain-of-book, sound-of-book}
 
 -- with an accepted book, the memory of the reader follows the track of a record, byte by byte
-reading : Reading Book Tracks
+pub reading : Reading Book Tracks
 reading =
     record {
       sound = λ book. sound-of-book book;

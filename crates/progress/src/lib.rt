@@ -275,19 +275,49 @@ fn acted(x: Lex, frames: usize, b: u8, st: Step) -> Advanced
     let from = x.mode;
     match a {
         Act::Fault => faulted(x, Fault::Malformed),
-        Act::Pass => Advanced { lex: moved(x, b, m, x.level, x.len), task: ended(e, from) },
+        Act::Pass => Advanced {
+            lex: moved(x, b, m, x.level, x.len),
+            task: ended(e, from),
+        },
         Act::OpenArray => opening(x, frames, b, m, Task::OpenArray),
         Act::OpenObject => opening(x, frames, b, m, Task::OpenObject),
-        Act::Close => Advanced { lex: moved(x, b, m, down(x.level), x.len), task: closing(e, from) },
-        Act::KeyStart => Advanced { lex: moved(x, b, m, x.level, 0), task: Task::Idle },
+        Act::Close => Advanced {
+            lex: moved(x, b, m, down(x.level), x.len),
+            task: closing(e, from),
+        },
+        Act::KeyStart => Advanced {
+            lex: moved(x, b, m, x.level, 0),
+            task: Task::Idle,
+        },
         Act::KeyChar => key_char(x, b, m, char_in(from, x.bits, x.high, b)),
-        Act::KeyEnd => Advanced { lex: moved(x, b, m, x.level, x.len), task: Task::Named },
-        Act::TextStart => Advanced { lex: moved(x, b, m, x.level, x.len), task: Task::Idle },
-        Act::TextChar => Advanced { lex: moved(x, b, m, x.level, x.len), task: Task::Idle },
-        Act::TextEnd => Advanced { lex: moved(x, b, m, x.level, x.len), task: Task::Finish(Scalar::Str) },
-        Act::NumberStart => Advanced { lex: moved(x, b, m, x.level, x.len), task: Task::Idle },
-        Act::NumberByte => Advanced { lex: moved(x, b, m, x.level, x.len), task: Task::Idle },
-        Act::WordEnd(w) => Advanced { lex: moved(x, b, m, x.level, x.len), task: Task::Finish(scalar_of(w)) },
+        Act::KeyEnd => Advanced {
+            lex: moved(x, b, m, x.level, x.len),
+            task: Task::Named,
+        },
+        Act::TextStart => Advanced {
+            lex: moved(x, b, m, x.level, x.len),
+            task: Task::Idle,
+        },
+        Act::TextChar => Advanced {
+            lex: moved(x, b, m, x.level, x.len),
+            task: Task::Idle,
+        },
+        Act::TextEnd => Advanced {
+            lex: moved(x, b, m, x.level, x.len),
+            task: Task::Finish(Scalar::Str),
+        },
+        Act::NumberStart => Advanced {
+            lex: moved(x, b, m, x.level, x.len),
+            task: Task::Idle,
+        },
+        Act::NumberByte => Advanced {
+            lex: moved(x, b, m, x.level, x.len),
+            task: Task::Idle,
+        },
+        Act::WordEnd(w) => Advanced {
+            lex: moved(x, b, m, x.level, x.len),
+            task: Task::Finish(scalar_of(w)),
+        },
     }
 }
 

@@ -187,9 +187,9 @@ lent-serves (To.NumberClose s) t m x = refl
 
 pub turned-of-lent : (t : Table) (n : ℕ) (m : Mem) (b : ℕ) (bytes classes : List ℕ) (k : Mem) → bytes ≡ t .«key_bytes» → classes ≡ classTable
     → k ≡ turned (lent (t .edges) (t .keys) (t .«edge_rule») (t .«edge_state») (t .«edge_key») (t .«edge_kind») (t .«edge_next») bytes (t .«key_len») (t .ends) (t .forms)) n m b
-      (stepBy (classAt classes b) (m .lex .mode) (topAt (m .work) (m .lex .level)) b)
+    (stepBy (classAt classes b) (m .lex .mode) (topAt (m .work) (m .lex .level)) b)
     → k ≡ turned t n m b (stepBy (classAt classTable b) (m .lex .mode) (topAt (m .work) (m .lex .level)) b)
 turned-of-lent t n m b bytes classes k e f h =
     (rw (e, f) at h)
     ∙ lent-serves (advanced (m .lex) n b (stepBy (classAt classTable b) (m .lex .mode) (topAt (m .work) (m .lex .level)) b) .task) t m
-      (advanced (m .lex) n b (stepBy (classAt classTable b) (m .lex .mode) (topAt (m .work) (m .lex .level)) b) .lex)
+    (advanced (m .lex) n b (stepBy (classAt classTable b) (m .lex .mode) (topAt (m .work) (m .lex .level)) b) .lex)

@@ -78,8 +78,8 @@ unfoldable pub startOf : Table → List ℕ → Start
 startOf t w =
     cond (withinLimits t)
     (cond (ltb (length w) 96)
-      (record { reader = freshReader 0 true zeroTally; answer = Says.Refused No.SmallBuffer })
-      (record { reader = freshReader (frameCount (length w)) true zeroTally; answer = Says.Quiet }))
+    (record { reader = freshReader 0 true zeroTally; answer = Says.Refused No.SmallBuffer })
+    (record { reader = freshReader (frameCount (length w)) true zeroTally; answer = Says.Quiet }))
     (record { reader = freshReader 0 true zeroTally; answer = Says.Refused No.AboveLimit })
 
 -- ---- feed and close
@@ -135,4 +135,4 @@ unfoldable pub closeOf : Reader → Table → List ℕ → Outcome
 closeOf r t w =
     orRefused r t w
     (cond (ltb 0 (r .lex .pos)) (ending r (memoryOf r w) 0 true)
-      (record { reader = freshReader (r .frames) true (r .tally); count = 0; answer = Says.Quiet; work = w }))
+    (record { reader = freshReader (r .frames) true (r .tally); count = 0; answer = Says.Quiet; work = w }))

@@ -60,8 +60,8 @@ goes J p i [] = record { paper = p; count = i; answer = Says.Quiet }
 goes J p i (b ∷ s) =
     cond (eqb b 0x1E)
     (cond (nonempty (p .part))
-      (record { paper = record { head = false; part = [] }; count = i + 1; answer = Says.Judged (J (p .head) (p .part)) })
-      (goes J (record { head = false; part = [] }) (i + 1) s))
+    (record { paper = record { head = false; part = [] }; count = i + 1; answer = Says.Judged (J (p .head) (p .part)) })
+    (goes J (record { head = false; part = [] }) (i + 1) s))
     (goes J (record { head = p .head; part = p .part ++ (b ∷ []) }) (i + 1) s)
 
 -- a close gives a nonempty part its verdict, else none, empties it, and is in the head again

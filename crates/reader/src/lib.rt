@@ -197,6 +197,7 @@ fn whole_bytes(bytes: [u8; 4096]) -> [u8; 4096]
 impl Reader {
     // the bytes of a frame, and the most levels
     pub const FRAME: usize = 96;
+
     pub const LEVELS: usize = 64;
 
     // A fresh reader for a table and a buffer, which it leaves. Ruled out: a start that counts the frames of a longer buffer past 64, and
@@ -209,7 +210,17 @@ impl Reader {
             invalid: 0,
             refused: 0,
         };
-        if table::limits::fit_limits(t.edges, t.keys, &t.edge_rule, &t.edge_state, &t.edge_key, &t.edge_kind, &t.edge_next, &t.key_len, &t.forms) {
+        if table::limits::fit_limits(
+            t.edges,
+            t.keys,
+            &t.edge_rule,
+            &t.edge_state,
+            &t.edge_key,
+            &t.edge_kind,
+            &t.edge_next,
+            &t.key_len,
+            &t.forms,
+        ) {
             if work.len() < Reader::FRAME {
                 let none = fresh_reader(0, true, y);
                 return Started {
@@ -238,16 +249,24 @@ pub fn feed(r: Reader, t: Table, work: &mut [u8], piece: &[u8]) -> Fed
 {
     let frames = r.frames;
     let x = r.lex;
-    if table::limits::fit_limits(t.edges, t.keys, &t.edge_rule, &t.edge_state, &t.edge_key, &t.edge_kind, &t.edge_next, &t.key_len, &t.forms) {
-    } else {
+    if table::limits::fit_limits(
+        t.edges,
+        t.keys,
+        &t.edge_rule,
+        &t.edge_state,
+        &t.edge_key,
+        &t.edge_kind,
+        &t.edge_next,
+        &t.key_len,
+        &t.forms,
+    ) {} else {
         return Fed {
             reader: r,
             count: 0,
             answer: Answer::Refused(Refusal::AboveLimit),
         };
     }
-    if fit_reader(frames, x.level, x.len) {
-    } else {
+    if fit_reader(frames, x.level, x.len) {} else {
         return Fed {
             reader: r,
             count: 0,
@@ -276,7 +295,26 @@ pub fn feed(r: Reader, t: Table, work: &mut [u8], piece: &[u8]) -> Fed
         if ends_record(lex, b) {
             return ended(frames, tally, lex, root, i, false);
         }
-        let s = turn::turn(&classes, lex, root, &mut key, work, frames, t.edges, t.keys, &t.edge_rule, &t.edge_state, &t.edge_key, &t.edge_kind, &t.edge_next, &bytes, &t.key_len, &t.ends, &t.forms, b);
+        let s = turn::turn(
+            &classes,
+            lex,
+            root,
+            &mut key,
+            work,
+            frames,
+            t.edges,
+            t.keys,
+            &t.edge_rule,
+            &t.edge_state,
+            &t.edge_key,
+            &t.edge_kind,
+            &t.edge_next,
+            &bytes,
+            &t.key_len,
+            &t.ends,
+            &t.forms,
+            b,
+        );
         lex = s.lex;
         root = s.root;
     }
@@ -302,7 +340,17 @@ pub fn close(r: Reader, t: Table, work: &[u8]) -> Closed
     let frames = r.frames;
     let x = r.lex;
     let tally = r.tally;
-    if table::limits::fit_limits(t.edges, t.keys, &t.edge_rule, &t.edge_state, &t.edge_key, &t.edge_kind, &t.edge_next, &t.key_len, &t.forms) {
+    if table::limits::fit_limits(
+        t.edges,
+        t.keys,
+        &t.edge_rule,
+        &t.edge_state,
+        &t.edge_key,
+        &t.edge_kind,
+        &t.edge_next,
+        &t.key_len,
+        &t.forms,
+    ) {
         if fit_reader(frames, x.level, x.len) {
             if work.len() < 96 * frames {
                 return Closed {

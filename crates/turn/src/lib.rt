@@ -83,8 +83,29 @@ fn close_value<'a>(
 ) -> bool
     ensures { λ r. ⌜ ClosedTo (lent edges 0 (now (rules .entry)) (now (states .entry)) (now («edge_keys» .entry)) (now (kinds .entry)) (now (nexts .entry)) (now (rules .entry)) (now (rules .entry)) (now (ends .entry)) (now (forms .entry))) (now (work .entry)) level root r (now (work .exit)) ⌝ }
 {
-    let set = frame::close_level(work, level, edges, rules, states, edge_keys, nexts, forms, ends);
-    frame::value_level(work, down(level), edges, rules, states, edge_keys, kinds, nexts, forms, Finished::Rules(set));
+    let set = frame::close_level(
+        work,
+        level,
+        edges,
+        rules,
+        states,
+        edge_keys,
+        nexts,
+        forms,
+        ends,
+    );
+    frame::value_level(
+        work,
+        down(level),
+        edges,
+        rules,
+        states,
+        edge_keys,
+        kinds,
+        nexts,
+        forms,
+        Finished::Rules(set),
+    );
     if level == 1 {
         return table::kind::rule_fits(set, 0);
     }
@@ -123,40 +144,124 @@ pub fn turn<'a>(
     let up = next.level;
     let task = st.task;
     match task {
-        Task::Idle => Turned { lex: next, root: root },
+        Task::Idle => Turned {
+            lex: next,
+            root: root,
+        },
         Task::Put(c) => {
             put_char(key, len, c);
-            Turned { lex: next, root: root }
+            Turned {
+                lex: next,
+                root: root,
+            }
         }
         Task::Named => {
             let k = key_found(key, len, bytes, lens, keys);
             frame::key_level(work, level, k);
-            Turned { lex: next, root: root }
+            Turned {
+                lex: next,
+                root: root,
+            }
         }
         Task::OpenArray => {
             frame::open_level(work, up, false, forms);
-            Turned { lex: next, root: root }
+            Turned {
+                lex: next,
+                root: root,
+            }
         }
         Task::OpenObject => {
             frame::open_level(work, up, true, forms);
-            Turned { lex: next, root: root }
+            Turned {
+                lex: next,
+                root: root,
+            }
         }
         Task::Finish(s) => {
-            frame::value_level(work, level, edges, rules, states, edge_keys, kinds, nexts, forms, Finished::Scalar(s));
-            Turned { lex: next, root: root }
+            frame::value_level(
+                work,
+                level,
+                edges,
+                rules,
+                states,
+                edge_keys,
+                kinds,
+                nexts,
+                forms,
+                Finished::Scalar(s),
+            );
+            Turned {
+                lex: next,
+                root: root,
+            }
         }
         Task::Number(s) => {
-            frame::value_level(work, level, edges, rules, states, edge_keys, kinds, nexts, forms, Finished::Scalar(s));
-            Turned { lex: next, root: root }
+            frame::value_level(
+                work,
+                level,
+                edges,
+                rules,
+                states,
+                edge_keys,
+                kinds,
+                nexts,
+                forms,
+                Finished::Scalar(s),
+            );
+            Turned {
+                lex: next,
+                root: root,
+            }
         }
         Task::Close => {
-            let fit = close_value(work, level, root, edges, rules, states, edge_keys, kinds, nexts, ends, forms);
-            Turned { lex: next, root: fit }
+            let fit = close_value(
+                work,
+                level,
+                root,
+                edges,
+                rules,
+                states,
+                edge_keys,
+                kinds,
+                nexts,
+                ends,
+                forms,
+            );
+            Turned {
+                lex: next,
+                root: fit,
+            }
         }
         Task::NumberClose(s) => {
-            frame::value_level(work, level, edges, rules, states, edge_keys, kinds, nexts, forms, Finished::Scalar(s));
-            let fit = close_value(work, level, root, edges, rules, states, edge_keys, kinds, nexts, ends, forms);
-            Turned { lex: next, root: fit }
+            frame::value_level(
+                work,
+                level,
+                edges,
+                rules,
+                states,
+                edge_keys,
+                kinds,
+                nexts,
+                forms,
+                Finished::Scalar(s),
+            );
+            let fit = close_value(
+                work,
+                level,
+                root,
+                edges,
+                rules,
+                states,
+                edge_keys,
+                kinds,
+                nexts,
+                ends,
+                forms,
+            );
+            Turned {
+                lex: next,
+                root: fit,
+            }
         }
     }
 }

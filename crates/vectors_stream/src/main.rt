@@ -86,21 +86,33 @@ fn on_buffer(s: State, op: u8, work: &mut [u8], piece: &[u8]) -> State {
         let a = x.answer;
         let next = x.reader;
         say_answer(0, a);
-        return State { table: t, reader: next, size: s.size };
+        return State {
+            table: t,
+            reader: next,
+            size: s.size,
+        };
     }
     if op == 102 {
         let x = reader::feed(r, t, work, piece);
         let a = x.answer;
         let next = x.reader;
         say_answer(x.count, a);
-        return State { table: t, reader: next, size: s.size };
+        return State {
+            table: t,
+            reader: next,
+            size: s.size,
+        };
     }
     let x = reader::close(r, t, work);
     let a = x.answer;
     let next = x.reader;
     say_answer(0, a);
     say_tally(next);
-    State { table: t, reader: next, size: s.size }
+    State {
+        table: t,
+        reader: next,
+        size: s.size,
+    }
 }
 
 // One call: s start, f feed, c close; b loads a book, e gives its table a count of edges, n gives the buffer's size, w fills the
@@ -112,24 +124,44 @@ fn call(s: State, op: u8, n: usize, work: &mut [u8], piece: &[u8]) -> State {
     if op == 98 {
         let x = load::load(piece);
         let u = x.table;
-        return State { table: u, reader: r, size: size };
+        return State {
+            table: u,
+            reader: r,
+            size: size,
+        };
     }
     if op == 110 {
-        return State { table: t, reader: r, size: n };
+        return State {
+            table: t,
+            reader: r,
+            size: n,
+        };
     }
     if op == 101 {
         let mut u = t;
         u.edges = n;
-        return State { table: u, reader: r, size: size };
+        return State {
+            table: u,
+            reader: r,
+            size: size,
+        };
     }
     if op == 119 {
         fill(work, (n % 256) as u8);
-        return State { table: t, reader: r, size: size };
+        return State {
+            table: t,
+            reader: r,
+            size: size,
+        };
     }
     if size <= work.len() {
         return on_buffer(s, op, &mut work[..size], piece);
     }
-    State { table: t, reader: r, size: size }
+    State {
+        table: t,
+        reader: r,
+        size: size,
+    }
 }
 
 fn two(low: u8, high: u8) -> usize {
@@ -154,7 +186,11 @@ fn run(calls: &[u8], work: &mut [u8]) {
     let t = none.table;
     let began = Reader::start(t, work);
     let r = began.reader;
-    let mut s = State { table: t, reader: r, size: 0 };
+    let mut s = State {
+        table: t,
+        reader: r,
+        size: 0,
+    };
     let mut i: usize = 0;
     while 5 <= n - i {
         let op = calls[i];

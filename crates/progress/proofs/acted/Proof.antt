@@ -1,3 +1,4 @@
+-- `acted` meets its contract. Assumes nothing.
 use borrow.Author.Needs.{needs}
 use Rattle.progress.proofs.acted.Statement.{statement}
 use Rattle.progress.proofs.acted.Tie as tie

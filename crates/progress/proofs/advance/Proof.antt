@@ -1,3 +1,4 @@
+-- `advance` meets its contract. Assumes nothing.
 use borrow.Author.Tests.{eq-eqb, ne-eqb}
 use Rattle.progress.specs.Lex.{advanced}
 use Rattle.laws.proofs.Tests.{tests}

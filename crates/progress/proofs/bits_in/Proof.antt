@@ -1,3 +1,4 @@
+-- `bits_in` meets its contract. Assumes nothing.
 use borrow.Author.Needs.{needs}
 use Rattle.progress.proofs.bits_in.Statement.{statement}
 use Rattle.progress.proofs.bits_in.Tie as tie

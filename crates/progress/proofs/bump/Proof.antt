@@ -1,3 +1,4 @@
+-- `bump` meets its contract. Assumes nothing.
 use Rattle.progress.specs.Lex.{bump}
 use Rattle.laws.proofs.Tests.{tests}
 use borrow.Author.Needs.{needs}

@@ -1,3 +1,4 @@
+-- `char_in` meets its contract. Assumes nothing.
 use borrow.Author.Needs.{needs}
 use Rattle.progress.proofs.char_in.Statement.{statement}
 use Rattle.progress.proofs.char_in.Tie as tie

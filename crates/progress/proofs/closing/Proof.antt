@@ -1,3 +1,4 @@
+-- `closing` meets its contract. Assumes nothing.
 use borrow.Author.Needs.{needs}
 use Rattle.progress.proofs.closing.Statement.{statement}
 use Rattle.progress.proofs.closing.Tie as tie

@@ -1,3 +1,4 @@
+-- `counted` meets its contract. Assumes nothing.
 use borrow.Author.Needs.{needs}
 use Rattle.progress.proofs.counted.Statement.{statement}
 use Rattle.progress.proofs.counted.Tie as tie

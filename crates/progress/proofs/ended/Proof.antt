@@ -1,3 +1,4 @@
+-- `ended` meets its contract. Assumes nothing.
 use borrow.Author.Needs.{needs}
 use Rattle.progress.proofs.ended.Statement.{statement}
 use Rattle.progress.proofs.ended.Tie as tie

@@ -1,3 +1,4 @@
+-- `faulted` meets its contract. Assumes nothing.
 use borrow.Author.Needs.{needs}
 use Rattle.progress.proofs.faulted.Statement.{statement}
 use Rattle.progress.proofs.faulted.Tie as tie

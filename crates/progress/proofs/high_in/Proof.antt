@@ -1,3 +1,4 @@
+-- `high_in` meets its contract. Assumes nothing.
 use borrow.Author.Needs.{needs}
 use Rattle.progress.proofs.high_in.Statement.{statement}
 use Rattle.progress.proofs.high_in.Tie as tie

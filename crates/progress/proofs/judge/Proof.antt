@@ -1,3 +1,4 @@
+-- `judge` meets its contract. Assumes nothing.
 use Rattle.progress.specs.Lex.{judged}
 use Rattle.laws.proofs.Tests.{tests}
 use borrow.Author.Needs.{needs}

@@ -1,3 +1,4 @@
+-- `key_char` meets its contract. Assumes nothing.
 use borrow.Author.Tests.{le-ltb, lt-ltb}
 use Rattle.progress.specs.Lex.{keyChar}
 use mathlib.Core.Path.{_≡_}

@@ -1,3 +1,4 @@
+-- `moved` meets its contract. Assumes nothing.
 use borrow.Author.Needs.{needs}
 use Rattle.progress.proofs.moved.Statement.{statement}
 use Rattle.progress.proofs.moved.Tie as tie

@@ -1,3 +1,4 @@
+-- `opening` meets its contract. Assumes nothing.
 use borrow.Author.Tests.{le-ltb, lt-ltb}
 use Rattle.progress.specs.Lex.{opening}
 use Rattle.laws.proofs.Tests.{tests}

@@ -1,3 +1,4 @@
+-- `sound` meets its contract. Assumes nothing.
 use borrow.Author.Tests.{le-ltb, lt-ltb}
 use Rattle.progress.specs.Lex.{sound}
 use Rattle.laws.proofs.Tests.{tests}

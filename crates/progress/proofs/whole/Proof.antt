@@ -1,3 +1,4 @@
+-- `whole` meets its contract. Assumes nothing.
 use borrow.Author.Tests.{eq-eqb, ne-eqb}
 use Rattle.progress.specs.Lex.{whole}
 use Rattle.laws.proofs.Tests.{tests}

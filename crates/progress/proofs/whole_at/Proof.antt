@@ -1,3 +1,4 @@
+-- `whole_at` meets its contract. Assumes nothing.
 use Rattle.laws.proofs.Tests.{tests}
 use borrow.Author.Needs.{needs}
 use Rattle.progress.proofs.whole_at.Statement.{statement}

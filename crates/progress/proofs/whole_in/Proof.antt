@@ -1,3 +1,4 @@
+-- `whole_in` meets its contract. Assumes nothing.
 use borrow.Author.Needs.{needs}
 use Rattle.progress.proofs.whole_in.Statement.{statement}
 use Rattle.progress.proofs.whole_in.Tie as tie

@@ -1,3 +1,4 @@
+-- `whole_number` meets its contract. Assumes nothing.
 use Rattle.progress.specs.Lex.{wholeNumber}
 use mathlib.Core.Path.{sym, _∙_}
 use borrow.Author.Needs.{needs}

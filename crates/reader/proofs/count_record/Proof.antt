@@ -1,48 +1,7 @@
+-- `count_record` meets its contract. Assumes nothing.
 use borrow.Author.Needs.{needs}
 use Rattle.reader.proofs.count_record.Statement.{statement}
 use Rattle.reader.proofs.count_record.Tie as tie
-
-enum-told : tie.Need-enum-told
-enum-told c = search needs
-
-count-valid-requires : tie.Need-count-valid-requires
-count-valid-requires c κs = search needs
-
-enum-told-2 : tie.Need-enum-told-2
-enum-told-2 c = search needs
-
-count-invalid-requires : tie.Need-count-invalid-requires
-count-invalid-requires c κs = search needs
-
-enum-told-3 : tie.Need-enum-told-3
-enum-told-3 c = search needs
-
-count-refused-requires : tie.Need-count-refused-requires
-count-refused-requires c κs = search needs
-
-enum-told-4 : tie.Need-enum-told-4
-enum-told-4 c = search needs
-
-count-refused-requires-2 : tie.Need-count-refused-requires-2
-count-refused-requires-2 c κs = search needs
-
-enum-told-5 : tie.Need-enum-told-5
-enum-told-5 c = search needs
-
-count-refused-requires-3 : tie.Need-count-refused-requires-3
-count-refused-requires-3 c κs = search needs
-
-enum-told-6 : tie.Need-enum-told-6
-enum-told-6 c = search needs
-
-count-refused-requires-4 : tie.Need-count-refused-requires-4
-count-refused-requires-4 c κs = search needs
-
-enum-told-7 : tie.Need-enum-told-7
-enum-told-7 c = search needs
-
-count-refused-requires-5 : tie.Need-count-refused-requires-5
-count-refused-requires-5 c κs = search needs
 
 returns : tie.Need-returns
 returns c = simp (c .count-valid .ensures, c .before .enum-told .given .1)
@@ -66,27 +25,4 @@ returns-7 : tie.Need-returns-7
 returns-7 c = simp (c .count-refused5 .ensures, c .before .enum-told7 .given .1)
 
 pub count-record-spec : {M : Type 1} → statement M
-count-record-spec =
-    tie.close
-    (tie.spec
-    enum-told
-    count-valid-requires
-    enum-told-2
-    count-invalid-requires
-    enum-told-3
-    count-refused-requires
-    enum-told-4
-    count-refused-requires-2
-    enum-told-5
-    count-refused-requires-3
-    enum-told-6
-    count-refused-requires-4
-    enum-told-7
-    count-refused-requires-5
-    returns
-    returns-2
-    returns-3
-    returns-4
-    returns-5
-    returns-6
-    returns-7)
+count-record-spec = tie.close (tie.spec (λ c. search needs) (λ c κs. search needs) (λ c. search needs) (λ c κs. search needs) (λ c. search needs) (λ c κs. search needs) (λ c. search needs) (λ c κs. search needs) (λ c. search needs) (λ c κs. search needs) (λ c. search needs) (λ c κs. search needs) (λ c. search needs) (λ c κs. search needs) returns returns-2 returns-3 returns-4 returns-5 returns-6 returns-7)

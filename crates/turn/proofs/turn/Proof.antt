@@ -10,7 +10,7 @@ use Rattle.turn.proofs.turn.Statement.{statement}
 use Rattle.turn.proofs.turn.Tie as tie
 
 returns : tie.Need-returns
-returns c = 
+returns c =
     let g = c .before .before .before .before .before .before .before .before .before .args in
     let t : Table = lent (g .edges) (g .keys) (g .rules .now) (g .states .now) (g .edge-keys .now) (g .kinds .now) (g .nexts .now) (g .bytes .now) (g .lens .now) (g .ends .now) (g .forms .now) in
     let m : Mem = mem (g .x) (g .root) (g .key .now) (g .work .now) in
@@ -18,7 +18,7 @@ returns c =
     turn-by t (g .frames) m (g .b) (classAt (g .classes .now) (g .b)) _ a (c .before .before .before .before .top-of .ensures) (c .before .before .before .advance .ensures) _ _ (c .enum-told .given .1) (refl)
 
 returns-2 : tie.Need-returns-2
-returns-2 c = 
+returns-2 c =
     let g = c .before .before .before .before .before .before .before .before .before .before .before .before .before .before .args in
     let t : Table = lent (g .edges) (g .keys) (g .rules .now) (g .states .now) (g .edge-keys .now) (g .kinds .now) (g .nexts .now) (g .bytes .now) (g .lens .now) (g .ends .now) (g .forms .now) in
     let m : Mem = mem (g .x) (g .root) (g .key .now) (g .work .now) in
@@ -26,7 +26,7 @@ returns-2 c =
     turn-by t (g .frames) m (g .b) (classAt (g .classes .now) (g .b)) _ a (c .before .before .before .before .before .before .before .before .before .top-of .ensures) (c .before .before .before .before .before .before .before .before .advance .ensures) _ _ (c .before .before .before .before .before .task .given .1) (put-done t m (a .lex) _ _ (c .before .before .put-char .ensures))
 
 returns-3 : tie.Need-returns-3
-returns-3 c = 
+returns-3 c =
     let g = c .before .before .before .before .before .before .before .before .before .before .before .before .before .before .before .args in
     let t : Table = lent (g .edges) (g .keys) (g .rules .now) (g .states .now) (g .edge-keys .now) (g .kinds .now) (g .nexts .now) (g .bytes .now) (g .lens .now) (g .ends .now) (g .forms .now) in
     let m : Mem = mem (g .x) (g .root) (g .key .now) (g .work .now) in
@@ -34,7 +34,7 @@ returns-3 c =
     turn-by t (g .frames) m (g .b) (classAt (g .classes .now) (g .b)) _ a (c .before .before .before .before .before .before .before .before .before .before .top-of .ensures) (c .before .before .before .before .before .before .before .before .before .advance .ensures) _ _ (c .before .before .before .before .before .before .enum-told2 .given .1) (named-done t m (a .lex) _ _ (c .before .before .before .before .key-found .ensures) (c .before .before .key-level .ensures))
 
 returns-4 : tie.Need-returns-4
-returns-4 c = 
+returns-4 c =
     let g = c .before .before .before .before .before .before .before .before .before .before .before .before .before .args in
     let t : Table = lent (g .edges) (g .keys) (g .rules .now) (g .states .now) (g .edge-keys .now) (g .kinds .now) (g .nexts .now) (g .bytes .now) (g .lens .now) (g .ends .now) (g .forms .now) in
     let m : Mem = mem (g .x) (g .root) (g .key .now) (g .work .now) in
@@ -42,7 +42,7 @@ returns-4 c =
     turn-by t (g .frames) m (g .b) (classAt (g .classes .now) (g .b)) _ a (c .before .before .before .before .before .before .before .before .top-of .ensures) (c .before .before .before .before .before .before .before .advance .ensures) _ _ (c .before .before .before .before .enum-told3 .given .1) (array-done t m (a .lex) _ (c .before .before .open-level .ensures))
 
 returns-5 : tie.Need-returns-5
-returns-5 c = 
+returns-5 c =
     let g = c .before .before .before .before .before .before .before .before .before .before .before .before .before .args in
     let t : Table = lent (g .edges) (g .keys) (g .rules .now) (g .states .now) (g .edge-keys .now) (g .kinds .now) (g .nexts .now) (g .bytes .now) (g .lens .now) (g .ends .now) (g .forms .now) in
     let m : Mem = mem (g .x) (g .root) (g .key .now) (g .work .now) in
@@ -50,7 +50,7 @@ returns-5 c =
     turn-by t (g .frames) m (g .b) (classAt (g .classes .now) (g .b)) _ a (c .before .before .before .before .before .before .before .before .top-of .ensures) (c .before .before .before .before .before .before .before .advance .ensures) _ _ (c .before .before .before .before .enum-told4 .given .1) (object-done t m (a .lex) _ (c .before .before .open-level2 .ensures))
 
 returns-6 : tie.Need-returns-6
-returns-6 c = 
+returns-6 c =
     let g = c .before .before .before .before .before .before .before .before .before .before .before .before .before .before .args in
     let t : Table = lent (g .edges) (g .keys) (g .rules .now) (g .states .now) (g .edge-keys .now) (g .kinds .now) (g .nexts .now) (g .bytes .now) (g .lens .now) (g .ends .now) (g .forms .now) in
     let m : Mem = mem (g .x) (g .root) (g .key .now) (g .work .now) in
@@ -58,7 +58,7 @@ returns-6 c =
     turn-by t (g .frames) m (g .b) (classAt (g .classes .now) (g .b)) _ a (c .before .before .before .before .before .before .before .before .before .top-of .ensures) (c .before .before .before .before .before .before .before .before .advance .ensures) _ _ (c .before .before .before .before .before .task2 .given .1) (finish-done t m (a .lex) _ _ (c .before .before .value-level .ensures))
 
 returns-7 : tie.Need-returns-7
-returns-7 c = 
+returns-7 c =
     let g = c .before .before .before .before .before .before .before .before .before .before .before .before .before .before .args in
     let t : Table = lent (g .edges) (g .keys) (g .rules .now) (g .states .now) (g .edge-keys .now) (g .kinds .now) (g .nexts .now) (g .bytes .now) (g .lens .now) (g .ends .now) (g .forms .now) in
     let m : Mem = mem (g .x) (g .root) (g .key .now) (g .work .now) in
@@ -66,7 +66,7 @@ returns-7 c =
     turn-by t (g .frames) m (g .b) (classAt (g .classes .now) (g .b)) _ a (c .before .before .before .before .before .before .before .before .before .top-of .ensures) (c .before .before .before .before .before .before .before .before .advance .ensures) _ _ (c .before .before .before .before .before .task3 .given .1) (finish-done t m (a .lex) _ _ (c .before .before .value-level2 .ensures))
 
 returns-8 : tie.Need-returns-8
-returns-8 c = 
+returns-8 c =
     let g = c .before .before .before .before .before .before .before .before .before .before .before .before .before .args in
     let t : Table = lent (g .edges) (g .keys) (g .rules .now) (g .states .now) (g .edge-keys .now) (g .kinds .now) (g .nexts .now) (g .bytes .now) (g .lens .now) (g .ends .now) (g .forms .now) in
     let m : Mem = mem (g .x) (g .root) (g .key .now) (g .work .now) in
@@ -74,7 +74,7 @@ returns-8 c =
     turn-by t (g .frames) m (g .b) (classAt (g .classes .now) (g .b)) _ a (c .before .before .before .before .before .before .before .before .top-of .ensures) (c .before .before .before .before .before .before .before .advance .ensures) _ _ (c .before .before .before .before .enum-told5 .given .1) (close-done t m (a .lex) _ _ (c .before .before .close-value .ensures))
 
 returns-9 : tie.Need-returns-9
-returns-9 c = 
+returns-9 c =
     let g = c .before .before .before .before .before .before .before .before .before .before .before .before .before .before .before .before .before .before .args in
     let t : Table = lent (g .edges) (g .keys) (g .rules .now) (g .states .now) (g .edge-keys .now) (g .kinds .now) (g .nexts .now) (g .bytes .now) (g .lens .now) (g .ends .now) (g .forms .now) in
     let m : Mem = mem (g .x) (g .root) (g .key .now) (g .work .now) in

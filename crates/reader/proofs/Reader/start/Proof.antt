@@ -5,39 +5,14 @@ use borrow.Author.Needs.{needs}
 use Rattle.reader.proofs.Reader.start.Statement.{statement}
 use Rattle.reader.proofs.Reader.start.Tie as tie
 
-fit-limits-requires : tie.Need-fit-limits-requires
-fit-limits-requires c κs = search needs
-
-fresh-reader-requires : tie.Need-fresh-reader-requires
-fresh-reader-requires c κs = search needs
-
 returns : tie.Need-returns
 returns c = start-small (c .before .before .before .before .before .before .before .before .before .before .before .before .before .args .t1) (c .before .before .before .before .before .before .before .before .before .before .before .before .before .args .work .now) _ (limits-told (c .before .before .before .before .before .before .before .before .before .before .before .before .before .args .t1) _ true (c .before .before .before .fit-limits .ensures) (c .before .before .if1 .taken)) (c .before .if2 .taken) (c .fresh-reader .ensures)
 
-frames-requires : tie.Need-frames-requires
-frames-requires c κs = search needs
-
-fresh-reader-requires-2 : tie.Need-fresh-reader-requires-2
-fresh-reader-requires-2 c κs = search needs
-
 returns-2 : tie.Need-returns-2
 returns-2 c = start-good (c .before .before .before .before .before .before .before .before .before .before .before .before .before .before .args .t1) (c .before .before .before .before .before .before .before .before .before .before .before .before .before .before .args .work .now) _ _ (limits-told (c .before .before .before .before .before .before .before .before .before .before .before .before .before .before .args .t1) _ true (c .before .before .before .before .fit-limits .ensures) (c .before .before .before .if1 .taken)) (c .before .before .if2 .left) (c .before .frames .ensures) (c .fresh-reader2 .ensures)
-
-fresh-reader-requires-3 : tie.Need-fresh-reader-requires-3
-fresh-reader-requires-3 c κs = search needs
 
 returns-3 : tie.Need-returns-3
 returns-3 c = start-table (c .before .before .before .before .before .before .before .before .before .before .before .before .args .t1) (c .before .before .before .before .before .before .before .before .before .before .before .before .args .work .now) _ (limits-told (c .before .before .before .before .before .before .before .before .before .before .before .before .args .t1) _ false (c .before .before .fit-limits .ensures) (c .before .if1 .left)) (c .fresh-reader3 .ensures)
 
 pub start-spec : {M : Type 1} → statement M
-start-spec =
-    tie.close
-    (tie.spec
-    fit-limits-requires
-    fresh-reader-requires
-    returns
-    frames-requires
-    fresh-reader-requires-2
-    returns-2
-    fresh-reader-requires-3
-    returns-3)
+start-spec = tie.close (tie.spec (λ c κs. search needs) (λ c κs. search needs) returns (λ c κs. search needs) (λ c κs. search needs) returns-2 (λ c κs. search needs) returns-3)

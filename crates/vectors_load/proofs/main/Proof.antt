@@ -7,10 +7,10 @@ use Rattle.vectors_load.proofs.main.Statement.{statement}
 use Rattle.vectors_load.proofs.main.Tie as tie
 
 abbrev Inv-loop : tie.InvT-loop
-Inv-loop space₀ i₀ space i = (i ≤ 68) × (length space ≡ 66000)
+Inv-loop space₀ i₀ space i = (i ≤ 71) × (length space ≡ 66000)
 
 abbrev μ-loop : tie.MeasureT-loop
-μ-loop space₀ i₀ space i = 68 - i
+μ-loop space₀ i₀ space i = 71 - i
 
 pub main-spec : {M : Type 1} → statement M
 main-spec = tie.close (tie.spec Inv-loop μ-loop (λ c. search needs) (λ c κs. search needs) (λ c κs. search needs) (λ c. search needs) (λ c κs. search needs) (λ c. search needs) (λ c κs. search needs) (λ c. search needs) (λ c. search needs) (λ c κs. search needs) (λ c κs. search needs) (λ c. search needs) (λ c. search needs) (λ c κs. search needs) (λ c. search needs) (λ c. search needs) (λ c. search needs) (λ c. search needs))

@@ -1,4 +1,4 @@
--- What a byte does to the open record, over the reader's own types. Derived: `Follows` in proofs/ joins it to the track of crate verdict.
+-- What a byte does to the open record, over the reader's own types. Derived: `tracks-step` of crate follows joins it to the track of crate verdict.
 -- Assumes nothing.
 use mathlib.Core.Bool.{Bool, true, false, cond}
 use mathlib.Core.List.{List}

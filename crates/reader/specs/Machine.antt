@@ -1,5 +1,5 @@
 -- What start, feed and close do, whole: 01, "The stream", Start, Feed, Close. Stated as far as refusals, readers and tallies go; the reading of
--- bytes is derived: `demand-3` in proofs/ joins it to the stream on paper. Assumes nothing.
+-- bytes is derived: `demand-3` of crate demand joins it to the stream on paper. Assumes nothing.
 use mathlib.Core.Bool.{Bool, true, false, cond, _&&_}
 use mathlib.Core.List.{List}
 use Prim.Native.Nat.{ℕ, _*_}

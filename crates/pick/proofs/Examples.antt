@@ -5,10 +5,10 @@ use Prim.Native.Nat.{ℕ}
 use Rattle.stream.specs.Records.{split}
 use Rattle.pick.specs.Pick.{nonempties, pickOf}
 
-bytes : List ℕ
+abbrev bytes : List ℕ
 bytes = 0x7A ∷ 0x1E ∷ 0x5B ∷ 0x1E ∷ 0x1E ∷ 0x31 ∷ []
 
 -- the head, the record behind it, the record behind the empty part, and no more
 pub examples : (pickOf bytes 0 ≡ 0x7A ∷ []) × (pickOf bytes 1 ≡ 0x5B ∷ []) × (pickOf bytes 2 ≡ 0x31 ∷ []) × (pickOf bytes 3 ≡ [])
-unfolding bytes split nonempties pickOf
+unfolding split nonempties pickOf
 examples = (refl, refl, refl, refl)

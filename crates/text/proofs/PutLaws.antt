@@ -181,6 +181,15 @@ module _ (o : List ℕ) (at : ℕ) (bs : List ℕ) (has : Bool) (e : has ≡ has
   unfolding write
   write-none h = rw (sym e, h)
 
+-- what is written where there is room is put there
+pub put-of-write : (o : List ℕ) (at : ℕ) (bs now : List ℕ) (behind : ℕ) → at + 64 ≤ length o → record { out = now; at = behind } ≡ write o at bs
+    → Put o at bs now behind
+unfolding write hasRoom
+put-of-write o at bs now behind h e =
+    let full : Written = record { out = sets o at bs; at = at + length bs } in
+    let d : record { out = now; at = behind } ≡ full = rw (le-leb (at + 64) (length o) h) at e in
+    record { bytes = ap (λ (x : Written). x .out) d; place = ap (λ (x : Written). x .at) d }
+
 -- ---- lengths
 
 length-digits : (ps : List ℕ) (n : ℕ) → length (digits ps n) ≤ length ps + 1

@@ -1,17 +1,22 @@
 -- What the judging program does with the bytes that arrive, on slices: 01, "An example day". Derived: `text-of-stream` of the proofs joins it to the
 -- stream on paper. Assumes nothing.
-use mathlib.Core.List.{List, [], _∷_, _++_}
+use mathlib.Core.Bool.{Bool, cond}
+use mathlib.Core.List.{List, [], _++_}
+use mathlib.Core.Path.{_≡_}
 use Prim.Native.Nat.{ℕ, zero, suc, _+_, _/_}
+use lib.Dec.{eqb}
 use lib.ListN.{length, drop}
 use lib.Seq.{sets}
 use Rattle.table.specs.declared.Table.{Table}
+use Rattle.book.specs.Load.{loads}
+use Rattle.load.specs.Step.{tableOf}
 use Rattle.verdict.specs.declared.Verdict.{Verdict}
-use Rattle.text.specs.Text.{lineOf}
-use Rattle.text.specs.Put.{room}
+use Rattle.text.specs.Text.{lineOf, names, bookLines}
+use Rattle.text.specs.Put.{room, hasRoom, Written, write}
 use Rattle.reader.specs.declared.Reader.{Reader}
 use Rattle.reader.specs.declared.Answer.{Answer}
 use Rattle.reader.specs.declared.Answer.the-variants as Says
-use Rattle.reader.specs.Machine.{Outcome, feedOf}
+use Rattle.reader.specs.Machine.{Outcome, feedOf, closeOf}
 
 -- the reader and the work buffer behind some feeds, the bytes that they read, the lines of their verdicts, and what the last one answered
 pub record Reported : Type 0 where
@@ -55,3 +60,33 @@ inOut o x = record { reader = x .reader; work = x .work; read = x .read; out = s
 
 unfoldable pub reportOf : Reader → Table → List ℕ → List ℕ → List ℕ → Report
 reportOf r t w s o = inOut o (reports (length o / room) t r w s)
+
+-- ---- the end of the input
+
+-- the output with the line of a verdict, if the answer is one
+abbrev pub written : Answer → List ℕ → Written
+written Says.Quiet o = record { out = o; at = 0 }
+written (Says.Refused n) o = record { out = o; at = 0 }
+written (Says.Judged v) o = write o 0 (lineOf v)
+
+-- a close, and the line of its verdict
+abbrev pub closing : Outcome → Reported
+closing c =
+    byAnswer (c .answer) (stops c)
+    (λ v. record { reader = c .reader; work = c .work; read = c .count; text = lineOf v; answer = c .answer })
+
+-- without room for its line nothing is done
+unfoldable pub finishOf : Reader → Table → List ℕ → List ℕ → Report
+finishOf r t w o = inOut o (cond (hasRoom (length o) 0) (closing (closeOf r t w)) (record { reader = r; work = w; read = 0; text = []; answer = Says.Quiet }))
+
+-- ---- the book
+
+-- the text that a book begins with: the names of a stream's fields, or the lines of its refusal
+unfoldable pub beginning : List ℕ → List ℕ
+beginning b = cond (eqb (loads b .number) 0) names (bookLines (loads b .number) (loads b .line))
+
+-- whether the book is accepted, its table, and its text in the output where there is room for it
+pub record Begins (b o : List ℕ) (accepted : Bool) (table : Table) (out : List ℕ) (used : ℕ) : Type 0 where
+  pub answer : accepted ≡ eqb (loads b .number) 0
+  pub table-is : table ≡ tableOf (loads b .entries)
+  pub text : record { out = out; at = used } ≡ write o 0 (beginning b)

@@ -1,6 +1,6 @@
 // The judging program's work, on slices.
 ghost use mathlib.Core.Path.{_≡_};
-ghost use Rattle.report.specs.Report.{reportOf};
+ghost use Rattle.report.specs.Report.{reportOf, written, finishOf, Begins};
 use reader::Answer;
 use reader::Reader;
 use table::Table;
@@ -56,5 +56,73 @@ pub fn report(r: Reader, t: Table, work: &mut [u8], piece: &[u8], out: &mut [u8]
         read: read,
         used: used,
         answer: Answer::Quiet,
+    }
+}
+
+// The line of a verdict, if the answer is one.
+fn write_answer(out: &mut [u8], a: Answer) -> usize
+    ensures { λ r. ⌜ record { out = now (out .exit); at = r } ≡ written a (now (out .entry)) ⌝ }
+{
+    match a {
+        Answer::Quiet => 0,
+        Answer::Refused(_) => 0,
+        Answer::Judged(v) => text::write_verdict(out, 0, v),
+    }
+}
+
+// Closes, and writes the line of the last verdict. Ruled out: a finish that closes where its line has no room, and one that forgets the verdict of a
+// record that no RS ended.
+pub fn finish(r: Reader, t: Table, work: &[u8], out: &mut [u8]) -> Reported
+    ensures { λ x. ⌜ record { reader = x .reader; work = now (work .entry); read = x .read; out = now (out .exit); used = x .used; answer = x .answer } ≡ finishOf r t (now (work .entry)) (now (out .entry)) ⌝ }
+{
+    if out.len() < 64 {
+        return Reported {
+            reader: r,
+            read: 0,
+            used: 0,
+            answer: Answer::Quiet,
+        };
+    }
+    let x = reader::close(r, t, work);
+    let next = x.reader;
+    let a = x.answer;
+    let used = write_answer(out, a);
+    Reported {
+        reader: next,
+        read: 0,
+        used: used,
+        answer: a,
+    }
+}
+
+// What a book begins with: whether it is accepted, its table, and the bytes written to the output.
+pub struct Begun {
+    pub accepted: bool,
+    pub table: Table,
+    pub used: usize,
+}
+
+// Loads a book, and writes the names of a stream's fields, or the lines of its refusal. Ruled out: a program that judges by a refused book, and one
+// that gives the line of a refusal before its number.
+pub fn begin(book: &[u8], out: &mut [u8]) -> Begun
+    ensures { λ x. ⌜ Begins (now (book .entry)) (now (out .entry)) (x .accepted) (x .table) (now (out .exit)) (x .used) ⌝ }
+{
+    let x = load::load(book);
+    let a = x.answer;
+    let t = x.table;
+    let number = load::number_of(a) as usize;
+    if number == 0 {
+        let used = text::write_names(out, 0);
+        return Begun {
+            accepted: true,
+            table: t,
+            used: used,
+        };
+    }
+    let used = text::write_book(out, 0, number, load::line_of(a));
+    Begun {
+        accepted: false,
+        table: t,
+        used: used,
     }
 }

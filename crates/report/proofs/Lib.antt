@@ -1,2 +1,3 @@
 pub mod ReportLaws
 pub mod EndLaws
+pub mod TextLaws

@@ -1,0 +1,134 @@
+// The judging program: judges standard input by the rules of book.txt, and prints a line for each record. What it prints is made by crate report,
+// which is proved; here bytes are only read and written.
+ghost use mathlib.Core.Path.{_≡_};
+ghost use lib.ListN.{length};
+use libc::STDIN_FILENO;
+use libc::STDOUT_FILENO;
+use reader::Reader;
+use report::Begun;
+use table::Table;
+
+// A reader, and whether the program goes on.
+struct State {
+    reader: Reader,
+    going: bool,
+}
+
+// One byte more than a book may have, so that a longer one is refused.
+fn book_space() -> [u8; 65537]
+    ensures { λ r. ⌜ 65537 ≡ length r ⌝ }
+{
+    [0; 65537]
+}
+
+// 6,144 bytes: 64 frames.
+fn work_space() -> [u8; 6144]
+    ensures { λ r. ⌜ 6144 ≡ length r ⌝ }
+{
+    [0; 6144]
+}
+
+// The bytes of book.txt; none where it cannot be read.
+fn read_book(space: &mut [u8]) -> usize {
+    let fd = os::open_read(b"book.txt");
+    if fd < 0 {
+        return 0;
+    }
+    let n = io::read_full(fd, space);
+    libc::close(fd);
+    n
+}
+
+// Begins with the first n bytes of the space.
+fn begin(space: &[u8], n: usize, out: &mut [u8]) -> Begun {
+    if space.len() < n {
+        return report::begin(space, out);
+    }
+    report::begin(&space[..n], out)
+}
+
+// Prints the first bytes of the output.
+fn print(out: &[u8], used: usize) -> bool {
+    if out.len() < used {
+        return false;
+    }
+    io::write_all(STDOUT_FILENO, &out[..used])
+}
+
+fn stopped(r: Reader) -> State {
+    State {
+        reader: r,
+        going: false,
+    }
+}
+
+// Reports a piece, and prints its lines as they come. A report that reads nothing, or more than there is, would be a call refused or a slip: it stops.
+fn judge_piece(r: Reader, t: Table, work: &mut [u8], piece: &[u8], out: &mut [u8]) -> State {
+    let mut next = r;
+    let mut read = 0;
+    while read < piece.len() {
+        let x = report::report(next, t, work, &piece[read..], out);
+        let used = x.used;
+        let more = x.read;
+        next = x.reader;
+        if print(out, used) {} else {
+            return stopped(next);
+        }
+        if more == 0 {
+            return stopped(next);
+        }
+        if piece.len() - read < more {
+            return stopped(next);
+        }
+        read += more;
+    }
+    State {
+        reader: next,
+        going: true,
+    }
+}
+
+// Reads what has arrived, and judges it.
+fn judge_some(r: Reader, t: Table, work: &mut [u8], space: &mut [u8], out: &mut [u8]) -> State {
+    let got = libc::read(STDIN_FILENO, space);
+    let n = io::count(got, space);
+    if n == 0 {
+        return stopped(r);
+    }
+    judge_piece(r, t, work, &space[..n], out)
+}
+
+// A proved loop has to end, and nothing says that the input does: the loop counts its turns down from a number that no run uses up.
+fn judge_all(r: Reader, t: Table, work: &mut [u8], space: &mut [u8], out: &mut [u8]) -> Reader {
+    let mut s = State {
+        reader: r,
+        going: true,
+    };
+    let mut turns = u64::MAX;
+    while turns > 0 && s.going {
+        let next = s.reader;
+        s = judge_some(next, t, work, space, out);
+        turns -= 1;
+    }
+    s.reader
+}
+
+fn main() {
+    let mut book = book_space();
+    let mut out = io::large_buffer();
+    let n = read_book(&mut book);
+    let begun = begin(&book, n, &mut out);
+    let t = begun.table;
+    let used = begun.used;
+    print(&out, used);
+    if begun.accepted {
+        let mut work = work_space();
+        let mut space = io::large_buffer();
+        let started = Reader::start(t, &work);
+        let first = started.reader;
+        let last = judge_all(first, t, &mut work, &mut space, &mut out);
+        let x = report::finish(last, t, &work, &mut out);
+        let end = x.used;
+        print(&out, end);
+    }
+}

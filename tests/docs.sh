@@ -8,6 +8,7 @@
 #   ```output         what the commands before it print; a line ... stands for any lines
 #   ```text file=F    the file F
 #
+# It also tries that each link to a file leads to one, and that the picture of a rule has the rule's lines.
 # The last line is a count; exit status 1 where anything failed. Needs coreutils, awk and git.
 set -u
 unset CDPATH
@@ -68,6 +69,24 @@ bad() {
     printf 'FAILED %s\n' "$1"
 }
 
+for page in README.md docs/*.md; do
+    grep -o '](\([^)]*\))' "$page" | sed 's/^](//; s/)$//' | grep -v '^https\{0,1\}:' | sort -u >"$work/links"
+    while read -r link; do
+        to=$(dirname "$page")/${link%%#*}
+        [ -n "${link%%#*}" ] || to=$page
+        mark=
+        case $link in *#*) mark=${link#*#} ;; esac
+        if [ ! -e "$to" ]; then
+            bad "$page: no file for the link $link"
+        elif [ -n "$mark" ] && ! sed -n 's/^##* //p' "$to" | tr '[:upper:]' '[:lower:]' | tr -cd '[:alnum:] \n-' | tr ' ' - | grep -qx -e "$mark"; then
+            bad "$page: no heading for the link $link"
+        else
+            passed=$((passed + 1))
+        fi
+    done <"$work/links"
+done
+sed -n 's/^ *<!-- \([0-9].*\) -->$/\1/p' docs/guidance-line.svg | sort >"$work/drawn"
+if grep '^4 ' examples/field/book.txt | sort | cmp -s - "$work/drawn"; then passed=$((passed + 1)); else bad 'docs/guidance-line.svg: not rule 4'; fi
 for stray in "$work"/blocks/*.stray; do
     [ ! -e "$stray" ] || bad "$(cat -- "$stray")"
 done
@@ -77,6 +96,7 @@ for info in "$work"/blocks/*.info; do
     want=0
     needs=
     run=yes
+    # shellcheck disable=SC2013 # words, not lines
     for word in $(cat -- "$info"); do
         case $word in
         needs=*) needs=$(printf '%s' "${word#needs=}" | tr , ' ') ;;

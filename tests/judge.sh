@@ -260,6 +260,11 @@ record 'refused 11 4' '"\\uDC00"'
 record 'refused 11 2' '"\340\200'
 record 'refused 11 3' 'nulx'
 record 'refused 11 2' '{}x'
+brackets=$(printf '%064d' 0 | tr 0 '[')
+record 'refused 14 64' "$brackets"
+record 'invalid 0 0' "${brackets}$(printf '%064d' 0 | tr 0 ']')"
+record 'refused 12 64' "${brackets}["
+record 'refused 11 64' "${brackets#?}{["
 printf z >one
 direct <one
 prints 'a head' 0 'verdict number place' 'refused 15 0'
@@ -412,7 +417,12 @@ for signal in HUP INT TERM; do
     if python3 -c '
 import signal, subprocess, sys, time, os
 words = sys.argv[3:]
-process = subprocess.Popen(words, stdin=os.open(sys.argv[2], os.O_RDWR), stdout=subprocess.DEVNULL)
+
+def heard():
+    for name in (signal.SIGHUP, signal.SIGINT, signal.SIGTERM):
+        signal.signal(name, signal.SIG_DFL)
+
+process = subprocess.Popen(words, stdin=os.open(sys.argv[2], os.O_RDWR), stdout=subprocess.DEVNULL, preexec_fn=heard)
 for _ in range(200):
     time.sleep(0.05)
     if any(os.path.exists(os.path.join(os.environ["TMPDIR"], name, "run", "book.txt")) for name in os.listdir(os.environ["TMPDIR"])):

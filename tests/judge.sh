@@ -163,7 +163,7 @@ says 'a folder for a book' 2 'folder'
 call "$judge" 'my book.txt' "$work"
 says 'a folder for a stream' 2 'folder'
 call "$judge" 'my book.txt' 'my stream.jsons' more
-says 'too many words' 2 'too many'
+says 'too many arguments' 2 'too many'
 if [ "$(id -u)" = 0 ]; then
     echo 'skipped: files that cannot be read, since root reads all'
 else

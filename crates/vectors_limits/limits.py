@@ -31,13 +31,19 @@ def nested(shape, levels, closed):
 
 
 def buffers():
-    for size, least in ((96, 1), (191, 1), (192, 1), (287, 1), (288, 2), (6047, 61), (6048, 62), (6143, 62), (6144, 63), (6239, 63), (6240, 63), (12288, 63)):
+    for size, least in ((96, 1), (191, 1), (192, 1), (287, 1), (5952, 61), (6047, 61), (6048, 62), (6143, 62),
+                        (6144, 63), (6239, 63), (6240, 63), (12288, 63)):
         for levels in range(least, least + 4):
             for shape in ('arrays', 'objects', 'in-turn'):
                 for end in ('open', 'closed'):
                     book = OBJECTS if shape == 'objects' else ARRAYS
                     v = calls.verdict(False, nested(shape, levels, end == 'closed'), frames(size), book)
                     print('%s-%d-%s-%d' % (shape, levels, end, size), *v)
+
+
+def texts():
+    for text in ('[[', '[{', '{[', '{"a"[', '{"a":[', '[1[', '[]{'):
+        print(text, *calls.verdict(False, text.encode(), 1, ARRAYS))
 
 
 def pairs():
@@ -70,9 +76,9 @@ def longs():
             ('number', (0, 1), b'', b'1', b''),
             ('array', (-1, 0, 1), b'[', b'1,', b'1]'),
             ('malformed-last', (0, 1), b'[', b' ', b'x'),
-            ('malformed-first', (1,), b'x', b' ', b''),
+            ('malformed-first', (0, 1), b'x', b' ', b''),
             ('too-deep-last', (0, 1), b'[' * 64, b' ', b'['),
-            ('too-deep-first', (1,), b'', b'[', b''),
+            ('too-deep-first', (0, 1), b'', b'[', b''),
             ('broken-off', (0, 1), b'["', b'a', b'')):
         for more in beyond:
             print('%s-%d' % (label, LONGEST + more), *long(LONGEST + more, first, unit, last))
@@ -85,5 +91,6 @@ def longs():
 
 if __name__ == '__main__':
     buffers()
+    texts()
     pairs()
     longs()

@@ -60,7 +60,7 @@ fn say_label(label: &[u8], bytes: usize) {
 }
 
 // A record alone in its stream, with 64 frames.
-pub fn run(
+fn run(
     t: Table,
     work: &mut [u8; 6144],
     space: &mut [u8; 65536],
@@ -77,6 +77,34 @@ pub fn run(
     let vs = verdicts::end(t, s, work);
     say_label(label, bytes);
     verdicts::say_all(b"", vs);
+}
+
+// A record of as many bytes as a record can have, and one of a byte more.
+pub fn run_two(
+    t: Table,
+    work: &mut [u8; 6144],
+    space: &mut [u8; 65536],
+    label: &[u8],
+    first: &[u8],
+    unit: &[u8],
+    last: &[u8],
+) {
+    run(t, work, space, label, 16777216, first, unit, last);
+    run(t, work, space, label, 16777217, first, unit, last);
+}
+
+// The same, with one of a byte less before them.
+pub fn run_three(
+    t: Table,
+    work: &mut [u8; 6144],
+    space: &mut [u8; 65536],
+    label: &[u8],
+    first: &[u8],
+    unit: &[u8],
+    last: &[u8],
+) {
+    run(t, work, space, label, 16777215, first, unit, last);
+    run_two(t, work, space, label, first, unit, last);
 }
 
 // A record that is too long, and one behind it.

@@ -101,10 +101,38 @@ fn run_levels(t: Table, u: Table, work: &mut [u8], least: usize, other: usize) {
 }
 
 // The same on the first bytes of the buffer.
-pub fn run(t: Table, u: Table, work: &mut [u8], size: usize, least: usize, other: usize) {
+fn run(t: Table, u: Table, work: &mut [u8], size: usize, least: usize, other: usize) {
     if size <= work.len() {
         run_levels(t, u, &mut work[..size], least, other);
     }
+}
+
+// Four numbers of levels on buffers of two sizes.
+pub fn run_two(t: Table, u: Table, work: &mut [u8], size: usize, larger: usize, least: u8) {
+    let levels = least as usize;
+    run(t, u, work, size, levels, levels + 4);
+    run(t, u, work, larger, levels, levels + 4);
+}
+
+// A text on one frame, which is its own label.
+fn run_text(t: Table, work: &mut [u8; 96], text: &[u8]) {
+    let began = verdicts::begin(t, work);
+    let first = verdicts::feed_all(t, began, work, b"\x1e");
+    let last = verdicts::feed_all(t, first, work, text);
+    let vs = verdicts::end(t, last, work);
+    verdicts::say_all(text, vs);
+}
+
+// Second openings on one frame: too deep where a value can stand, malformed where none can.
+pub fn run_texts(t: Table) {
+    let mut work = [0u8; 96];
+    run_text(t, &mut work, b"[[");
+    run_text(t, &mut work, b"[{");
+    run_text(t, &mut work, b"{[");
+    run_text(t, &mut work, b"{\"a\"[");
+    run_text(t, &mut work, b"{\"a\":[");
+    run_text(t, &mut work, b"[1[");
+    run_text(t, &mut work, b"[]{");
 }
 
 // Arrays left open, and behind them 64 that are closed.

@@ -1,5 +1,5 @@
 -- `feed_file` is safe and ends: it counts its turns, and `read_full` gives at most as many bytes as there is space. Assumes nothing.
-use Prim.Native.Nat.{_≤_, _<_, _+_, _-_}
+use Prim.Native.Nat.{_≤_, _-_}
 use lib.ListN.{length}
 use mathlib.Core.Path.{_≡_}
 use borrow.Author.Needs.{needs}

@@ -1,7 +1,6 @@
 -- `line_end` stays within the names: it goes through them by index. Assumes nothing.
-use Prim.Native.Nat.{_≤_, _<_, _+_, _-_}
+use Prim.Native.Nat.{_≤_, _-_}
 use lib.ListN.{length}
-use mathlib.Core.Path.{_≡_}
 use borrow.Author.Needs.{needs}
 use Rattle.vectors_json.proofs.line_end.Statement.{statement}
 use Rattle.vectors_json.proofs.line_end.Tie as tie

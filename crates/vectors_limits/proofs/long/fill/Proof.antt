@@ -1,7 +1,5 @@
 -- `fill` is safe and ends: it goes through the block by index. Assumes nothing.
-use Prim.Native.Nat.{_≤_, _<_, _+_, _-_}
-use lib.ListN.{length}
-use mathlib.Core.Path.{_≡_}
+use Prim.Native.Nat.{_≤_, _-_}
 use native.Mathlib.Nat.{mod-lt}
 use borrow.Author.Needs.{needs}
 use Rattle.vectors_limits.proofs.long.fill.Statement.{statement}

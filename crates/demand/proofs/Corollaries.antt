@@ -16,11 +16,11 @@ use Rattle.reader.specs.declared.Reader.{Reader}
 use Rattle.reader.specs.declared.Answer.the-variants as Says
 use Rattle.reader.specs.declared.Refusal.the-variants as No
 use Rattle.reader.specs.Machine.{startOf}
-use Rattle.reader.specs.Paper.{Call, nonempty}
+use Rattle.reader.specs.Paper.{Call, Judges, nonempty}
 use Rattle.reader.specs.Claim.{run, answers, after, table}
 use Rattle.stream.specs.Records.{noRS, verdictsOf, verdictsBehind, verdictsIn, StreamOf}
 use Rattle.stream.proofs.CallLaws.{never-above-limit}
-use Rattle.stream.proofs.JudgeLaws.{judgeOf}
+use Rattle.stream.proofs.JudgeLaws.{judgeOf, judges-exist}
 use Rattle.stream.proofs.Corollaries as of-bytes
 use Rattle.demand.specs.Book.{Book}
 use Rattle.demand.proofs.Demand.{reading}
@@ -32,6 +32,15 @@ loaded-never-above-limit t w e calls c b r l q said =
     true-not-false _ (loaded-withinLimits b r l) (rw q at (never-above-limit t w e calls c said))
 
 module _ (es : List Entry) (n : ℕ) (least : 1 ≤ n) (most : n ≤ 64) where
+  -- one verdict for each record of the bytes, in stream order
+  pub verdicts-of-stream : {r : Reader} {cs : List Call} {s : List ℕ} → StreamOf Book es n r cs s
+      → verdictsIn (answers r cs) ≡ verdictsOf (judgeOf es n) s
+  verdicts-of-stream x = of-bytes.verdicts-of-stream reading es n least most x
+
+  -- by the judge of parts
+  pub judge-of-stream : {r : Reader} {cs : List Call} {s : List ℕ} → StreamOf Book es n r cs s → Judges es n (judgeOf es n)
+  judge-of-stream x = judges-exist (of-bytes.sound-of-stream reading es n least most x) n
+
   -- the same bytes, cut otherwise, have the same verdicts
   pub same-verdicts-of-same-bytes : {r q : Reader} {cs ds : List Call} {s : List ℕ} → StreamOf Book es n r cs s → StreamOf Book es n q ds s
       → verdictsIn (answers r cs) ≡ verdictsIn (answers q ds)

@@ -76,10 +76,12 @@ module _ {Book : Table → List Entry → Type 0} {Tracks : (es : List Entry) �
   sound-of-hands k r _ s fair (refused {c = c} {cs = cs} e rest) = sound-of-hands k (run r c .reader) cs s (rw e at fair) rest
 
   module _ {r : Reader} {cs : List Call} {s : List ℕ} (x : StreamOf Book es n r cs s) where
-    sound-of-stream : Sound es
+    -- its book is accepted, so its parts have a judge
+    pub sound-of-stream : Sound es
     sound-of-stream = sound-of-hands nothing r cs s (x .fair) (x .hands)
 
-    verdicts-of-stream : verdictsIn (answers r cs) ≡ verdictsOf (judgeOf es n) s
+    -- and its verdicts are those of its bytes
+    pub verdicts-of-stream : verdictsIn (answers r cs) ≡ verdictsOf (judgeOf es n) s
     verdicts-of-stream = verdicts-of-bytes (judgeOf es n) (judges-exist sound-of-stream n) r cs s (x .fresh) (x .fair) (x .hands)
 
   -- the same bytes, cut otherwise, have the same verdicts

@@ -16,11 +16,11 @@ use Rattle.stream.specs.Records.{Parts, withByte, split, noRS, given, gi
 -- ---- what stands behind an RS
 
 module _ (b : ℕ) (s : List ℕ) where
-  split-of-RS : eqb b 0x1E ≡ true → split (b ∷ s) ≡ record { first = []; behind = split s .first ∷ split s .behind }
+  pub split-of-RS : eqb b 0x1E ≡ true → split (b ∷ s) ≡ record { first = []; behind = split s .first ∷ split s .behind }
   unfolding split
   split-of-RS e = rw e
 
-  split-of-byte : eqb b 0x1E ≡ false → split (b ∷ s) ≡ record { first = b ∷ split s .first; behind = split s .behind }
+  pub split-of-byte : eqb b 0x1E ≡ false → split (b ∷ s) ≡ record { first = b ∷ split s .first; behind = split s .behind }
   unfolding split
   split-of-byte e = rw e
 

@@ -30,7 +30,7 @@ abbrev pub longest : ℕ
 longest = 16777216
 
 -- number and place are 0 unless refused
-unfoldable pub told : Verdict → Told
+abbrev pub told : Verdict → Told
 told Is.Valid = tell valid 0 0
 told Is.Invalid = tell invalid 0 0
 told (Is.Malformed p) = tell refused 11 p

@@ -1,70 +1,34 @@
-// A verdict on a line: 01, "An example day".
+// A verdict on a line, as the judging program writes it.
 use libc::STDOUT_FILENO;
 use verdict::Verdict;
 
-fn space_and(n: u32) {
-    io::write_all(STDOUT_FILENO, b" ");
-    io::print_decimal(STDOUT_FILENO, n as u64);
-}
-
-// A label, a word, a number and a place.
-pub fn say(label: &[u8], word: &[u8], number: u32, place: u32) {
-    io::write_all(STDOUT_FILENO, label);
-    io::write_all(STDOUT_FILENO, b" ");
-    io::write_all(STDOUT_FILENO, word);
-    space_and(number);
-    space_and(place);
-    io::write_all(STDOUT_FILENO, b"\n");
-}
-
-// The number of a refused record; 0 of any other.
-pub fn number_of(v: Verdict) -> u32 {
-    match v {
-        Verdict::Valid => 0,
-        Verdict::Invalid => 0,
-        Verdict::Malformed(_) => 11,
-        Verdict::TooDeep(_) => 12,
-        Verdict::TooLong => 13,
-        Verdict::Unfinished(_) => 14,
-        Verdict::Head => 15,
+// The first n bytes, where there are so many.
+fn write_first(bytes: &[u8], n: usize) {
+    if n <= bytes.len() {
+        io::write_all(STDOUT_FILENO, &bytes[..n]);
     }
-}
-
-fn place_of(v: Verdict) -> u32 {
-    match v {
-        Verdict::Valid => 0,
-        Verdict::Invalid => 0,
-        Verdict::Malformed(p) => p,
-        Verdict::TooDeep(p) => p,
-        Verdict::TooLong => 16777216,
-        Verdict::Unfinished(p) => p,
-        Verdict::Head => 0,
-    }
-}
-
-fn is_valid(v: Verdict) -> bool {
-    if let Verdict::Valid = v { true } else { false }
-}
-
-// Two verdicts differ.
-pub fn differ(u: Verdict, v: Verdict) -> bool {
-    if number_of(u) != number_of(v) {
-        return true;
-    }
-    if place_of(u) != place_of(v) {
-        return true;
-    }
-    is_valid(u) != is_valid(v)
 }
 
 pub fn say_verdict(label: &[u8], v: Verdict) {
-    if is_valid(v) {
-        say(label, b"valid", 0, 0);
-        return;
+    let mut line = [0u8; 64];
+    let n = text::write_verdict(&mut line, 0, v);
+    io::write_all(STDOUT_FILENO, label);
+    io::write_all(STDOUT_FILENO, b" ");
+    write_first(&line, n);
+}
+
+// Two verdicts have different lines.
+pub fn differ(u: Verdict, v: Verdict) -> bool {
+    let mut a = [0u8; 64];
+    let mut b = [0u8; 64];
+    text::write_verdict(&mut a, 0, u);
+    text::write_verdict(&mut b, 0, v);
+    let mut i: usize = 0;
+    while i < 64 {
+        if a[i] != b[i] {
+            return true;
+        }
+        i += 1;
     }
-    if number_of(v) == 0 {
-        say(label, b"invalid", 0, 0);
-        return;
-    }
-    say(label, b"refused", number_of(v), place_of(v));
+    false
 }

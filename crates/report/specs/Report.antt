@@ -1,0 +1,57 @@
+-- What the judging program does with the bytes that arrive, on slices: 01, "An example day". Derived: `text-of-stream` of the proofs joins it to the
+-- stream on paper. Assumes nothing.
+use mathlib.Core.List.{List, [], _∷_, _++_}
+use Prim.Native.Nat.{ℕ, zero, suc, _+_, _/_}
+use lib.ListN.{length, drop}
+use lib.Seq.{sets}
+use Rattle.table.specs.declared.Table.{Table}
+use Rattle.verdict.specs.declared.Verdict.{Verdict}
+use Rattle.text.specs.Text.{lineOf}
+use Rattle.text.specs.Put.{room}
+use Rattle.reader.specs.declared.Reader.{Reader}
+use Rattle.reader.specs.declared.Answer.{Answer}
+use Rattle.reader.specs.declared.Answer.the-variants as Says
+use Rattle.reader.specs.Machine.{Outcome, feedOf}
+
+-- the reader and the work buffer behind some feeds, the bytes that they read, the lines of their verdicts, and what the last one answered
+pub record Reported : Type 0 where
+  pub reader : Reader
+  pub work : List ℕ
+  pub read : ℕ
+  pub text : List ℕ
+  pub answer : Answer
+
+-- a feed without a verdict is the last
+abbrev pub stops : Outcome → Reported
+stops o = record { reader = o .reader; work = o .work; read = o .count; text = []; answer = o .answer }
+
+-- the line of a verdict, then those of the feeds behind it; its feed read i bytes
+abbrev pub lineThen : ℕ → Verdict → Reported → Reported
+lineThen i v x = record { reader = x .reader; work = x .work; read = i + x .read; text = lineOf v ++ x .text; answer = x .answer }
+
+abbrev pub byAnswer : Answer → Reported → (Verdict → Reported) → Reported
+byAnswer Says.Quiet stop go = stop
+byAnswer (Says.Refused n) stop go = stop
+byAnswer (Says.Judged v) stop go = go v
+
+-- at most k feeds, each of what is unread of a piece, until one gives no verdict
+unfoldable pub reports : ℕ → Table → Reader → List ℕ → List ℕ → Reported
+reports zero t r w s = record { reader = r; work = w; read = 0; text = []; answer = Says.Quiet }
+reports (suc k) t r w s =
+    byAnswer (feedOf r t w s .answer) (stops (feedOf r t w s))
+    (λ v. lineThen (feedOf r t w s .count) v (reports k t (feedOf r t w s .reader) (feedOf r t w s .work) (drop (feedOf r t w s .count) s)))
+
+-- what a report gives and leaves: as many feeds as the output has room for lines, and the lines from its first byte on
+pub record Report : Type 0 where
+  pub reader : Reader
+  pub work : List ℕ
+  pub read : ℕ
+  pub out : List ℕ
+  pub used : ℕ
+  pub answer : Answer
+
+abbrev pub inOut : List ℕ → Reported → Report
+inOut o x = record { reader = x .reader; work = x .work; read = x .read; out = sets o 0 (x .text); used = length (x .text); answer = x .answer }
+
+unfoldable pub reportOf : Reader → Table → List ℕ → List ℕ → List ℕ → Report
+reportOf r t w s o = inOut o (reports (length o / room) t r w s)

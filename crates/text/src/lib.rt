@@ -1,0 +1,51 @@
+// The text of the judging program, as bytes in a lent buffer. Each function answers the place behind what it wrote; where the buffer has less
+// than 64 bytes from the place on, it writes nothing.
+ghost use mathlib.Core.Path.{_≡_};
+ghost use Rattle.text.specs.Text.{names, lineOf, bookLines};
+ghost use Rattle.text.specs.Put.{hasRoom, write};
+
+mod put; // put.rt: words and numbers, byte by byte
+
+use verdict::Verdict;
+
+const NAMES: [u8; 21] = *b"verdict number place\n";
+
+// The buffer has room from the place on.
+fn has_room(len: usize, at: usize) -> bool
+    ensures { λ r. ⌜ r ≡ hasRoom len at ⌝ }
+{
+    if at <= len {
+        return 64 <= len - at;
+    }
+    false
+}
+
+// The first line of what is printed for a stream.
+pub fn write_names(out: &mut [u8], at: usize) -> usize
+    ensures { λ r. ⌜ record { out = now (out .exit); at = r } ≡ write (now (out .entry)) at names ⌝ }
+{
+    if has_room(out.len(), at) {
+        return put::put_bytes(out, at, &NAMES);
+    }
+    at
+}
+
+// The line of a verdict. Ruled out: a line with the place of a refusal for its number, and one that a byte of the buffer behind it pays for.
+pub fn write_verdict(out: &mut [u8], at: usize, v: Verdict) -> usize
+    ensures { λ r. ⌜ record { out = now (out .exit); at = r } ≡ write (now (out .entry)) at (lineOf v) ⌝ }
+{
+    if has_room(out.len(), at) {
+        return put::put_line(out, at, v);
+    }
+    at
+}
+
+// The lines of a refused book.
+pub fn write_book(out: &mut [u8], at: usize, number: usize, line: usize) -> usize
+    ensures { λ r. ⌜ record { out = now (out .exit); at = r } ≡ write (now (out .entry)) at (bookLines number line) ⌝ }
+{
+    if has_room(out.len(), at) {
+        return put::put_book(out, at, number, line);
+    }
+    at
+}

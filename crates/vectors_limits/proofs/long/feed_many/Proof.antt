@@ -1,5 +1,5 @@
 -- `feed_many` is safe and ends: each turn takes a block, which is not empty, from what is left. Assumes nothing.
-use Prim.Native.Nat.{_≤_, _-_}
+use Prim.Native.Nat.{_≤_}
 use lib.ListN.{length}
 use mathlib.Core.Path.{_≡_, sym}
 use native.Mathlib.Omega.{arith}

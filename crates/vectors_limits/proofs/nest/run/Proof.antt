@@ -3,7 +3,6 @@ use mathlib.Core.Path.{sym}
 use native.Mathlib.Omega.{arith}
 use lib.Seq.{length-take-le}
 use borrow.Author.Needs.{needs}
-use borrow.Author.Needs.{needs}
 use Rattle.vectors_limits.proofs.nest.run.Statement.{statement}
 use Rattle.vectors_limits.proofs.nest.run.Tie as tie
 

@@ -3,7 +3,6 @@ use mathlib.Core.Path.{sym}
 use native.Mathlib.Omega.{arith}
 use lib.Seq.{length-take-le}
 use borrow.Author.Needs.{needs}
-use borrow.Author.Needs.{needs}
 use Rattle.verdicts.proofs.say.write_first.Statement.{statement}
 use Rattle.verdicts.proofs.say.write_first.Tie as tie
 

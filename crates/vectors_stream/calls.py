@@ -5,7 +5,7 @@ calls.py write   makes data/calls
 calls.py answer  prints what each call must answer, by the paper alone: no frames, no tables, no states
 
 A call is a letter, a number and a length, each in two bytes with the low one first, and as many bytes as the length says."""
-import itertools, os, sys
+import os, sys
 
 RS = b'\x1e'
 HERE = os.path.dirname(os.path.abspath(__file__))
@@ -211,21 +211,22 @@ def fits(book, kind, v):
 def accepts(book, rule, v):
     rows = [l for l in lines(book) if l[0] == rule]
     if v[0] == 'arr':
-        return run(book, [l for l in rows if l[1] == 'arr'], '0', [(None, x) for x in v[1]])
+        return run(book, [l for l in rows if l[1] == 'arr'], '0', [(None, x) for x in v[1]], False)
     if v[0] == 'obj':
-        rows = [l for l in rows if l[1] == 'obj']
-        return any(run(book, rows, '0', list(order)) for order in itertools.permutations(v[1]))
+        return run(book, [l for l in rows if l[1] == 'obj'], '0', v[1], True)
     return False
 
 
-def run(book, rows, state, items):
+def run(book, rows, state, items, any_order):
+    """an accepting run from the state over the items, in their order or in some order"""
     if not items:
         return any(l[2] == state and l[4] == 'end' for l in rows)
-    (k, v), rest = items[0], items[1:]
-    for l in rows:
-        if l[2] == state and l[4] != 'end' and (k is None or [ord(c) for c in l[3]] == k) and fits(book, l[4], v):
-            if run(book, rows, l[5], rest):
-                return True
+    for i in range(len(items) if any_order else 1):
+        (k, v), rest = items[i], items[:i] + items[i + 1:]
+        for l in rows:
+            if l[2] == state and l[4] != 'end' and (k is None or [ord(c) for c in l[3]] == k) and fits(book, l[4], v):
+                if run(book, rows, l[5], rest, any_order):
+                    return True
     return False
 
 

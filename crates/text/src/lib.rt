@@ -30,7 +30,7 @@ pub fn write_names(out: &mut [u8], at: usize) -> usize
     at
 }
 
-// The line of a verdict. Ruled out: a line with the place of a refusal for its number, and one that a byte of the buffer behind it pays for.
+// The line of a verdict. Ruled out: a line with the number of another refusal, and one that is written where the buffer has no room for it.
 pub fn write_verdict(out: &mut [u8], at: usize, v: Verdict) -> usize
     ensures { λ r. ⌜ record { out = now (out .exit); at = r } ≡ write (now (out .entry)) at (lineOf v) ⌝ }
 {

@@ -30,16 +30,20 @@ fn say(count: usize, word: &[u8], number: usize, place: usize) {
     io::write_all(STDOUT_FILENO, b"\n");
 }
 
-fn say_verdict(count: usize, v: Verdict) {
-    match v {
-        Verdict::Valid => say(count, b"valid", 0, 0),
-        Verdict::Invalid => say(count, b"invalid", 0, 0),
-        Verdict::Malformed(p) => say(count, b"refused", 11, p as usize),
-        Verdict::TooDeep(p) => say(count, b"refused", 12, p as usize),
-        Verdict::TooLong => say(count, b"refused", 13, 16777216),
-        Verdict::Unfinished(p) => say(count, b"refused", 14, p as usize),
-        Verdict::Head => say(count, b"refused", 15, 0),
+// The first n bytes, where there are so many.
+fn write_first(bytes: &[u8], n: usize) {
+    if n <= bytes.len() {
+        io::write_all(STDOUT_FILENO, &bytes[..n]);
     }
+}
+
+// The count, and the line that the judging program writes for a verdict.
+fn say_verdict(count: usize, v: Verdict) {
+    let mut line = [0u8; 64];
+    let n = text::write_verdict(&mut line, 0, v);
+    io::print_decimal(STDOUT_FILENO, count as u64);
+    io::write_all(STDOUT_FILENO, b" ");
+    write_first(&line, n);
 }
 
 fn say_refusal(count: usize, r: Refusal) {

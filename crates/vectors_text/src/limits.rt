@@ -1,0 +1,73 @@
+// Records around the limits of length and depth, which are made here: the verdicts of each, behind a label with its length, or with its levels
+// and the bytes of the buffer.
+use crate::long;
+use crate::nest;
+use table::Table;
+
+// Any tree of arrays, and of objects with the key a; strings and numbers in arrays.
+fn array_book() -> Table {
+    let x = load::load(
+        b"rule form state key value next\n0 arr 0 - str 0\n0 arr 0 - num 0\n0 arr 0 - r0 0\n0 arr 0 - r1 0\n0 arr 0 - end -\n1 obj 0 a r0 1\n1 obj 0 a r1 1\n1 obj 0 - end -\n1 obj 1 - end -\n",
+    );
+    x.table
+}
+
+// Any tree of objects with the key a.
+fn object_book() -> Table {
+    let x = load::load(
+        b"rule form state key value next\n0 obj 0 a r0 1\n0 obj 0 - end -\n0 obj 1 - end -\n",
+    );
+    x.table
+}
+
+// Records that are JSON as long as they are not too long.
+fn sound_ones(t: Table, work: &mut [u8; 6144], space: &mut [u8; 65536]) {
+    long::run_three(t, work, space, b"string", b"[\"", b"a", b"\"]");
+    long::run_two(t, work, space, b"blanks-before", b"", b" ", b"[]");
+    long::run_two(t, work, space, b"blanks-behind", b"[]", b"\n", b"");
+    long::run_two(t, work, space, b"number", b"", b"1", b"");
+    long::run_three(t, work, space, b"array", b"[", b"1,", b"1]");
+}
+
+// Records whose last byte is a fault, that break off, or that are lost from the first bytes on.
+fn broken_ones(t: Table, work: &mut [u8; 6144], space: &mut [u8; 65536]) {
+    long::run_two(t, work, space, b"malformed-last", b"[", b" ", b"x");
+    long::run_two(t, work, space, b"malformed-first", b"x", b" ", b"");
+    long::run_two(
+        t,
+        work,
+        space,
+        b"too-deep-last",
+        b"[[[[[[[[[[[[[[[[[[[[[[[[[[[[[[[[[[[[[[[[[[[[[[[[[[[[[[[[[[[[[[[[",
+        b" ",
+        b"[",
+    );
+    long::run_two(t, work, space, b"too-deep-first", b"", b"[", b"");
+    long::run_two(t, work, space, b"broken-off", b"[\"", b"a", b"");
+}
+
+// Buffers of k frames to the byte, with all but a byte of one more, and beyond 64 frames.
+fn buffers(t: Table, u: Table, work: &mut [u8; 12288]) {
+    nest::run_two(t, u, work, 96, 191, 1);
+    nest::run_two(t, u, work, 192, 287, 1);
+    nest::run_two(t, u, work, 5952, 6047, 61);
+    nest::run_two(t, u, work, 6048, 6143, 62);
+    nest::run_two(t, u, work, 6144, 6239, 63);
+    nest::run_two(t, u, work, 6240, 12288, 63);
+}
+
+// All of them.
+pub fn run() {
+    let t = array_book();
+    let u = object_book();
+    let mut large = [0u8; 12288];
+    buffers(t, u, &mut large);
+    nest::run_texts(t);
+    nest::pairs(t, &mut large);
+    let mut work = [0u8; 6144];
+    let mut space = [0u8; 65536];
+    sound_ones(t, &mut work, &mut space);
+    broken_ones(t, &mut work, &mut space);
+    long::pair(t, &mut work, &mut space);
+    long::head(t, &mut work, &mut space);
+}

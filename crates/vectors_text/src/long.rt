@@ -1,0 +1,130 @@
+// Records of many bytes, made from three parts: the first bytes, a unit over and over, the last bytes.
+use crate::verdicts;
+use crate::verdicts::Stream;
+use libc::STDOUT_FILENO;
+use table::Table;
+
+const BLOCK: usize = 65536;
+
+// The unit over and over, in a block.
+fn fill(space: &mut [u8; 65536], unit: &[u8]) {
+    if unit.len() == 0 {
+        return;
+    }
+    let mut i: usize = 0;
+    while i < BLOCK {
+        space[i] = unit[i % unit.len()];
+        i += 1;
+    }
+}
+
+// As many bytes as asked, of the block over and over.
+fn feed_many(t: Table, s: Stream, work: &mut [u8; 6144], block: &[u8], n: usize) -> Stream {
+    if block.len() == 0 {
+        return s;
+    }
+    let mut now = s;
+    let mut left = n;
+    while block.len() <= left {
+        now = verdicts::feed_all(t, now, work, block);
+        left -= block.len();
+    }
+    verdicts::feed_all(t, now, work, &block[..left])
+}
+
+// A record of so many bytes; nothing where its first and last bytes are more.
+fn feed_long(
+    t: Table,
+    s: Stream,
+    work: &mut [u8; 6144],
+    bytes: usize,
+    first: &[u8],
+    block: &[u8; 65536],
+    last: &[u8],
+) -> Stream {
+    if bytes < first.len() {
+        return s;
+    }
+    let rest = bytes - first.len();
+    if rest < last.len() {
+        return s;
+    }
+    let begun = verdicts::feed_all(t, s, work, first);
+    let filled = feed_many(t, begun, work, block, rest - last.len());
+    verdicts::feed_all(t, filled, work, last)
+}
+
+fn say_label(label: &[u8], bytes: usize) {
+    io::write_all(STDOUT_FILENO, label);
+    io::write_all(STDOUT_FILENO, b"-");
+    io::print_decimal(STDOUT_FILENO, bytes as u64);
+}
+
+// A record alone in its stream, with 64 frames.
+fn run(
+    t: Table,
+    work: &mut [u8; 6144],
+    space: &mut [u8; 65536],
+    label: &[u8],
+    bytes: usize,
+    first: &[u8],
+    unit: &[u8],
+    last: &[u8],
+) {
+    fill(space, unit);
+    let began = verdicts::begin(t, work);
+    let open = verdicts::feed_all(t, began, work, b"\x1e");
+    let s = feed_long(t, open, work, bytes, first, space, last);
+    let vs = verdicts::end(t, s, work);
+    say_label(label, bytes);
+    verdicts::say_all(b"", vs);
+}
+
+// A record of as many bytes as a record can have, and one of a byte more.
+pub fn run_two(
+    t: Table,
+    work: &mut [u8; 6144],
+    space: &mut [u8; 65536],
+    label: &[u8],
+    first: &[u8],
+    unit: &[u8],
+    last: &[u8],
+) {
+    run(t, work, space, label, 16777216, first, unit, last);
+    run(t, work, space, label, 16777217, first, unit, last);
+}
+
+// The same, with one of a byte less before them.
+pub fn run_three(
+    t: Table,
+    work: &mut [u8; 6144],
+    space: &mut [u8; 65536],
+    label: &[u8],
+    first: &[u8],
+    unit: &[u8],
+    last: &[u8],
+) {
+    run(t, work, space, label, 16777215, first, unit, last);
+    run_two(t, work, space, label, first, unit, last);
+}
+
+// A record that is too long, and one behind it.
+pub fn pair(t: Table, work: &mut [u8; 6144], space: &mut [u8; 65536]) {
+    fill(space, b"[\"a\",1],");
+    let began = verdicts::begin(t, work);
+    let open = verdicts::feed_all(t, began, work, b"\x1e[");
+    let s = feed_many(t, open, work, space, 16777216);
+    let last = verdicts::feed_all(t, s, work, b"\x1e[\"a\",1]");
+    let vs = verdicts::end(t, last, work);
+    verdicts::say_all(b"too-long-then-sound", vs);
+}
+
+// A head that would be too long for a record, and a record behind it.
+pub fn head(t: Table, work: &mut [u8; 6144], space: &mut [u8; 65536]) {
+    fill(space, b" ");
+    let began = verdicts::begin(t, work);
+    let s = feed_many(t, began, work, space, 16777217);
+    let last = verdicts::feed_all(t, s, work, b"\x1e[\"a\",1]");
+    let vs = verdicts::end(t, last, work);
+    verdicts::say_all(b"long-head-then-sound", vs);
+}

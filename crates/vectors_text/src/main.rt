@@ -1,0 +1,13 @@
+// Judges the published JSON vectors of data/, and then records of around 16,777,216 bytes and of around 64 levels that it makes itself, and
+// writes a line for each verdict: VECTORS.md says where the files come from, what the records are and how `stdout` is made.
+mod files; // files.rt: the files of data/
+mod limits; // limits.rt: the records around the limits
+mod long; // long.rt: records of many bytes
+mod nest; // nest.rt: records of many levels
+mod say; // say.rt: a verdict on a line
+mod verdicts; // verdicts.rt: the verdicts of a stream
+
+fn main() {
+    files::run();
+    limits::run();
+}

@@ -8,8 +8,8 @@ use lib.Dec.{eqb}
 use lib.ListN.{length}
 use borrow.Author.Tests.{eqb-true}
 use Rattle.laws.specs.Lists.{same, any}
-use Rattle.book.specs.Entry.{Form, obj, arr, Entry, edge, end-state, keysOf}
-use Rattle.book.specs.Load.{ruleOf, formIn, sameForm, changesForm, hasRule}
+use Rattle.book.specs.Entry.{Form, obj, arr, sameForm, Entry, edge, end-state, keysOf}
+use Rattle.book.specs.Load.{ruleOf, formIn, changesForm, hasRule}
 use Rattle.book.specs.Holds.{Edge, keyNumber, edgesFrom, edgesOf, formCode, ruleForm}
 use Rattle.book.proofs.TruthLaws.{eqb-sym}
 use Rattle.book.proofs.KeyLaws.{any-append, numberOf-append, keysOf-last, addKey, addKey-append}

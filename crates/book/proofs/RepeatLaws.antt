@@ -13,9 +13,9 @@ use Rattle.table.specs.declared.kind.Scalar.the-variants.{Null, True, False, St
 use Rattle.table.specs.declared.kind.ValueKind.the-variants.{Plain, Rule}
 use Rattle.table.specs.Kind.{kindOf, codeOf}
 use Rattle.table.proofs.KindLaws.{kindOf-codeOf}
-use Rattle.book.specs.Entry.{Form, obj, arr, Entry, edge, end-state}
+use Rattle.book.specs.Entry.{Form, obj, arr, sameForm, Entry, edge, end-state}
 use Rattle.book.specs.Line.{word-obj, word-arr, word-null, word-true, word-false, word-str, word-num, word-int, word-end, dash, isForm, formOf, isVisible, isKey, keyOf, behindR, isPlain, isKind, kindIn, formed, small, entryOf, bad, good, sayFields, sayParts, sayLine}
-use Rattle.book.specs.Load.{sameForm, sameEntry}
+use Rattle.book.specs.Load.{sameEntry}
 use Rattle.book.specs.Text.{onto, split, isNumber, number}
 use Rattle.book.proofs.TruthLaws.{true-not-false, and-true}
 use Rattle.book.proofs.KeyLaws.{same-self, same-eq}

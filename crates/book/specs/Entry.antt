@@ -1,5 +1,5 @@
 -- What the lines of a book say: 01, "Rule books". Stated. Assumes nothing.
-use mathlib.Core.Bool.{Bool, false, not, cond, _&&_}
+use mathlib.Core.Bool.{Bool, true, false, not, cond, _&&_}
 use mathlib.Core.List.{List, [], _∷_, _++_}
 use Prim.Native.Nat.{ℕ, suc}
 use lib.Dec.{eqb, ltb}
@@ -9,6 +9,13 @@ use Rattle.table.specs.declared.kind.ValueKind.{ValueKind}
 -- `obj` or `arr`
 pub data Form : Type 0 where
   obj arr : Form
+
+-- two forms are the same
+unfoldable pub sameForm : Form → Form → Bool
+sameForm obj obj = true
+sameForm obj arr = false
+sameForm arr obj = false
+sameForm arr arr = true
 
 -- a line: an edge, or an end state. An edge has rule, form, state, key, value and next; in `arr` the key is none, []
 pub data Entry : Type 0 where

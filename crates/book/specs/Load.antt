@@ -8,7 +8,7 @@ use Rattle.laws.specs.Ascii.{ascii}
 use Rattle.laws.specs.Lists.{same, any}
 use Rattle.table.specs.declared.kind.ValueKind.the-variants.{Plain, Rule}
 use Rattle.table.specs.Kind.{codeOf}
-use Rattle.book.specs.Entry.{Form, obj, arr, Entry, edge, end-state, keysOf, clash}
+use Rattle.book.specs.Entry.{Form, obj, arr, sameForm, Entry, edge, end-state, keysOf, clash}
 use Rattle.book.specs.Text.{isEmpty, split}
 use Rattle.book.specs.Line.{Said, bad, good, sayLine}
 
@@ -23,13 +23,6 @@ ruleOf (end-state r f q) = r
 unfoldable pub formIn : Entry → Form
 formIn (edge r f q k v m) = f
 formIn (end-state r f q) = f
-
--- two forms are the same
-unfoldable pub sameForm : Form → Form → Bool
-sameForm obj obj = true
-sameForm obj arr = false
-sameForm arr obj = false
-sameForm arr arr = true
 
 -- two entries say the same: their lines are the same bytes (`RepeatLaws.sameEntry-lines`). Kinds are told apart by their codes
 unfoldable pub sameEntry : Entry → Entry → Bool

@@ -9,7 +9,7 @@ use lib.Dec.{T, eqb}
 use lib.Pow.{shl-shr, shr-shr, pow-mono}
 use borrow.Author.Tests.{lt-ltb, le-ltb, ne-eqb}
 use Rattle.laws.specs.Tab.{every}
-use Rattle.laws.proofs.BitLaws.{eq-of-beq}
+use Rattle.laws.proofs.TestLaws.{eq-of-beq}
 use Rattle.laws.proofs.TabLaws.{T-of-every}
 use Rattle.table.specs.Kind.{kindOf, ruleFits}
 use Rattle.table.specs.declared.kind.Scalar.{Scalar}

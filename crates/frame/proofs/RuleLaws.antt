@@ -16,8 +16,8 @@ use borrow.Author.Tests.{lt-ltb, le-ltb, eqb-true, eqb-false}
 use Rattle.laws.specs.Bits.{bitAt}
 use Rattle.laws.specs.Lists.{any}
 use Rattle.laws.specs.Tab.{tab}
-use Rattle.laws.proofs.BitLaws.{bit-bitAnd, bit-bitOr, nonzero-bits, ltb-iff, T-or-left, T-or-right}
-use Rattle.laws.proofs.TestLaws.{T-of-true, T-and, T-and-left, T-and-right, T-or-elim, cond-elim}
+use Rattle.laws.proofs.BitLaws.{bit-bitAnd, bit-bitOr, nonzero-bits, ltb-iff}
+use Rattle.laws.proofs.TestLaws.{T-of-true, T-and, T-and-left, T-and-right, T-or-elim, T-or-left, T-or-right, cond-elim}
 use Rattle.table.specs.Kind.{ruleFits}
 use Rattle.frame.specs.Edges.{hasForm}
 use Rattle.frame.specs.Ops.{ended, accepting, ruleSet}

@@ -18,23 +18,7 @@ use Rattle.laws.specs.Bits.{bitAt, setBit, setAll}
 use Rattle.laws.specs.Lists.{any}
 use Rattle.laws.specs.Tab.{tab}
 use Rattle.laws.proofs.TabLaws.{T-of-every}
-use Rattle.laws.proofs.TestLaws.{true-of-T, T-or-elim, cond-elim, cond-yes}
-
--- two tests that are computed to be the same are equal
-pub eq-of-beq : (a b : Bool) → T (Bool·beq a b) → a ≡ b
-eq-of-beq true true t = refl
-eq-of-beq true false t = absurd t
-eq-of-beq false true t = absurd t
-eq-of-beq false false t = refl
-
--- either of two tests gives the disjunction
-pub T-or-left : (a b : Bool) → T a → T (a || b)
-T-or-left true b t = tt
-T-or-left false b t = absurd t
-
-pub T-or-right : (a b : Bool) → T b → T (a || b)
-T-or-right true b t = tt
-T-or-right false b t = t
+use Rattle.laws.proofs.TestLaws.{true-of-T, eq-of-beq, T-or-right, T-or-elim, cond-elim, cond-yes}
 
 -- ---- the bits of a number
 

@@ -15,9 +15,9 @@ use Rattle.table.specs.declared.Table.{Table}
 use Rattle.table.specs.declared.kind.ValueKind.{ValueKind}
 use Rattle.table.specs.Kind.{codeOf}
 use Rattle.table.specs.Limits.{WithinLimits}
-use Rattle.book.specs.Entry.{Form, Entry, edge, end-state, withKey as addedKey, keysFrom, keysOf}
+use Rattle.book.specs.Entry.{Form, sameForm, Entry, edge, end-state, withKey as addedKey, keysFrom, keysOf}
 use Rattle.book.specs.Text.{isEmpty}
-use Rattle.book.specs.Load.{ruleOf, formIn, sameForm, sameEntry, changesForm, isEdge, edgeCount, tooMany, faultOf}
+use Rattle.book.specs.Load.{ruleOf, formIn, sameEntry, changesForm, isEdge, edgeCount, tooMany, faultOf}
 use Rattle.book.specs.Holds.{tableEdges, tableKeys, keyNumber, edgesFrom, edgesOf, formCode, ruleForm, endsAt, Holds}
 use Rattle.book.proofs.KeyLaws.{any-last, numberOf-new, numberOf-eqb, keyNumber-withKey, key-in-withKey, addKey-append, keysOf-last}
 use Rattle.book.proofs.HoldLaws.{Each, each-map, each-append, KeyAmong, KeyIn, keyIn-append, edgesOf-last, formCode-some, sameForm-codes, form-of-code, ruleForm-last, FormKept, changesForm-ruleForm}

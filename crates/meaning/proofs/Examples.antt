@@ -9,14 +9,13 @@ use borrow.Author.Tests.{eq-eqb}
 use Rattle.laws.specs.Bits.{bitAt}
 use Rattle.laws.specs.Lists.{same, all, any}
 use Rattle.laws.specs.Tab.{every}
-use Rattle.laws.proofs.BitLaws.{eq-of-beq}
 use Rattle.laws.proofs.TabLaws.{T-of-every, eq-of-every}
-use Rattle.laws.proofs.TestLaws.{T-and-left, T-and-right}
+use Rattle.laws.proofs.TestLaws.{eq-of-beq, T-and-left, T-and-right}
 use Rattle.table.specs.Kind.{codeOf}
 use Rattle.table.specs.declared.Table.{Table}
 use Rattle.table.specs.declared.kind.ValueKind.{ValueKind}
-use Rattle.book.specs.Entry.{Form, obj, arr, Entry, edge, end-state, withKey, keysFrom, keysOf, numberOf}
-use Rattle.book.specs.Load.{ruleOf, formIn, sameForm, changesForm}
+use Rattle.book.specs.Entry.{Form, obj, arr, sameForm, Entry, edge, end-state, withKey, keysFrom, keysOf, numberOf}
+use Rattle.book.specs.Load.{ruleOf, formIn, changesForm}
 use Rattle.book.specs.Holds.{tableEdges, tableKeys, keyNumber, edgesFrom, edgesOf, formCode, ruleForm, endsAt, Holds}
 use Rattle.runs.specs.Examples.{bookB}
 use Rattle.laws.proofs.ListLaws.{T-of-all}

@@ -11,11 +11,11 @@ use borrow.Author.Tests.{eqb-true, eqb-false}
 use Rattle.laws.specs.Lists.{any}
 use Rattle.laws.proofs.TestLaws.{T-and-right}
 use Rattle.table.specs.declared.Table.{Table}
-use Rattle.book.specs.Entry.{Form, obj, arr, Entry, edge, end-state}
+use Rattle.book.specs.Entry.{Form, obj, arr, sameForm, Entry, edge, end-state}
 use Rattle.book.specs.Load.{ruleOf, formIn}
 use Rattle.book.specs.Holds.{formCode, ruleForm}
 use Rattle.runs.specs.Runs.{_∈_}
-use Rattle.runs.specs.Walk.{sameForm, isOf, startOf}
+use Rattle.runs.specs.Walk.{isOf, startOf}
 use Rattle.laws.proofs.ListLaws.{member-of-any}
 use Rattle.runs.proofs.StateLaws.{start-of-edge, start-of-end, zero-of-start}
 use Rattle.frame.specs.Edges.{hasForm}

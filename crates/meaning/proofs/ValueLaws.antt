@@ -9,8 +9,7 @@ use native.Mathlib.Omega.{arith}
 use lib.Dec.{T, ltb, ltb→lt, lt→ltb}
 use lib.ListN.{getD}
 use borrow.Author.Tests.{lt-ltb, le-ltb}
-use Rattle.laws.proofs.BitLaws.{T-or-left, T-or-right}
-use Rattle.laws.proofs.TestLaws.{T-and, T-and-left, T-and-right, T-or-elim}
+use Rattle.laws.proofs.TestLaws.{T-and, T-and-left, T-and-right, T-or-elim, T-or-left, T-or-right}
 use Rattle.table.specs.declared.Table.{Table}
 use Rattle.table.specs.declared.kind.Finished.{Finished}
 use Rattle.table.specs.declared.kind.ValueKind.{ValueKind}

@@ -8,10 +8,10 @@ use Rattle.laws.proofs.TestLaws.{T-and-left, T-and-right, eq-of-beq}
 use Rattle.laws.proofs.ListLaws.{T-of-all}
 use Rattle.json.specs.Meaning.{meaning}
 use Rattle.table.specs.declared.kind.ValueKind.the-variants.{Rule}
-use Rattle.book.specs.Entry.{withKey, keysFrom, keysOf, numberOf, clash}
+use Rattle.book.specs.Entry.{sameForm, withKey, keysFrom, keysOf, numberOf, clash}
 use Rattle.runs.specs.Runs.{beginsPart, Valid}
 use Rattle.runs.specs.Sound.{isKeyed, isSound}
-use Rattle.runs.specs.Walk.{ofScalar, ofRules, ofWord, sameForm, isOf, asks, ofArray, hasKey, anyEdge, leads, endsIn, startOf, moved, ended, afterElement, keyCount, numberIn, atOpening, afterKey, fitsEdge, afterValue, useKey, walk, objectFits, judging}
+use Rattle.runs.specs.Walk.{ofScalar, ofRules, ofWord, isOf, asks, ofArray, hasKey, anyEdge, leads, endsIn, startOf, moved, ended, afterElement, keyCount, numberIn, atOpening, afterKey, fitsEdge, afterValue, useKey, walk, objectFits, judging}
 use Rattle.runs.specs.Examples.{Row, rows}
 use Rattle.runs.proofs.SoundLaws.{sound-of-isSound}
 use Rattle.runs.proofs.Judging.{valid-iff-judged, invalid-iff-judged}

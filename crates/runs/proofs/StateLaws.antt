@@ -8,9 +8,9 @@ use Rattle.laws.specs.Lists.{any}
 use Rattle.laws.proofs.TestLaws.{T-and, T-and-left, T-and-right}
 use Rattle.laws.proofs.ListLaws.{any-of-member, member-of-any}
 use Rattle.table.specs.declared.kind.ValueKind.{ValueKind}
-use Rattle.book.specs.Entry.{Form, obj, arr, Entry, edge, end-state}
+use Rattle.book.specs.Entry.{Form, obj, arr, sameForm, Entry, edge, end-state}
 use Rattle.runs.specs.Runs.{_∈_}
-use Rattle.runs.specs.Walk.{sameForm, isOf, asks, ofArray, States, leads, endsIn, startOf, moved, ended, afterElement}
+use Rattle.runs.specs.Walk.{isOf, asks, ofArray, States, leads, endsIn, startOf, moved, ended, afterElement}
 use Rattle.runs.proofs.EdgeLaws.{EdgeFrom, anyEdge-of-edge, edge-of-anyEdge, member-of-edge, edge-of-member}
 
 sameForm-refl : (f : Form) → T (sameForm f f)

@@ -13,7 +13,7 @@ use Rattle.table.specs.declared.kind.Scalar.{Scalar}
 use Rattle.table.specs.declared.kind.Scalar.the-variants.{Null, True, False, Str, Num, Int}
 use Rattle.table.specs.declared.kind.ValueKind.{ValueKind}
 use Rattle.table.specs.declared.kind.ValueKind.the-variants.{Plain, Rule}
-use Rattle.book.specs.Entry.{Form, obj, arr, Entry, edge, end-state, keysOf, numberOf}
+use Rattle.book.specs.Entry.{Form, obj, arr, sameForm, Entry, edge, end-state, keysOf, numberOf}
 use Rattle.runs.specs.Runs.{beginsPart}
 
 -- ---- finished values: which kinds each fits
@@ -35,13 +35,6 @@ ofWord true-word = ofScalar True
 ofWord false-word = ofScalar False
 
 -- ---- tests of entries
-
--- two forms are the same
-unfoldable pub sameForm : Form → Form → Bool
-sameForm obj obj = true
-sameForm obj arr = false
-sameForm arr obj = false
-sameForm arr arr = true
 
 -- an entry of rule n, which has form f
 unfoldable pub isOf : Form → ℕ → Entry → Bool

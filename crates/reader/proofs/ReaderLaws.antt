@@ -202,7 +202,7 @@ lent-serves (To.Number s) t m x = refl
 lent-serves To.Close t m x = refl
 lent-serves (To.NumberClose s) t m x = refl
 
-pub turned-of-lent : (t : Table) (n : ℕ) (m : Mem) (b : ℕ) (st : Step) (bytes : List ℕ) (k : Mem) → bytes ≡ t .«key_bytes»
-    → k ≡ turned (lent (t .edges) (t .keys) (t .«edge_rule») (t .«edge_state») (t .«edge_key») (t .«edge_kind») (t .«edge_next») bytes (t .«key_len») (t .ends) (t .forms)) n m b st
+pub turned-of-lent : (t : Table) (n : ℕ) (m : Mem) (b : ℕ) (st : Step) (k : Mem)
+    → k ≡ turned (lent (t .edges) (t .keys) (t .«edge_rule») (t .«edge_state») (t .«edge_key») (t .«edge_kind») (t .«edge_next») (t .«key_bytes») (t .«key_len») (t .ends) (t .forms)) n m b st
     → k ≡ turned t n m b st
-turned-of-lent t n m b st bytes k e h = (rw e at h) ∙ lent-serves (advanced (m .lex) n b st .task) t m (advanced (m .lex) n b st .lex)
+turned-of-lent t n m b st k h = h ∙ lent-serves (advanced (m .lex) n b st .task) t m (advanced (m .lex) n b st .lex)

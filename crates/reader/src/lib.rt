@@ -205,13 +205,6 @@ fn whole_key(key: [u8; 32]) -> [u8; 32]
     key
 }
 
-// The bytes of a table's keys, with their number.
-fn whole_bytes(bytes: [u8; 4096]) -> [u8; 4096]
-    ensures { λ r. ⌜ (r ≡ bytes) × (length r ≡ 4096) ⌝ }
-{
-    bytes
-}
-
 impl Reader {
     // the bytes of a frame, and the most levels
     pub const FRAME: usize = 96;
@@ -304,8 +297,6 @@ pub fn feed(r: Reader, t: Table, work: &mut [u8], piece: &[u8]) -> Fed
     let mut root = r.root;
     let kept = r.key;
     let mut key = whole_key(kept);
-    let names = t.key_bytes;
-    let bytes = whole_bytes(names);
     let mut i = 0;
     while i < piece.len() {
         let k = pass::keep(&classes, lex, &mut key, piece, i);
@@ -338,7 +329,7 @@ pub fn feed(r: Reader, t: Table, work: &mut [u8], piece: &[u8]) -> Fed
             &t.edge_key,
             &t.edge_kind,
             &t.edge_next,
-            &bytes,
+            &t.key_bytes,
             &t.key_len,
             &t.ends,
             &t.forms,

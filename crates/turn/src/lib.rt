@@ -126,13 +126,13 @@ pub fn turn<'a>(
     edge_keys: &'a [u8; 512],
     kinds: &'a [u8; 512],
     nexts: &'a [u8; 512],
-    bytes: &'a [u8],
+    bytes: &'a [u8; 4096],
     lens: &'a [u8; 128],
     ends: &'a [u8; 64],
     forms: &'a [u8; 32],
     b: u8,
 ) -> Turned
-    requires { ⌜ (keys ≤ 128) × Lens (now lens) × (length (now bytes) ≡ 4096) × (length (now key) ≡ 32) ⌝ }
+    requires { ⌜ (keys ≤ 128) × Lens (now lens) × (length (now key) ≡ 32) ⌝ }
     ensures { λ r. ⌜ mem (r .lex) (r .root) (now (key .exit)) (now (work .exit)) ≡ turned (lent edges keys (now (rules .entry)) (now (states .entry)) (now («edge_keys» .entry)) (now (kinds .entry)) (now (nexts .entry)) (now (bytes .entry)) (now (lens .entry)) (now (ends .entry)) (now (forms .entry))) frames (mem x root (now (key .entry)) (now (work .entry))) b st ⌝ }
 {
     let level = x.level;

@@ -10,7 +10,7 @@ use Rattle.turn.proofs.turn.Tie as tie
 
 returns : tie.Need-returns
 returns c =
-    let g = c .before .before .before .before .before .before .before .args in
+    let g = c .before .before .before .before .before .before .args in
     let t : Table = lent (g .edges) (g .keys) (g .rules .now) (g .states .now) (g .edge-keys .now) (g .kinds .now) (g .nexts .now) (g .bytes .now) (g .lens .now) (g .ends .now) (g .forms .now) in
     let m : Mem = mem (g .x) (g .root) (g .key .now) (g .work .now) in
     let a = c .before .before .before .advance .result in
@@ -18,7 +18,7 @@ returns c =
 
 returns-2 : tie.Need-returns-2
 returns-2 c =
-    let g = c .before .before .before .before .before .before .before .before .before .before .before .before .args in
+    let g = c .before .before .before .before .before .before .before .before .before .before .before .args in
     let t : Table = lent (g .edges) (g .keys) (g .rules .now) (g .states .now) (g .edge-keys .now) (g .kinds .now) (g .nexts .now) (g .bytes .now) (g .lens .now) (g .ends .now) (g .forms .now) in
     let m : Mem = mem (g .x) (g .root) (g .key .now) (g .work .now) in
     let a = c .before .before .before .before .before .before .before .before .advance .result in
@@ -29,12 +29,12 @@ returns-3 c =
     let g = c .before .before .before .before .before .before .before .before .before .before .before .before .before .args in
     let t : Table = lent (g .edges) (g .keys) (g .rules .now) (g .states .now) (g .edge-keys .now) (g .kinds .now) (g .nexts .now) (g .bytes .now) (g .lens .now) (g .ends .now) (g .forms .now) in
     let m : Mem = mem (g .x) (g .root) (g .key .now) (g .work .now) in
-    let a = c .before .before .before .before .before .before .before .before .before .advance .result in
-    turn-by t (g .frames) m (g .b) (g .st) a (c .before .before .before .before .before .before .before .before .before .advance .ensures) _ _ (c .before .before .before .before .before .before .enum-told2 .given .1) (named-done t m (a .lex) _ _ (c .before .before .before .before .key-found .ensures) (c .before .before .key-level .ensures))
+    let a = c .before .before .before .before .before .before .before .before .before .before .advance .result in
+    turn-by t (g .frames) m (g .b) (g .st) a (c .before .before .before .before .before .before .before .before .before .before .advance .ensures) _ _ (c .before .before .before .before .before .before .before .enum-told2 .given .1) (named-done t m (a .lex) _ _ (c .before .before .before .before .key-found .ensures) (c .before .before .key-level .ensures))
 
 returns-4 : tie.Need-returns-4
 returns-4 c =
-    let g = c .before .before .before .before .before .before .before .before .before .before .before .args in
+    let g = c .before .before .before .before .before .before .before .before .before .before .args in
     let t : Table = lent (g .edges) (g .keys) (g .rules .now) (g .states .now) (g .edge-keys .now) (g .kinds .now) (g .nexts .now) (g .bytes .now) (g .lens .now) (g .ends .now) (g .forms .now) in
     let m : Mem = mem (g .x) (g .root) (g .key .now) (g .work .now) in
     let a = c .before .before .before .before .before .before .before .advance .result in
@@ -42,7 +42,7 @@ returns-4 c =
 
 returns-5 : tie.Need-returns-5
 returns-5 c =
-    let g = c .before .before .before .before .before .before .before .before .before .before .before .args in
+    let g = c .before .before .before .before .before .before .before .before .before .before .args in
     let t : Table = lent (g .edges) (g .keys) (g .rules .now) (g .states .now) (g .edge-keys .now) (g .kinds .now) (g .nexts .now) (g .bytes .now) (g .lens .now) (g .ends .now) (g .forms .now) in
     let m : Mem = mem (g .x) (g .root) (g .key .now) (g .work .now) in
     let a = c .before .before .before .before .before .before .before .advance .result in
@@ -50,7 +50,7 @@ returns-5 c =
 
 returns-6 : tie.Need-returns-6
 returns-6 c =
-    let g = c .before .before .before .before .before .before .before .before .before .before .before .before .args in
+    let g = c .before .before .before .before .before .before .before .before .before .before .before .args in
     let t : Table = lent (g .edges) (g .keys) (g .rules .now) (g .states .now) (g .edge-keys .now) (g .kinds .now) (g .nexts .now) (g .bytes .now) (g .lens .now) (g .ends .now) (g .forms .now) in
     let m : Mem = mem (g .x) (g .root) (g .key .now) (g .work .now) in
     let a = c .before .before .before .before .before .before .before .before .advance .result in
@@ -58,7 +58,7 @@ returns-6 c =
 
 returns-7 : tie.Need-returns-7
 returns-7 c =
-    let g = c .before .before .before .before .before .before .before .before .before .before .before .before .args in
+    let g = c .before .before .before .before .before .before .before .before .before .before .before .args in
     let t : Table = lent (g .edges) (g .keys) (g .rules .now) (g .states .now) (g .edge-keys .now) (g .kinds .now) (g .nexts .now) (g .bytes .now) (g .lens .now) (g .ends .now) (g .forms .now) in
     let m : Mem = mem (g .x) (g .root) (g .key .now) (g .work .now) in
     let a = c .before .before .before .before .before .before .before .before .advance .result in
@@ -66,7 +66,7 @@ returns-7 c =
 
 returns-8 : tie.Need-returns-8
 returns-8 c =
-    let g = c .before .before .before .before .before .before .before .before .before .before .before .args in
+    let g = c .before .before .before .before .before .before .before .before .before .before .args in
     let t : Table = lent (g .edges) (g .keys) (g .rules .now) (g .states .now) (g .edge-keys .now) (g .kinds .now) (g .nexts .now) (g .bytes .now) (g .lens .now) (g .ends .now) (g .forms .now) in
     let m : Mem = mem (g .x) (g .root) (g .key .now) (g .work .now) in
     let a = c .before .before .before .before .before .before .before .advance .result in
@@ -74,7 +74,7 @@ returns-8 c =
 
 returns-9 : tie.Need-returns-9
 returns-9 c =
-    let g = c .before .before .before .before .before .before .before .before .before .before .before .before .before .before .before .before .args in
+    let g = c .before .before .before .before .before .before .before .before .before .before .before .before .before .before .before .args in
     let t : Table = lent (g .edges) (g .keys) (g .rules .now) (g .states .now) (g .edge-keys .now) (g .kinds .now) (g .nexts .now) (g .bytes .now) (g .lens .now) (g .ends .now) (g .forms .now) in
     let m : Mem = mem (g .x) (g .root) (g .key .now) (g .work .now) in
     let a = c .before .before .before .before .before .before .before .before .before .before .before .before .advance .result in

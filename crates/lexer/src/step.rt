@@ -46,7 +46,7 @@ fn stay(p: Place) -> Step
 }
 
 // A blank.
-fn is_blank(b: u8) -> bool
+pub fn is_blank(b: u8) -> bool
     ensures { λ r. ⌜ r ≡ isBlank b ⌝ }
 {
     if b == 0x20 {

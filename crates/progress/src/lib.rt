@@ -1,14 +1,12 @@
 // The open record, byte by byte: what the reader knows of it, its frames and the bytes of its key aside.
 ghost use mathlib.Core.Path.{_≡_};
 ghost use Prim.Native.Nat.{_-_};
-ghost use Rattle.lexer.specs.Given.{stepBy};
-ghost use Rattle.lexer.specs.Table.{classAt};
-ghost use Rattle.progress.specs.Lex.{bump, counted, faulted, bitsIn, highIn, charIn, moved, opening, keyChar, numberKind, ended, closing, scalarOf, acted, sound, afterHead, advanced, judged, wholeAt, wholeNumber, wholeIn, whole};
+ghost use Rattle.progress.specs.Act.{openFault, openLevel, keyLen, keyTask, firstFault, levelAfter, lenAfter, taskOf};
+ghost use Rattle.progress.specs.Lex.{bump, counted, faulted, bitsIn, highIn, charIn, moved, numberKind, ended, closing, scalarOf, acted, sound, afterHead, advanced, judged, wholeAt, wholeNumber, wholeIn, whole};
 use json::lexer::Act;
 use json::lexer::Mode;
 use json::lexer::Place;
 use json::lexer::Step;
-use json::lexer::Top;
 use json::number::NumberMode;
 use json::word::Word;
 use table::kind::Scalar;
@@ -120,7 +118,7 @@ fn faulted(x: Lex, f: Fault) -> Advanced
 }
 
 // The bits of the open character after byte b.
-fn bits_in(m: Mode, bits: u32, b: u8) -> u32
+pub fn bits_in(m: Mode, bits: u32, b: u8) -> u32
     ensures { λ r. ⌜ r ≡ bitsIn m bits b ⌝ }
 {
     match m {
@@ -133,7 +131,7 @@ fn bits_in(m: Mode, bits: u32, b: u8) -> u32
 }
 
 // The high surrogate after byte b.
-fn high_in(m: Mode, bits: u32, high: u32, b: u8) -> u32
+pub fn high_in(m: Mode, bits: u32, high: u32, b: u8) -> u32
     ensures { λ r. ⌜ r ≡ highIn m bits high b ⌝ }
 {
     match m {
@@ -177,39 +175,50 @@ fn moved(x: Lex, b: u8, m: Mode, level: usize, len: u8) -> Lex
     }
 }
 
-// A byte that opens a value, where the buffer has a frame for it.
-fn opening(x: Lex, frames: usize, b: u8, m: Mode, task: Task) -> Advanced
-    ensures { λ r. ⌜ r ≡ opening x frames b m task ⌝ }
+// A value that is opened is too deep where the buffer has no frame for it.
+fn open_fault(level: usize, frames: usize) -> Fault
+    ensures { λ r. ⌜ r ≡ openFault level frames ⌝ }
 {
-    if x.level < frames {
-        return Advanced {
-            lex: moved(x, b, m, x.level + 1, x.len),
-            task: task,
-        };
+    if level < frames {
+        return Fault::Sound;
     }
-    faulted(x, Fault::TooDeep)
+    Fault::TooDeep
 }
 
-// A finished character of a key: a book's key has at most 32, each below 128.
-fn key_char(x: Lex, b: u8, m: Mode, c: u32) -> Advanced
-    ensures { λ r. ⌜ r ≡ keyChar x b m c ⌝ }
+// The levels behind it.
+fn open_level(level: usize, frames: usize) -> usize
+    ensures { λ r. ⌜ r ≡ openLevel level frames ⌝ }
 {
-    if x.len < 32 {
+    if level < frames {
+        return level + 1;
+    }
+    level
+}
+
+// How many characters of a key are kept behind a finished one: a book's key has at most 32, each below 128.
+pub fn key_len(len: u8, c: u32) -> u8
+    ensures { λ r. ⌜ r ≡ keyLen len c ⌝ }
+{
+    if len < 32 {
         if c < 128 {
-            return Advanced {
-                lex: moved(x, b, m, x.level, x.len + 1),
-                task: Task::Put((c % 256) as u8),
-            };
+            return len + 1;
         }
-        return Advanced {
-            lex: moved(x, b, m, x.level, 33),
-            task: Task::Idle,
-        };
+        return 33;
     }
-    Advanced {
-        lex: moved(x, b, m, x.level, 33),
-        task: Task::Idle,
+    33
+}
+
+// Such a character is put to the key.
+fn key_task(len: u8, c: u32) -> Task
+    ensures { λ r. ⌜ r ≡ keyTask len c ⌝ }
+{
+    if len < 32 {
+        if c < 128 {
+            return Task::Put((c % 256) as u8);
+        }
+        return Task::Idle;
     }
+    Task::Idle
 }
 
 // The kind of a number that ends in a mode: written without fraction and exponent part, or not.
@@ -265,59 +274,114 @@ fn closing(ends: bool, m: Mode) -> Task
     Task::Close
 }
 
-// What a step of the lexer does to the record.
+// The fault of an act, if it is one.
+fn first_fault(a: Act, level: usize, frames: usize) -> Fault
+    ensures { λ r. ⌜ r ≡ firstFault a level frames ⌝ }
+{
+    match a {
+        Act::Fault => Fault::Malformed,
+        Act::Pass => Fault::Sound,
+        Act::OpenArray => open_fault(level, frames),
+        Act::OpenObject => open_fault(level, frames),
+        Act::Close => Fault::Sound,
+        Act::KeyStart => Fault::Sound,
+        Act::KeyChar => Fault::Sound,
+        Act::KeyEnd => Fault::Sound,
+        Act::TextStart => Fault::Sound,
+        Act::TextChar => Fault::Sound,
+        Act::TextEnd => Fault::Sound,
+        Act::NumberStart => Fault::Sound,
+        Act::NumberByte => Fault::Sound,
+        Act::WordEnd(_) => Fault::Sound,
+    }
+}
+
+// How many values are open behind an act.
+fn level_after(a: Act, level: usize, frames: usize) -> usize
+    ensures { λ r. ⌜ r ≡ levelAfter a level frames ⌝ }
+{
+    match a {
+        Act::Fault => level,
+        Act::Pass => level,
+        Act::OpenArray => open_level(level, frames),
+        Act::OpenObject => open_level(level, frames),
+        Act::Close => down(level),
+        Act::KeyStart => level,
+        Act::KeyChar => level,
+        Act::KeyEnd => level,
+        Act::TextStart => level,
+        Act::TextChar => level,
+        Act::TextEnd => level,
+        Act::NumberStart => level,
+        Act::NumberByte => level,
+        Act::WordEnd(_) => level,
+    }
+}
+
+// How many characters of the key are kept behind an act; c is the one that it finishes.
+fn len_after(a: Act, len: u8, c: u32) -> u8
+    ensures { λ r. ⌜ r ≡ lenAfter a len c ⌝ }
+{
+    match a {
+        Act::Fault => len,
+        Act::Pass => len,
+        Act::OpenArray => len,
+        Act::OpenObject => len,
+        Act::Close => len,
+        Act::KeyStart => 0,
+        Act::KeyChar => key_len(len, c),
+        Act::KeyEnd => len,
+        Act::TextStart => len,
+        Act::TextChar => len,
+        Act::TextEnd => len,
+        Act::NumberStart => len,
+        Act::NumberByte => len,
+        Act::WordEnd(_) => len,
+    }
+}
+
+// What is to be done at an act in a mode.
+fn task_of(a: Act, ends: bool, from: Mode, len: u8, c: u32) -> Task
+    ensures { λ r. ⌜ r ≡ taskOf a ends from len c ⌝ }
+{
+    match a {
+        Act::Fault => Task::Idle,
+        Act::Pass => ended(ends, from),
+        Act::OpenArray => Task::OpenArray,
+        Act::OpenObject => Task::OpenObject,
+        Act::Close => closing(ends, from),
+        Act::KeyStart => Task::Idle,
+        Act::KeyChar => key_task(len, c),
+        Act::KeyEnd => Task::Named,
+        Act::TextStart => Task::Idle,
+        Act::TextChar => Task::Idle,
+        Act::TextEnd => Task::Finish(Scalar::Str),
+        Act::NumberStart => Task::Idle,
+        Act::NumberByte => Task::Idle,
+        Act::WordEnd(w) => Task::Finish(scalar_of(w)),
+    }
+}
+
+// What a step of the lexer does to the record. There is one call of `moved`, so that it is inlined.
 fn acted(x: Lex, frames: usize, b: u8, st: Step) -> Advanced
     ensures { λ r. ⌜ r ≡ acted (st .act) (st .ends) x frames b (st .mode) ⌝ }
 {
     let a = st.act;
     let m = st.mode;
-    let e = st.ends;
     let from = x.mode;
-    match a {
-        Act::Fault => faulted(x, Fault::Malformed),
-        Act::Pass => Advanced {
-            lex: moved(x, b, m, x.level, x.len),
-            task: ended(e, from),
-        },
-        Act::OpenArray => opening(x, frames, b, m, Task::OpenArray),
-        Act::OpenObject => opening(x, frames, b, m, Task::OpenObject),
-        Act::Close => Advanced {
-            lex: moved(x, b, m, down(x.level), x.len),
-            task: closing(e, from),
-        },
-        Act::KeyStart => Advanced {
-            lex: moved(x, b, m, x.level, 0),
-            task: Task::Idle,
-        },
-        Act::KeyChar => key_char(x, b, m, char_in(from, x.bits, x.high, b)),
-        Act::KeyEnd => Advanced {
-            lex: moved(x, b, m, x.level, x.len),
-            task: Task::Named,
-        },
-        Act::TextStart => Advanced {
-            lex: moved(x, b, m, x.level, x.len),
-            task: Task::Idle,
-        },
-        Act::TextChar => Advanced {
-            lex: moved(x, b, m, x.level, x.len),
-            task: Task::Idle,
-        },
-        Act::TextEnd => Advanced {
-            lex: moved(x, b, m, x.level, x.len),
-            task: Task::Finish(Scalar::Str),
-        },
-        Act::NumberStart => Advanced {
-            lex: moved(x, b, m, x.level, x.len),
-            task: Task::Idle,
-        },
-        Act::NumberByte => Advanced {
-            lex: moved(x, b, m, x.level, x.len),
-            task: Task::Idle,
-        },
-        Act::WordEnd(w) => Advanced {
-            lex: moved(x, b, m, x.level, x.len),
-            task: Task::Finish(scalar_of(w)),
-        },
+    let f = first_fault(a, x.level, frames);
+    match f {
+        Fault::Sound => {
+            let c = char_in(from, x.bits, x.high, b);
+            let level = level_after(a, x.level, frames);
+            Advanced {
+                lex: moved(x, b, m, level, len_after(a, x.len, c)),
+                task: task_of(a, st.ends, from, x.len, c),
+            }
+        }
+        Fault::Malformed => faulted(x, Fault::Malformed),
+        Fault::TooDeep => faulted(x, Fault::TooDeep),
+        Fault::TooLong => faulted(x, Fault::TooLong),
     }
 }
 
@@ -332,12 +396,11 @@ fn down(level: usize) -> usize
 }
 
 // A byte of a record without a fault so far.
-fn sound(classes: &[u8; 256], x: Lex, frames: usize, top: Top, b: u8) -> Advanced
-    ensures { λ r. ⌜ r ≡ sound x frames b (stepBy (classAt (now (classes .entry)) b) (x .mode) top b) ⌝ }
+fn sound(x: Lex, frames: usize, b: u8, st: Step) -> Advanced
+    ensures { λ r. ⌜ r ≡ sound x frames b st ⌝ }
 {
     if x.pos < 16777216 {
-        let m = x.mode;
-        return acted(x, frames, b, lexer::step::step(classes, m, top, b));
+        return acted(x, frames, b, st);
     }
     faulted(x, Fault::TooLong)
 }
@@ -361,9 +424,9 @@ fn after_head(x: Lex) -> Lex
     }
 }
 
-// A byte that ends no record: the record behind it, and what is to be done to its key and frames.
-pub fn advance(classes: &[u8; 256], x: Lex, frames: usize, top: Top, b: u8) -> Advanced
-    ensures { λ r. ⌜ r ≡ advanced x frames b (stepBy (classAt (now (classes .entry)) b) (x .mode) top b) ⌝ }
+// A byte that ends no record, of which the lexer makes a step: the record behind it, and what is to be done to its key and frames.
+pub fn advance(x: Lex, frames: usize, b: u8, st: Step) -> Advanced
+    ensures { λ r. ⌜ r ≡ advanced x frames b st ⌝ }
 {
     if b == 0x1E {
         return Advanced {
@@ -376,7 +439,7 @@ pub fn advance(classes: &[u8; 256], x: Lex, frames: usize, top: Top, b: u8) -> A
     }
     let f = x.fault;
     match f {
-        Fault::Sound => sound(classes, x, frames, top, b),
+        Fault::Sound => sound(x, frames, b, st),
         Fault::Malformed => counted(x),
         Fault::TooDeep => counted(x),
         Fault::TooLong => counted(x),

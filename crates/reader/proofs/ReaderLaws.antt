@@ -9,8 +9,9 @@ use lib.Dec.{leb, eqb, ltb}
 use lib.ListN.{length, getD, drop, drop-of-length-le}
 use lib.Seq.{drop-cons}
 use borrow.Author.Tests.{eq-eqb, ne-eqb, lt-ltb, le-ltb, le-leb, lt-leb, leb-true, leb-false}
-use Rattle.lexer.specs.Given.{stepBy}
-use Rattle.lexer.specs.Table.{classTable, classAt}
+use Rattle.json.specs.Lexer.{stepOf}
+use Rattle.json.specs.declared.lexer.Top.{Top}
+use Rattle.json.specs.declared.lexer.Step.{Step}
 use Rattle.table.specs.declared.Table.{Table}
 use Rattle.table.specs.Limits.{withinLimits, fitLimits, WithinLimits}
 use Rattle.table.proofs.LimitLaws.{withinLimits-sound}
@@ -21,9 +22,10 @@ use Rattle.progress.specs.declared.Lex.{Lex}
 use Rattle.progress.specs.declared.Task.{Task}
 use Rattle.progress.specs.declared.Task.the-variants as To
 use Rattle.progress.specs.Lex.{advanced}
-use Rattle.progress.specs.Memory.{Mem, mem, topAt, keyFound, valueAt, rulesAt, closeAt, perform, stepMem, runMem, endsRecord}
+use Rattle.progress.specs.Memory.{Mem, mem, Ran, topAt, keyFound, valueAt, rulesAt, closeAt, perform, stepMem, runMem, endsRecord}
 use Rattle.book.specs.Holds.{tableKeys}
 use Rattle.turn.specs.Turn.{lent, turned}
+use Rattle.pass.specs.Pass.{KeptTo, PassedTo}
 use Rattle.turn.proofs.TurnLaws.{turned-stepMem}
 use Rattle.reader.specs.declared.Reader.{Reader}
 use Rattle.reader.specs.declared.Refusal.the-variants as No
@@ -76,17 +78,32 @@ module _ (t : Table) (n : ℕ) (m : Mem) (s : List ℕ) (i : ℕ) where
   unfolding runMem
   run-end h e = rw (drop-cons s i 0, e)
 
-  pub run-turn : (k : Mem) → i < length s → getD s i 0 < 256 → endsRecord (m .lex) (getD s i 0) ≡ false
-      → k ≡ turned t n m (getD s i 0) (stepBy (classAt classTable (getD s i 0)) (m .lex .mode) (topAt (m .work) (m .lex .level)) (getD s i 0))
-      → runMem t n k (i + 1) (drop (i + 1) s) ≡ runMem t n m i (drop i s)
+  pub run-turn : (k : Mem) (st : Step) → i < length s → endsRecord (m .lex) (getD s i 0) ≡ false
+      → advanced (m .lex) n (getD s i 0) st ≡ advanced (m .lex) n (getD s i 0) (stepOf (m .lex .mode) (topAt (m .work) (m .lex .level)) (getD s i 0))
+      → k ≡ turned t n m (getD s i 0) st → runMem t n k (i + 1) (drop (i + 1) s) ≡ runMem t n m i (drop i s)
   unfolding runMem
-  run-turn k h l e q =
-      rw (drop-cons s i 0, e, q ∙ turned-stepMem t n m (getD s i 0) l)
+  run-turn k st h e g q =
+      rw (drop-cons s i 0, e, q ∙ turned-stepMem t n m (getD s i 0) st g)
       (ap (λ (j : ℕ). runMem t n (stepMem t n m (getD s i 0)) (i + 1) (drop j s)) (add-one i))
 
   pub run-done : length s ≤ i → runMem t n m i (drop i s) ≡ record { memory = m; count = i; ended = false }
   unfolding runMem
   run-done h = rw (drop-of-length-le s h)
+
+-- ---- the bytes passed over: x becomes y while the characters of a key are kept, and y becomes z behind the bytes that only move it on
+
+module _ (s : List ℕ) (i at end : ℕ) (x y z : Lex) (top : Top) (st : Step) (key kept w : List ℕ) (a : KeptTo x s i key y at kept) (b : PassedTo y top s at z end st)
+    (e : top ≡ topAt w (y .level)) where
+  -- what is left to do still gives what the whole gives
+  pub run-passed : (t : Table) (n : ℕ) (root : Bool) (r : Ran) → runMem t n (mem x root key w) i (drop i s) ≡ r → runMem t n (mem z root kept w) end (drop end s) ≡ r
+  run-passed t n root r h = b .runs .same t n root kept w (sym e) ∙ a .same t n root w ∙ h
+
+  -- and the step is as good as the byte's own
+  pub step-passed : (n : ℕ) → end < length s
+      → advanced z n (getD s end 0) st ≡ advanced z n (getD s end 0) (stepOf (z .mode) (topAt w (z .level)) (getD s end 0))
+  step-passed n h =
+      b .step n h
+      ∙ ap (λ (k : Top). advanced z n (getD s end 0) (stepOf (z .mode) k (getD s end 0))) (e ∙ ap (λ (l : ℕ). topAt w l) (sym (b .runs .level)))
 
 -- ---- the test of a table
 
@@ -185,11 +202,7 @@ lent-serves (To.Number s) t m x = refl
 lent-serves To.Close t m x = refl
 lent-serves (To.NumberClose s) t m x = refl
 
-pub turned-of-lent : (t : Table) (n : ℕ) (m : Mem) (b : ℕ) (bytes classes : List ℕ) (k : Mem) → bytes ≡ t .«key_bytes» → classes ≡ classTable
-    → k ≡ turned (lent (t .edges) (t .keys) (t .«edge_rule») (t .«edge_state») (t .«edge_key») (t .«edge_kind») (t .«edge_next») bytes (t .«key_len») (t .ends) (t .forms)) n m b
-    (stepBy (classAt classes b) (m .lex .mode) (topAt (m .work) (m .lex .level)) b)
-    → k ≡ turned t n m b (stepBy (classAt classTable b) (m .lex .mode) (topAt (m .work) (m .lex .level)) b)
-turned-of-lent t n m b bytes classes k e f h =
-    (rw (e, f) at h)
-    ∙ lent-serves (advanced (m .lex) n b (stepBy (classAt classTable b) (m .lex .mode) (topAt (m .work) (m .lex .level)) b) .task) t m
-    (advanced (m .lex) n b (stepBy (classAt classTable b) (m .lex .mode) (topAt (m .work) (m .lex .level)) b) .lex)
+pub turned-of-lent : (t : Table) (n : ℕ) (m : Mem) (b : ℕ) (st : Step) (k : Mem)
+    → k ≡ turned (lent (t .edges) (t .keys) (t .«edge_rule») (t .«edge_state») (t .«edge_key») (t .«edge_kind») (t .«edge_next») (t .«key_bytes») (t .«key_len») (t .ends) (t .forms)) n m b st
+    → k ≡ turned t n m b st
+turned-of-lent t n m b st k h = h ∙ lent-serves (advanced (m .lex) n b st .task) t m (advanced (m .lex) n b st .lex)

@@ -180,18 +180,29 @@ fn ended(frames: usize, tally: Tally, x: Lex, root: bool, count: usize, head: bo
     }
 }
 
+// The piece is read, and the record goes on.
+fn read_all(frames: usize, tally: Tally, x: Lex, root: bool, key: [u8; 32], count: usize) -> Fed
+    ensures { λ r. ⌜ r ≡ record { reader = record { frames = frames; lex = x; root = root; key = key; tally = tally }; count = count; answer = Answer.Quiet } ⌝ }
+{
+    let next = Reader {
+        frames: frames,
+        lex: x,
+        root: root,
+        key: key,
+        tally: tally,
+    };
+    Fed {
+        reader: next,
+        count: count,
+        answer: Answer::Quiet,
+    }
+}
+
 // The characters of a key, with their number.
 fn whole_key(key: [u8; 32]) -> [u8; 32]
     ensures { λ r. ⌜ (r ≡ key) × (length r ≡ 32) ⌝ }
 {
     key
-}
-
-// The bytes of a table's keys, with their number.
-fn whole_bytes(bytes: [u8; 4096]) -> [u8; 4096]
-    ensures { λ r. ⌜ (r ≡ bytes) × (length r ≡ 4096) ⌝ }
-{
-    bytes
 }
 
 impl Reader {
@@ -286,17 +297,26 @@ pub fn feed(r: Reader, t: Table, work: &mut [u8], piece: &[u8]) -> Fed
     let mut root = r.root;
     let kept = r.key;
     let mut key = whole_key(kept);
-    let names = t.key_bytes;
-    let bytes = whole_bytes(names);
     let mut i = 0;
     while i < piece.len() {
+        let k = pass::keep(&classes, lex, &mut key, piece, i);
+        let named = k.lex;
+        let top = turn::top_of(work, named.level);
+        let p = pass::pass(&classes, named, top, piece, k.at);
+        let st = p.step;
+        let passed = p.lex;
+        lex = passed;
+        i = p.at;
+        if piece.len() <= i {
+            return read_all(frames, tally, lex, root, key, i);
+        }
         let b = piece[i];
         i += 1;
         if ends_record(lex, b) {
             return ended(frames, tally, lex, root, i, false);
         }
         let s = turn::turn(
-            &classes,
+            st,
             lex,
             root,
             &mut key,
@@ -309,7 +329,7 @@ pub fn feed(r: Reader, t: Table, work: &mut [u8], piece: &[u8]) -> Fed
             &t.edge_key,
             &t.edge_kind,
             &t.edge_next,
-            &bytes,
+            &t.key_bytes,
             &t.key_len,
             &t.ends,
             &t.forms,
@@ -318,18 +338,7 @@ pub fn feed(r: Reader, t: Table, work: &mut [u8], piece: &[u8]) -> Fed
         lex = s.lex;
         root = s.root;
     }
-    let next = Reader {
-        frames: frames,
-        lex: lex,
-        root: root,
-        key: key,
-        tally: tally,
-    };
-    Fed {
-        reader: next,
-        count: i,
-        answer: Answer::Quiet,
-    }
+    read_all(frames, tally, lex, root, key, i)
 }
 
 // Ends the last record like an RS, and is in the head again. Ruled out: a close that forgets the tally, and one that gives a verdict where

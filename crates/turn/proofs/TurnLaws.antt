@@ -10,13 +10,8 @@ use lib.Seq.{set-out}
 use borrow.Author.Tests.{eq-eqb, ne-eqb, lt-ltb, le-ltb}
 use Rattle.laws.specs.Tab.{tab}
 use Rattle.json.specs.Lexer.{stepOf}
-use Rattle.json.specs.declared.class.Class.{Class}
-use Rattle.json.specs.declared.lexer.Top.{Top}
 use Rattle.json.specs.declared.lexer.Top.the-variants as Is
 use Rattle.json.specs.declared.lexer.Step.{Step}
-use Rattle.lexer.specs.Given.{stepBy}
-use Rattle.lexer.specs.Table.{classTable, classAt}
-use Rattle.lexer.proofs.GivenLaws.{stepBy-classTable}
 use Rattle.table.specs.declared.Table.{Table}
 use Rattle.table.specs.declared.kind.Scalar.{Scalar}
 use Rattle.table.specs.declared.kind.Finished.the-variants as Done
@@ -100,18 +95,11 @@ module _ (t : Table) (w : List ℕ) (l s : ℕ)
 
 -- ---- the tasks
 
--- what was found of the byte, from the kind of the innermost open value
-module _ (t : Table) (n : ℕ) (m : Mem) (b : ℕ) (k : Class) (top : Top) (a : Advanced) (e : top ≡ topAt (m .work) (m .lex .level))
-    (f : a ≡ advanced (m .lex) n b (stepBy k (m .lex .mode) top b)) where
-  St : Step
-  St = stepBy k (m .lex .mode) (topAt (m .work) (m .lex .level)) b
-
-  found : a ≡ advanced (m .lex) n b (stepBy k (m .lex .mode) (topAt (m .work) (m .lex .level)) b)
-  found = f ∙ ap (λ (x : Top). advanced (m .lex) n b (stepBy k (m .lex .mode) x b)) e
-
-  pub turn-by : (z : Task) (y : Mem) → a .task ≡ z → y ≡ perform z t m (a .lex) → y ≡ turned t n m b (stepBy k (m .lex .mode) (topAt (m .work) (m .lex .level)) b)
+-- what was found of the byte
+module _ (t : Table) (n : ℕ) (m : Mem) (b : ℕ) (st : Step) (a : Advanced) (f : a ≡ advanced (m .lex) n b st) where
+  pub turn-by : (z : Task) (y : Mem) → a .task ≡ z → y ≡ perform z t m (a .lex) → y ≡ turned t n m b st
   turn-by z y g h =
-      h ∙ ap (λ (x : Task). perform x t m (a .lex)) (sym g) ∙ ap (λ (x : Advanced). perform (x .task) t m (x .lex)) found
+      h ∙ ap (λ (x : Task). perform x t m (a .lex)) (sym g) ∙ ap (λ (x : Advanced). perform (x .task) t m (x .lex)) f
 
 module _ (t : Table) (m : Mem) (x : Lex) where
   pub put-done : (c : ℕ) (key : List ℕ) → key ≡ set (m .key) (m .lex .len) c → mem x (m .root) key (m .work) ≡ perform (To.Put c) t m x
@@ -151,8 +139,8 @@ module _ (t : Table) (m : Mem) (x : Lex) where
   unfolding closeAt rulesAt valueAt
   number-close-done s u root w g e = rw (e .root, e .work, g)
 
--- with the table of classes a turn is the step of the memory
-pub turned-stepMem : (t : Table) (n : ℕ) (m : Mem) (b : ℕ) → b < 256
-    → turned t n m b (stepBy (classAt classTable b) (m .lex .mode) (topAt (m .work) (m .lex .level)) b) ≡ stepMem t n m b
+-- where the limits make of the step st what they make of the byte's own, a turn is the step of the memory
+pub turned-stepMem : (t : Table) (n : ℕ) (m : Mem) (b : ℕ) (st : Step)
+    → advanced (m .lex) n b st ≡ advanced (m .lex) n b (stepOf (m .lex .mode) (topAt (m .work) (m .lex .level)) b) → turned t n m b st ≡ stepMem t n m b
 unfolding stepMem
-turned-stepMem t n m b h = ap (λ (st : Step). turned t n m b st) (stepBy-classTable (m .lex .mode) (topAt (m .work) (m .lex .level)) b h)
+turned-stepMem t n m b st h = ap (λ (a : Advanced). perform (a .task) t m (a .lex)) h

@@ -3,10 +3,9 @@ ghost use mathlib.Core.Path.{_≡_};
 ghost use Prim.Native.Nat.{_-_, _≤_};
 ghost use lib.ListN.{length, set};
 ghost use Rattle.load.specs.Step.{Lens};
-ghost use Rattle.lexer.specs.Given.{stepBy};
-ghost use Rattle.lexer.specs.Table.{classAt};
 ghost use Rattle.progress.specs.Memory.{mem, topAt};
 ghost use Rattle.turn.specs.Turn.{lent, keyIn, ClosedTo, turned};
+use json::lexer::Step;
 use json::lexer::Top;
 use progress::Lex;
 use progress::Task;
@@ -19,7 +18,7 @@ pub struct Turned {
 }
 
 // The kind of the innermost open value.
-fn top_of(work: &[u8], level: usize) -> Top
+pub fn top_of(work: &[u8], level: usize) -> Top
     ensures { λ r. ⌜ r ≡ topAt (now (work .entry)) level ⌝ }
 {
     if level == 0 {
@@ -32,7 +31,7 @@ fn top_of(work: &[u8], level: usize) -> Top
 }
 
 // Keeps a character of the key, where there is room for it.
-fn put_char(key: &mut [u8], len: u8, c: u8)
+pub fn put_char(key: &mut [u8], len: u8, c: u8)
     ensures { λ _. ⌜ now (key .exit) ≡ set (now (key .entry)) len c ⌝ }
 {
     let at = len as usize;
@@ -112,9 +111,9 @@ fn close_value<'a>(
     root
 }
 
-// The byte b: the record behind it, its key and its frames.
+// The byte b, of which the lexer makes the step st: the record behind it, its key and its frames.
 pub fn turn<'a>(
-    classes: &'a [u8; 256],
+    st: Step,
     x: Lex,
     root: bool,
     key: &mut [u8],
@@ -127,22 +126,21 @@ pub fn turn<'a>(
     edge_keys: &'a [u8; 512],
     kinds: &'a [u8; 512],
     nexts: &'a [u8; 512],
-    bytes: &'a [u8],
+    bytes: &'a [u8; 4096],
     lens: &'a [u8; 128],
     ends: &'a [u8; 64],
     forms: &'a [u8; 32],
     b: u8,
 ) -> Turned
-    requires { ⌜ (keys ≤ 128) × Lens (now lens) × (length (now bytes) ≡ 4096) × (length (now key) ≡ 32) ⌝ }
-    ensures { λ r. ⌜ mem (r .lex) (r .root) (now (key .exit)) (now (work .exit)) ≡ turned (lent edges keys (now (rules .entry)) (now (states .entry)) (now («edge_keys» .entry)) (now (kinds .entry)) (now (nexts .entry)) (now (bytes .entry)) (now (lens .entry)) (now (ends .entry)) (now (forms .entry))) frames (mem x root (now (key .entry)) (now (work .entry))) b (stepBy (classAt (now (classes .entry)) b) (x .mode) (topAt (now (work .entry)) (x .level)) b) ⌝ }
+    requires { ⌜ (keys ≤ 128) × Lens (now lens) × (length (now key) ≡ 32) ⌝ }
+    ensures { λ r. ⌜ mem (r .lex) (r .root) (now (key .exit)) (now (work .exit)) ≡ turned (lent edges keys (now (rules .entry)) (now (states .entry)) (now («edge_keys» .entry)) (now (kinds .entry)) (now (nexts .entry)) (now (bytes .entry)) (now (lens .entry)) (now (ends .entry)) (now (forms .entry))) frames (mem x root (now (key .entry)) (now (work .entry))) b st ⌝ }
 {
     let level = x.level;
     let len = x.len;
-    let top = top_of(work, level);
-    let st = progress::advance(classes, x, frames, top, b);
-    let next = st.lex;
+    let a = progress::advance(x, frames, b, st);
+    let next = a.lex;
     let up = next.level;
-    let task = st.task;
+    let task = a.task;
     match task {
         Task::Idle => Turned {
             lex: next,

@@ -1,0 +1,38 @@
+-- `stay_end` meets its contract. The loop's invariant: the bytes behind it leave the mode as it is. Assumes nothing.
+use Prim.Native.Nat.{_-_}
+use borrow.Author.Needs.{needs}
+use native.Mathlib.Omega.{arith}
+use Rattle.pass.specs.Pass.{StayedTo}
+use Rattle.pass.proofs.PassLaws.{stayed-none, stayed-more}
+use Rattle.pass.proofs.stay_end.Statement.{statement}
+use Rattle.pass.proofs.stay_end.Tie as tie
+
+abbrev Inv-loop : tie.InvT-loop
+Inv-loop classes m s from end i₀ i = StayedTo m s from end i
+
+abbrev μ-loop : tie.MeasureT-loop
+μ-loop classes m s from end i₀ i = end - i
+
+loop-holds : tie.Need-loop-holds Inv-loop μ-loop
+loop-holds c = stayed-none _ _ _ _ (c .before .pre .1)
+
+shared-slice-read-b : tie.Need-shared-slice-read-b Inv-loop μ-loop
+shared-slice-read-b c = omega (arith, c .before .before .before .before .pre .2, c .before .loop-test .taken)
+
+returns : tie.Need-returns Inv-loop μ-loop
+returns c = c .before .before .before .before .loop .inv
+
+add-i : tie.Need-add-i Inv-loop μ-loop
+add-i c = omega (arith, c .before .before .before .loop-test .taken)
+
+loop-less : tie.Need-loop-less Inv-loop μ-loop
+loop-less c = omega (arith, c .before .before .before .loop-test .taken)
+
+loop-again : tie.Need-loop-again Inv-loop μ-loop
+loop-again c = stayed-more _ _ _ _ _ _ _ (c .before .before .before .before .loop .inv) (c .before .before .before .loop-test .taken) (omega (arith, c .before .before .shared-slice-known2 .given (c .before .before .before .before .loop .i))) (c .before .before .before .before .before .before .pre .0) (c .before .stays .ensures) (c .if1 .taken)
+
+returns-2 : tie.Need-returns-2 Inv-loop μ-loop
+returns-2 c = c .before .loop .inv
+
+pub stay-end-spec : {M : Type 1} → statement M
+stay-end-spec = tie.close (tie.spec Inv-loop μ-loop loop-holds shared-slice-read-b (λ c κs. search needs) returns add-i loop-less loop-again returns-2)

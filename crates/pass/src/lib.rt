@@ -1,0 +1,395 @@
+// Bytes that only move a reader on: those that change where it stands in the record, and the plain characters of a key. Each kind is passed over
+// in a loop of its own.
+ghost use mathlib.Core.Bool.{true, false, cond};
+ghost use mathlib.Core.Path.{_≡_};
+ghost use Prim.Native.Nat.{_+_, _-_, _≤_, min};
+ghost use lib.ListN.{length};
+ghost use Rattle.json.specs.Numbers.{isDigit};
+ghost use Rattle.lexer.specs.Table.{classTable, classAt};
+ghost use Rattle.pass.specs.Pass.{plainClass, awaitsChar, inDigits, staysIn, StayedTo, bitsOver, isQuiet, passes, readsOn, keepsChars, placed, PassedTo, keptIn, KeptTo};
+use json::class::Class;
+use json::lexer::Act;
+use json::lexer::Mode;
+use json::lexer::Place;
+use json::lexer::Step;
+use json::lexer::Top;
+use json::number::NumberMode;
+use json::string::StringMode;
+use progress::Fault;
+use progress::Lex;
+
+// Behind the bytes passed over: what is known of the record, where that is in the piece, and the step that the lexer makes of the byte there.
+pub struct Passed {
+    pub lex: Lex,
+    pub at: usize,
+    pub step: Step,
+}
+
+// Behind the characters of a key: what is known of the record, and where that is in the piece.
+pub struct Kept {
+    pub lex: Lex,
+    pub at: usize,
+}
+
+// A byte of the class is a whole character of a string.
+fn plain_class(k: Class) -> bool
+    ensures { λ r. ⌜ r ≡ plainClass k ⌝ }
+{
+    match k {
+        Class::Control => false,
+        Class::Break => false,
+        Class::Space => true,
+        Class::Quote => false,
+        Class::Backslash => false,
+        Class::Structure => true,
+        Class::Digit => true,
+        Class::Other => true,
+        Class::Tail => false,
+        Class::LeadC2 => false,
+        Class::LeadE0 => false,
+        Class::LeadE1 => false,
+        Class::LeadED => false,
+        Class::LeadF0 => false,
+        Class::LeadF1 => false,
+        Class::LeadF4 => false,
+        Class::Never => false,
+    }
+}
+
+// A character or the closing quotation mark is awaited.
+fn awaits_char(s: StringMode) -> bool
+    ensures { λ r. ⌜ r ≡ awaitsChar s ⌝ }
+{
+    match s {
+        StringMode::Char => true,
+        StringMode::Escape => false,
+        StringMode::Unit1 => false,
+        StringMode::Unit2 => false,
+        StringMode::UnitD => false,
+        StringMode::Unit3 => false,
+        StringMode::Unit4 => false,
+        StringMode::High3 => false,
+        StringMode::High4 => false,
+        StringMode::LowBackslash => false,
+        StringMode::LowU => false,
+        StringMode::Low1 => false,
+        StringMode::Low2 => false,
+        StringMode::Low3 => false,
+        StringMode::Low4 => false,
+        StringMode::Tail1 => false,
+        StringMode::Tail2 => false,
+        StringMode::Tail3 => false,
+        StringMode::SecondE0 => false,
+        StringMode::SecondED => false,
+        StringMode::SecondF0 => false,
+        StringMode::SecondF4 => false,
+    }
+}
+
+// Any number of digits may follow.
+fn in_digits(n: NumberMode) -> bool
+    ensures { λ r. ⌜ r ≡ inDigits n ⌝ }
+{
+    match n {
+        NumberMode::Minus => false,
+        NumberMode::Zero => false,
+        NumberMode::Int => true,
+        NumberMode::Dot => false,
+        NumberMode::Frac => true,
+        NumberMode::E => false,
+        NumberMode::Sign => false,
+        NumberMode::Exp => true,
+    }
+}
+
+// A byte of the class leaves a string's mode as it is.
+fn stays_char(k: Class, s: StringMode) -> bool
+    ensures { λ r. ⌜ r ≡ cond (awaitsChar s) (plainClass k) false ⌝ }
+{
+    if awaits_char(s) {
+        return plain_class(k);
+    }
+    false
+}
+
+// The byte leaves a number's mode as it is.
+fn stays_digit(n: NumberMode, b: u8) -> bool
+    ensures { λ r. ⌜ r ≡ cond (inDigits n) (isDigit b) false ⌝ }
+{
+    if in_digits(n) {
+        return lexer::number::is_digit(b);
+    }
+    false
+}
+
+// The byte, with its class from a lent table, leaves the mode as it is.
+fn stays(classes: &[u8; 256], m: Mode, b: u8) -> bool
+    ensures { λ r. ⌜ r ≡ staysIn (classAt (now (classes .entry)) b) m b ⌝ }
+{
+    match m {
+        Mode::At(_) => lexer::step::is_blank(b),
+        Mode::Key(_) => false,
+        Mode::Text(s) => stays_char(lexer::class::class_in(classes, b), s),
+        Mode::Number(n) => stays_digit(n, b),
+        Mode::Word(_, _) => false,
+    }
+}
+
+// Behind the bytes that leave the mode as it is.
+fn stay_end<'a>(classes: &'a [u8; 256], m: Mode, s: &'a [u8], from: usize, end: usize) -> usize
+    requires { ⌜ (now classes ≡ classTable) × (from ≤ end) × (end ≤ length (now s)) ⌝ }
+    ensures { λ r. ⌜ StayedTo m (now (s .entry)) from end r ⌝ }
+{
+    let mut i = from;
+    while i < end {
+        let b = s[i];
+        if stays(classes, m, b) {} else {
+            return i;
+        }
+        i += 1;
+    }
+    i
+}
+
+// The bits of an open character, where some bytes that leave the mode as it is were passed over, or none.
+fn bits_over(some: bool, m: Mode, bits: u32) -> u32
+    ensures { λ r. ⌜ r ≡ bitsOver some m bits ⌝ }
+{
+    if some {
+        return progress::bits_in(m, bits, 0x20);
+    }
+    bits
+}
+
+// The act changes neither levels, key nor frames.
+fn is_quiet(a: Act) -> bool
+    ensures { λ r. ⌜ r ≡ isQuiet a ⌝ }
+{
+    match a {
+        Act::Fault => false,
+        Act::Pass => true,
+        Act::OpenArray => false,
+        Act::OpenObject => false,
+        Act::Close => false,
+        Act::KeyStart => false,
+        Act::KeyChar => false,
+        Act::KeyEnd => false,
+        Act::TextStart => true,
+        Act::TextChar => true,
+        Act::TextEnd => false,
+        Act::NumberStart => true,
+        Act::NumberByte => true,
+        Act::WordEnd(_) => false,
+    }
+}
+
+// The byte, which is no RS, ends no number, and its act is quiet.
+fn passes(a: Act, ends: bool, b: u8) -> bool
+    ensures { λ r. ⌜ r ≡ passes a ends b ⌝ }
+{
+    if ends {
+        return false;
+    }
+    if b == 0x1E {
+        return false;
+    }
+    is_quiet(a)
+}
+
+// A byte of the record is more than counted.
+fn reads_on(x: Lex) -> bool
+    ensures { λ r. ⌜ r ≡ readsOn x ⌝ }
+{
+    if x.head {
+        return false;
+    }
+    let f = x.fault;
+    match f {
+        Fault::Sound => true,
+        Fault::Malformed => false,
+        Fault::TooDeep => false,
+        Fault::TooLong => false,
+    }
+}
+
+// How far a piece of len bytes may be read before the record is too long.
+fn room(len: usize, from: usize, pos: u32) -> usize
+    requires { ⌜ from ≤ len ⌝ }
+    ensures { λ r. ⌜ r ≡ from + min (len - from) (16777216 - pos) ⌝ }
+{
+    if pos < 16777216 {
+        let left = (16777216 - pos) as usize;
+        if left < len - from {
+            return from + left;
+        }
+        return len;
+    }
+    from
+}
+
+// The record x at another mode, with other registers, and count bytes further.
+fn place_at(x: Lex, m: Mode, bits: u32, high: u32, count: usize, len: u8) -> Lex
+    requires { ⌜ x .pos + count ≤ 4294967295 ⌝ }
+    ensures { λ r. ⌜ r ≡ placed x m bits high (x .pos + count) len ⌝ }
+{
+    let f = x.fault;
+    Lex {
+        mode: m,
+        fault: f,
+        head: x.head,
+        level: x.level,
+        pos: x.pos + (count as u32),
+        place: x.place,
+        bits: bits,
+        high: high,
+        len: len,
+    }
+}
+
+// The step of no byte.
+fn no_step() -> Step {
+    Step {
+        mode: Mode::At(Place::Value),
+        ends: false,
+        act: Act::Fault,
+    }
+}
+
+// Passes over bytes up to a place where the record is not too long yet.
+fn pass_to<'a>(
+    classes: &'a [u8; 256],
+    x: Lex,
+    top: Top,
+    s: &'a [u8],
+    from: usize,
+    end: usize,
+) -> Passed
+    requires { ⌜ (now classes ≡ classTable) × (readsOn x ≡ true) × (from ≤ length (now s)) × (end ≡ from + min (length (now s) - from) (16777216 - x .pos)) ⌝ }
+    ensures { λ r. ⌜ PassedTo x top (now (s .entry)) from (r .lex) (r .at) (r .step) ⌝ }
+{
+    let mut m = x.mode;
+    let mut bits = x.bits;
+    let mut high = x.high;
+    let mut i = from;
+    while i < end {
+        let j = stay_end(classes, m, s, i, end);
+        bits = bits_over(i < j, m, bits);
+        if j == end {
+            return Passed {
+                lex: place_at(x, m, bits, high, j - from, x.len),
+                at: j,
+                step: no_step(),
+            };
+        }
+        let b = s[j];
+        let st = lexer::step::step(classes, m, top, b);
+        let a = st.act;
+        if passes(a, st.ends, b) {} else {
+            return Passed {
+                lex: place_at(x, m, bits, high, j - from, x.len),
+                at: j,
+                step: st,
+            };
+        }
+        high = progress::high_in(m, bits, high, b);
+        bits = progress::bits_in(m, bits, b);
+        let next = st.mode;
+        m = next;
+        i = j + 1;
+    }
+    Passed {
+        lex: place_at(x, m, bits, high, i - from, x.len),
+        at: i,
+        step: no_step(),
+    }
+}
+
+// Passes over the bytes of a piece that only change where the reader stands in the record. Ruled out: a pass over the RS that ends a record,
+// and one over bytes past the longest record.
+pub fn pass<'a>(classes: &'a [u8; 256], x: Lex, top: Top, s: &'a [u8], from: usize) -> Passed
+    requires { ⌜ (now classes ≡ classTable) × (from ≤ length (now s)) ⌝ }
+    ensures { λ r. ⌜ PassedTo x top (now (s .entry)) from (r .lex) (r .at) (r .step) ⌝ }
+{
+    if reads_on(x) {
+        return pass_to(classes, x, top, s, from, room(s.len(), from, x.pos));
+    }
+    Passed {
+        lex: x,
+        at: from,
+        step: no_step(),
+    }
+}
+
+// The record is read, and stands where a character of a key is awaited.
+fn keeps_chars(x: Lex) -> bool
+    ensures { λ r. ⌜ r ≡ keepsChars x ⌝ }
+{
+    let m = x.mode;
+    match m {
+        Mode::At(_) => false,
+        Mode::Key(s) => {
+            if awaits_char(s) {
+                return reads_on(x);
+            }
+            false
+        }
+        Mode::Text(_) => false,
+        Mode::Number(_) => false,
+        Mode::Word(_, _) => false,
+    }
+}
+
+// Keeps a character of the key where fewer than 32 are kept.
+fn keep_char(key: &mut [u8], len: u8, c: u8)
+    ensures { λ _. ⌜ now (key .exit) ≡ keptIn (now (key .entry)) len c ⌝ }
+{
+    if len < 32 {
+        turn::put_char(key, len, c);
+    }
+}
+
+// Keeps the plain characters of a key up to a place where the record is not too long yet.
+fn keep_to<'a>(
+    classes: &'a [u8; 256],
+    x: Lex,
+    key: &mut [u8],
+    s: &'a [u8],
+    from: usize,
+    end: usize,
+) -> Kept
+    requires { ⌜ (now classes ≡ classTable) × (keepsChars x ≡ true) × (from ≤ length (now s)) × (end ≡ from + min (length (now s) - from) (16777216 - x .pos)) ⌝ }
+    ensures { λ r. ⌜ KeptTo x (now (s .entry)) from (now (key .entry)) (r .lex) (r .at) (now (key .exit)) ⌝ }
+{
+    let m = x.mode;
+    let mut bits = x.bits;
+    let mut len = x.len;
+    let mut i = from;
+    while i < end {
+        let b = s[i];
+        if plain_class(lexer::class::class_in(classes, b)) {} else {
+            return Kept {
+                lex: place_at(x, m, bits, x.high, i - from, len),
+                at: i,
+            };
+        }
+        keep_char(key, len, b);
+        len = progress::key_len(len, b as u32);
+        bits = 0;
+        i += 1;
+    }
+    Kept {
+        lex: place_at(x, m, bits, x.high, i - from, len),
+        at: i,
+    }
+}
+
+// Keeps the plain characters of an open key. Ruled out: a key of which a character past the 32nd is kept, and one without its first.
+pub fn keep<'a>(classes: &'a [u8; 256], x: Lex, key: &mut [u8], s: &'a [u8], from: usize) -> Kept
+    requires { ⌜ (now classes ≡ classTable) × (from ≤ length (now s)) ⌝ }
+    ensures { λ r. ⌜ KeptTo x (now (s .entry)) from (now (key .entry)) (r .lex) (r .at) (now (key .exit)) ⌝ }
+{
+    if keeps_chars(x) {
+        return keep_to(classes, x, key, s, from, room(s.len(), from, x.pos));
+    }
+    Kept { lex: x, at: from }
+}

@@ -1,0 +1,107 @@
+-- What an act of the lexer does to the open record, part by part: the first fault, the levels, the length of the key, the task. Derived:
+-- `actedBy-acted` of `ActLaws` joins it to `acted`. Assumes nothing.
+use mathlib.Core.Bool.{Bool, cond}
+use Prim.Native.Nat.{ℕ, _+_, _-_}
+use lib.Dec.{ltb}
+use Rattle.json.specs.declared.lexer.Mode.{Mode}
+use Rattle.json.specs.declared.lexer.Act.{Act}
+use Rattle.json.specs.declared.lexer.Act.the-variants as A
+use Rattle.table.specs.declared.kind.Scalar.the-variants as K
+use Rattle.progress.specs.declared.Fault.{Fault}
+use Rattle.progress.specs.declared.Fault.the-variants as F
+use Rattle.progress.specs.declared.Lex.{Lex}
+use Rattle.progress.specs.declared.Task.{Task}
+use Rattle.progress.specs.declared.Task.the-variants as To
+use Rattle.progress.specs.declared.Advanced.{Advanced}
+use Rattle.progress.specs.Lex.{advance, faulted, charIn, moved, ended, closing, scalarOf}
+
+-- a value that is opened where n frames are: too deep, or one level more
+unfoldable pub openFault : ℕ → ℕ → Fault
+openFault level n = cond (ltb level n) F.Sound F.TooDeep
+
+unfoldable pub openLevel : ℕ → ℕ → ℕ
+openLevel level n = cond (ltb level n) (level + 1) level
+
+-- a character c of a key of which len are kept: how many are kept behind it, and whether it is kept
+unfoldable pub keyLen : ℕ → ℕ → ℕ
+keyLen len c = cond (ltb len 32) (cond (ltb c 128) (len + 1) 33) 33
+
+unfoldable pub keyTask : ℕ → ℕ → Task
+keyTask len c = cond (ltb len 32) (cond (ltb c 128) (To.Put c) To.Idle) To.Idle
+
+-- the fault of an act, if it is one
+abbrev pub firstFault : Act → ℕ → ℕ → Fault
+firstFault A.Fault level n = F.Malformed
+firstFault A.Pass level n = F.Sound
+firstFault A.OpenArray level n = openFault level n
+firstFault A.OpenObject level n = openFault level n
+firstFault A.Close level n = F.Sound
+firstFault A.KeyStart level n = F.Sound
+firstFault A.KeyChar level n = F.Sound
+firstFault A.KeyEnd level n = F.Sound
+firstFault A.TextStart level n = F.Sound
+firstFault A.TextChar level n = F.Sound
+firstFault A.TextEnd level n = F.Sound
+firstFault A.NumberStart level n = F.Sound
+firstFault A.NumberByte level n = F.Sound
+firstFault (A.WordEnd w) level n = F.Sound
+
+-- the levels behind it
+abbrev pub levelAfter : Act → ℕ → ℕ → ℕ
+levelAfter A.Fault level n = level
+levelAfter A.Pass level n = level
+levelAfter A.OpenArray level n = openLevel level n
+levelAfter A.OpenObject level n = openLevel level n
+levelAfter A.Close level n = level - 1
+levelAfter A.KeyStart level n = level
+levelAfter A.KeyChar level n = level
+levelAfter A.KeyEnd level n = level
+levelAfter A.TextStart level n = level
+levelAfter A.TextChar level n = level
+levelAfter A.TextEnd level n = level
+levelAfter A.NumberStart level n = level
+levelAfter A.NumberByte level n = level
+levelAfter (A.WordEnd w) level n = level
+
+-- the length of the key behind it, where it finishes the character c
+abbrev pub lenAfter : Act → ℕ → ℕ → ℕ
+lenAfter A.Fault len c = len
+lenAfter A.Pass len c = len
+lenAfter A.OpenArray len c = len
+lenAfter A.OpenObject len c = len
+lenAfter A.Close len c = len
+lenAfter A.KeyStart len c = 0
+lenAfter A.KeyChar len c = keyLen len c
+lenAfter A.KeyEnd len c = len
+lenAfter A.TextStart len c = len
+lenAfter A.TextChar len c = len
+lenAfter A.TextEnd len c = len
+lenAfter A.NumberStart len c = len
+lenAfter A.NumberByte len c = len
+lenAfter (A.WordEnd w) len c = len
+
+-- what is to be done at it, in mode m; e tells whether it ends a number
+abbrev pub taskOf : Act → Bool → Mode → ℕ → ℕ → Task
+taskOf A.Fault e m len c = To.Idle
+taskOf A.Pass e m len c = ended e m
+taskOf A.OpenArray e m len c = To.OpenArray
+taskOf A.OpenObject e m len c = To.OpenObject
+taskOf A.Close e m len c = closing e m
+taskOf A.KeyStart e m len c = To.Idle
+taskOf A.KeyChar e m len c = keyTask len c
+taskOf A.KeyEnd e m len c = To.Named
+taskOf A.TextStart e m len c = To.Idle
+taskOf A.TextChar e m len c = To.Idle
+taskOf A.TextEnd e m len c = To.Finish K.Str
+taskOf A.NumberStart e m len c = To.Idle
+taskOf A.NumberByte e m len c = To.Idle
+taskOf (A.WordEnd w) e m len c = To.Finish (scalarOf w)
+
+-- all of it, where the act's fault is f
+abbrev pub actedBy : Fault → Act → Bool → Lex → ℕ → ℕ → Mode → Advanced
+actedBy F.Sound a e x n b m =
+    advance (moved x b m (levelAfter a (x .level) n) (lenAfter a (x .len) (charIn (x .mode) (x .bits) (x .high) b)))
+    (taskOf a e (x .mode) (x .len) (charIn (x .mode) (x .bits) (x .high) b))
+actedBy F.Malformed a e x n b m = faulted x F.Malformed
+actedBy F.TooDeep a e x n b m = faulted x F.TooDeep
+actedBy F.TooLong a e x n b m = faulted x F.TooLong

@@ -1,2 +1,3 @@
 pub mod PutLaws
 pub mod Examples
+pub mod DecimalLaws

@@ -85,6 +85,9 @@ pub fn load(bytes: &[u8]) -> Result<Book, Refusal> {
         take_line(&mut book, &mut earlier, line, number).map_err(|refusal| (refusal, number))?;
         rest = after.get(1..).unwrap_or(&[]);
     }
+    if on(Plant::KeysFirst) {
+        ascending_keys(&book)?;
+    }
     named_rules(&book)?;
     ascending_keys(&book)?;
     for edge in &book.edges {
@@ -107,12 +110,16 @@ fn take_line<'a>(book: &mut Book, earlier: &mut HashSet<&'a [u8]>, text: &'a [u8
     if book.forms[rule].is_some_and(|form| form != line.form) && !on(Plant::FormChange) {
         return Err(6);
     }
+    if on(Plant::LineBefore) {
+        earlier.retain(|line| line.as_ptr_range().end as usize + 1 == text.as_ptr() as usize);
+    }
     let repeated = !earlier.insert(text);
     book.forms[rule] = Some(line.form);
     let new_key = !line.key.is_empty() && !book.keys.contains(&line.key);
     let most_edges = if on(Plant::Edges513) { 513 } else { 512 };
     let most_keys = if on(Plant::Keys129) { 129 } else { 128 };
-    let full = line.edge.is_some() && (book.edges.len() == most_edges || new_key && book.keys.len() == most_keys);
+    let counted = if on(Plant::EndsCounted) { number - 2 } else { book.edges.len() };
+    let full = line.edge.is_some() && (counted == most_edges || new_key && book.keys.len() == most_keys);
     if repeated && !(on(Plant::CountBeforeRepeat) && full) {
         return Err(7);
     }
@@ -192,14 +199,12 @@ fn named_rules(book: &Book) -> Result<(), Refusal> {
     if on(Plant::RootFirst) && book.forms[0].is_none() {
         return Err((8, 0));
     }
-    for edge in &book.edges {
-        if let Kind::Rule(n) = edge.kind {
-            if book.forms[n].is_none() {
-                return Err((8, edge.line));
-            }
-        }
+    let mut missing = book.edges.iter().filter(|edge| matches!(edge.kind, Kind::Rule(n) if book.forms[n].is_none()));
+    match if on(Plant::LastReference) { missing.last() } else { missing.next() } {
+        Some(edge) => Err((8, edge.line)),
+        None if book.forms[0].is_none() => Err((8, 0)),
+        None => Ok(()),
     }
-    if book.forms[0].is_none() { Err((8, 0)) } else { Ok(()) }
 }
 
 /// Refusal 9: where one edge's next is another's state, or its own, the first key number must be below the second.
@@ -209,8 +214,9 @@ fn ascending_keys(book: &Book) -> Result<(), Refusal> {
         book.edges.iter().map(|e| if e.key.is_empty() { 0 } else { book.key_number(&e.key) }).collect();
     for (i, first) in book.edges.iter().enumerate() {
         for (j, second) in book.edges.iter().enumerate() {
-            let meets = first.rule == second.rule && first.next == second.state;
-            if !meets || book.forms[first.rule] != Some(Form::Obj) || numbers[i] < numbers[j] {
+            let meets = (first.rule == second.rule || on(Plant::RulesMixed)) && first.next == second.state;
+            let rising = if on(Plant::KeysByBytes) { first.key < second.key } else { numbers[i] < numbers[j] };
+            if !meets || book.forms[first.rule] != Some(Form::Obj) || rising {
                 continue;
             }
             if on(Plant::OwnKey) && i == j || on(Plant::EqualKeys) && numbers[i] == numbers[j] {

@@ -2,7 +2,7 @@
 
 use crate::book::load;
 use crate::make_book::{book_lines, changed, joined};
-use crate::make_record::{long_record, records, stream};
+use crate::make_record::{every_byte, long_stream, records, stream};
 use crate::rng::Rng;
 use crate::stream::{judge, lines, parts, Found, Verdict};
 use std::fs;
@@ -11,8 +11,9 @@ use std::path::{Path, PathBuf};
 use std::process::{Command, Stdio};
 use std::thread;
 
-/// Trials with one long record each; they come first.
-pub const LONG: u64 = 8;
+/// Trials with a long part each; they come first, and the two with every byte in every place behind them.
+pub const LONG: u64 = 9;
+const FIRST: u64 = LONG + 2;
 /// Records of an accepted book, about.
 const RECORDS: usize = 60;
 
@@ -26,15 +27,19 @@ pub struct Trial {
 /// Trial `number` of a seed, always the same.
 pub fn trial(seed: u64, number: u64) -> Trial {
     let mut rng = Rng::new(seed, number);
-    if number < LONG {
+    if number < FIRST {
         let book = b"rule form state key value next\n0 arr 0 - str 0\n0 arr 0 - num 0\n0 arr 0 - end -\n".to_vec();
-        let record = long_record(number as usize);
-        return Trial { book: Some(book), stream: [b"\x1E", &record[..], b"\x1E[]"].concat(), pieces: None };
+        let stream = match number {
+            LONG => stream(&mut rng, &every_byte(b"")),
+            0..LONG => long_stream(number),
+            _ => stream(&mut rng, &every_byte(b"[\"\",")),
+        };
+        return Trial { book: Some(book), stream, pieces: None };
     }
-    let number = number - LONG;
+    let number = number - FIRST;
     let pieces = rng.chance(25).then(|| rng.next());
     if number % 10 < 4 {
-        let aim = 1 + (number / 10 * 4 + number % 10) % 9;
+        let aim = 1 + (number / 10 * 4 + number % 10) % 10;
         let book = if number % 1000 == 0 { None } else { Some(changed(&mut rng, aim as usize)) };
         return with_records(&mut rng, book, 8, pieces);
     }

@@ -72,7 +72,7 @@ fn run(program: &Program, trial: &Trial) -> (Vec<u8>, Option<i32>) {
 
 /// The comparison: trials until there are enough cases.
 fn compare_all(options: &Options, program: &Program) -> bool {
-    let cases = options.cases.unwrap_or(40_000);
+    let cases = options.cases.unwrap_or(160_000);
     let mut table = Table::default();
     let mut differences = 0;
     let mut number = options.only.unwrap_or(0);
@@ -100,7 +100,7 @@ fn compare_all(options: &Options, program: &Program) -> bool {
 
 /// Trials with what the program gave for them, long records last.
 fn kept_trials(options: &Options, program: &Program) -> Vec<(Trial, Vec<u8>, Option<i32>)> {
-    let cases = options.cases.unwrap_or(40_000);
+    let cases = options.cases.unwrap_or(120_000);
     let mut table = Table::default();
     let mut kept = Vec::new();
     let mut keep = |number| {

@@ -199,7 +199,7 @@ fn pad(rng: &mut Rng, lines: &mut Lines, edges: usize, keys: usize) {
 pub fn changed(rng: &mut Rng, number: usize) -> Vec<u8> {
     let mut lines = book_lines(rng);
     if number > 2 && rng.chance(25) {
-        let second = rng.range(3, 9);
+        let second = rng.range(3, 10);
         change(rng, &mut lines, second);
     }
     if rng.chance(4) {
@@ -275,9 +275,9 @@ fn change(rng: &mut Rng, lines: &mut Lines, number: usize) {
             set_field(&mut lines[at], field, format!("{text}{number}").as_bytes());
         }
         5 => {
-            let (edges, keys) = *rng.pick(&[(513, 1), (512, 1), (513, 128), (1, 129), (512, 129), (513, 129)]);
+            let (edges, keys) = *rng.pick(&[(513, 1), (512, 1), (512, 1), (513, 128), (512, 128), (1, 129), (512, 129), (513, 129)]);
             pad(rng, lines, edges, keys);
-            if rng.chance(30) {
+            if rng.chance(40) {
                 lines.push(rng.pick(lines).clone());
             }
         }
@@ -294,8 +294,23 @@ fn change(rng: &mut Rng, lines: &mut Lines, number: usize) {
             lines.insert(place, lines[at].clone());
         }
         8 => missing_rule(rng, lines, at),
-        _ => descending(rng, lines, at),
+        9 => descending(rng, lines, at),
+        _ => lines.insert(at, any_fields(rng)),
     }
+}
+
+/// A line of fields that each may be right, but seldom fit together.
+fn any_fields(rng: &mut Rng) -> Vec<u8> {
+    let small = ["0", "1", "2", "15", "16", "31", "32", "01", "-"];
+    let fields = [
+        *rng.pick(&small),
+        *rng.pick(&["obj", "arr", "obj", "arr", "end"]),
+        *rng.pick(&small),
+        *rng.pick(&["-", "-", "a", "b", "name", "--"]),
+        *rng.pick(&["null", "true", "false", "str", "num", "int", "end", "end", "r0", "r1", "r31", "r32", "r00", "obj"]),
+        *rng.pick(&small),
+    ];
+    fields.join(" ").into_bytes()
 }
 
 /// Replaces field `index` of a line.
@@ -331,32 +346,46 @@ fn malformed(rng: &mut Rng, lines: &mut Lines, at: usize) {
     }
 }
 
+/// Refusal 8: lines of a rule taken away, or a reference put in; sometimes with a refusal 9 beside it.
 fn missing_rule(rng: &mut Rng, lines: &mut Lines, at: usize) {
+    let rule: Vec<u8> = lines[at].split(|&b| b == b' ').next().unwrap_or(b"1").to_vec();
     let other = rng.range(1, 31);
-    match rng.below(4) {
+    if rng.chance(30) {
+        descending(rng, lines, at);
+    }
+    match rng.below(8) {
         0 => lines.retain(|line| !line.starts_with(b"0 ")),
-        1 => lines.retain(|line| !line.starts_with(format!("{other} ").as_bytes())),
-        2 => lines.clear(),
+        1 => lines.clear(),
+        2 | 3 => lines.retain(|line| !line.starts_with(&[&rule[..], b" "].concat())),
         _ => {
-            let edge = lines[at].clone();
-            if !edge.ends_with(b"end -") {
-                set_field(&mut lines[at], 4, format!("r{other}").as_bytes());
+            for line in lines.iter_mut().skip(at) {
+                if !line.ends_with(b"end -") && rng.chance(40) {
+                    set_field(line, 4, format!("r{other}").as_bytes());
+                }
             }
         }
     }
 }
 
+/// Refusal 9: lines in another order, an edge put in, or an edge led to its own state or another one.
 fn descending(rng: &mut Rng, lines: &mut Lines, at: usize) {
-    match rng.below(3) {
+    let (state, next) = (rng.below(4), rng.below(4));
+    match rng.below(5) {
         0 => rng.shuffle(lines),
         1 => {
             let other = rng.below(lines.len());
             lines.swap(at, other);
         }
-        _ => {
-            let (state, next) = (rng.below(4), rng.below(4));
+        2 => {
             let key = *rng.pick(KEYS);
             lines.insert(at, format!("0 obj {state} {key} {} {next}", rng.pick(PLAIN)).into_bytes());
+        }
+        _ => {
+            let own = lines[at].split(|&b| b == b' ').nth(2).unwrap_or(b"0").to_vec();
+            let to = if rng.chance(50) { own } else { next.to_string().into_bytes() };
+            if !lines[at].ends_with(b"end -") {
+                set_field(&mut lines[at], 5, &to);
+            }
         }
     }
 }

@@ -2,7 +2,7 @@
 
 use crate::book::{Book, Form, Kind, RULES, STATES};
 use crate::rng::Rng;
-use crate::stream::RS;
+use crate::stream::{LONGEST, RS};
 
 /// A value to be written down.
 #[derive(Clone)]
@@ -356,7 +356,7 @@ pub fn records(rng: &mut Rng, book: &Book, count: usize) -> Vec<Vec<u8>> {
 /// The record itself, or damaged, cut at every byte, with a byte order mark, or with an RS in it.
 fn finish(rng: &mut Rng, mut bytes: Vec<u8>, list: &mut Vec<Vec<u8>>) {
     match rng.below(40) {
-        0 if bytes.len() < 120 => return list.extend((0..=bytes.len()).map(|end| bytes[..end].to_vec())),
+        0 if bytes.len() < 120 && rng.chance(40) => return list.extend((0..=bytes.len()).map(|end| bytes[..end].to_vec())),
         1 => bytes.truncate(rng.below(bytes.len())),
         2..=7 => damage(rng, &mut bytes),
         8 => bytes.insert(rng.below(bytes.len() + 1), RS),
@@ -389,21 +389,44 @@ pub fn stream(rng: &mut Rng, records: &[Vec<u8>]) -> Vec<u8> {
     bytes
 }
 
-/// Long records around 16,777,216 bytes, one for each number `which`, for a book whose rule 0 is an array of anything.
-pub fn long_record(which: usize) -> Vec<u8> {
-    const LONGEST: usize = crate::stream::LONGEST;
-    let filled = |start: &[u8], fill: u8, end: &[u8], length: usize| {
-        let middle = vec![fill; length - start.len() - end.len()];
-        [start, &middle, end].concat()
+/// Beginnings of texts: one for every place that the grammar knows.
+const BEGINNINGS: &[&[u8]] = &[
+    b"", b" ", b"n", b"nu", b"nul", b"null", b"t", b"tr", b"tru", b"true", b"f", b"fa", b"fal", b"fals", b"false", b"-", b"0", b"-0", b"1", b"12",
+    b"1.", b"1.5", b"1e", b"1E", b"1e+", b"1e-", b"1e5", b"0.", b"0e", b"1.5e", b"\"", b"\"a", b"\"\\", b"\"\\u", b"\"\\u0", b"\"\\u00",
+    b"\"\\u000", b"\"\\u0000", b"\"\\ud", b"\"\\uD", b"\"\\uD8", b"\"\\ud80", b"\"\\uDBFF", b"\"\\uD800\\", b"\"\\uD800\\u", b"\"\\uD800\\ud",
+    b"\"\\uD800\\uDC", b"\"\\uD800\\uDF0", b"\"\\uD800\\uDC00", b"\"\\n", b"\"\xC2", b"\"\xDF", b"\"\xE0", b"\"\xE0\xA0", b"\"\xE1", b"\"\xE1\x80",
+    b"\"\xEC", b"\"\xED", b"\"\xED\x9F", b"\"\xEE", b"\"\xEF", b"\"\xEF\xBF", b"\"\xF0", b"\"\xF0\x90", b"\"\xF0\x90\x80", b"\"\xF1", b"\"\xF3\x80",
+    b"\"\xF3\x80\x80", b"\"\xF4", b"\"\xF4\x8F", b"\"\xF4\x8F\xBF", b"\"\"", b"[", b"[ ", b"[1", b"[1 ", b"[1,", b"[1, ", b"[]", b"[[", b"[[]", b"[{}",
+    b"[null", b"[tru", b"[\"\"", b"[\"", b"[0", b"[-", b"[1.", b"[1.0", b"[1e", b"[1e1", b"{", b"{ ", b"{\"", b"{\"a", b"{\"\\", b"{\"\\u006", b"{\"a\"",
+    b"{\"a\" ", b"{\"a\":", b"{\"a\": ", b"{\"a\":1", b"{\"a\":1 ", b"{\"a\":1,", b"{\"a\":1, ", b"{\"a\":null", b"{\"a\":\"\"", b"{}", b"{\"a\":{}", b"{\"a\":[",
+    b"{\"a\":[]", b"{\"\xE0", b"{\"\xF4", b"\xEF", b"\xEF\xBB",
+];
+
+/// Every byte behind each beginning of a text, at the root or inside an array.
+pub fn every_byte(inside: &[u8]) -> Vec<Vec<u8>> {
+    let all = |start: &&[u8]| {
+        let start = [inside, start].concat();
+        (0..=255).map(move |byte| [&start[..], &[byte]].concat()).collect::<Vec<_>>()
     };
+    BEGINNINGS.iter().flat_map(all).collect()
+}
+
+/// Streams around 16,777,216 bytes, one for each number `which`, for a book whose rule 0 is an array of strings and numbers.
+pub fn long_stream(which: u64) -> Vec<u8> {
+    let filled = |start: &[u8], fill: u8, end: &[u8], length: usize| {
+        let middle = vec![fill; length + 1 - start.len() - end.len()];
+        [start, &middle, end, b"\x1E[]"].concat()
+    };
+    let deep = |count: usize| [vec![RS], vec![b'['; count]].concat();
     match which {
-        0 => filled(b"[", b' ', b"]", LONGEST),
-        1 => filled(b"[\"", b'a', b"\"]", LONGEST + 1),
-        2 => filled(b"[]", b' ', b"x", LONGEST + 1),
-        3 => filled(b"[", b'1', b"", LONGEST),
-        4 => filled(&[b'['; 64], b'\n', b"[", LONGEST + 1),
-        5 => filled(b"[1,]", b' ', b"", LONGEST + 5),
-        6 => filled(b"[1.0", b'0', b"x", LONGEST),
-        _ => filled(&[b'['; 64], b'\r', b"[", LONGEST),
+        0 => filled(b"\x1E[", b' ', b"]", LONGEST),
+        1 => filled(b"\x1E[\"", b'a', b"\"]", LONGEST + 1),
+        2 => filled(b"\x1E[]", b' ', b"x", LONGEST + 1),
+        3 => filled(b"\x1E[", b'1', b"", LONGEST),
+        4 => filled(&deep(64), b'\n', b"[", LONGEST + 1),
+        5 => filled(b"\x1E[1,]", b' ', b"", LONGEST + 5),
+        6 => filled(b"\x1E[1.0", b'0', b"x", LONGEST),
+        7 => filled(&deep(64), b'\r', b"[", LONGEST),
+        _ => filled(b"", b' ', b"", LONGEST + 1),
     }
 }

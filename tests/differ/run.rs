@@ -101,6 +101,9 @@ impl Search<'_> {
     fn accepts(&mut self, used: &mut Vec<bool>, state: usize) -> bool {
         let Some(first) = used.iter().position(|&u| !u) else { return end(self.book, self.rule, state) };
         let memory = self.pairs.len() > PLAIN_PAIRS;
+        if memory && on(Plant::ManyPairs) {
+            return false;
+        }
         if memory && !self.tried.insert((used.clone(), state)) {
             return false;
         }

@@ -41,6 +41,9 @@ pub fn verdict(book: &Book, part: &Part) -> Verdict {
     }
     let longest = LONGEST - usize::from(on(Plant::LengthLess));
     let length = part.bytes.len();
+    if on(Plant::LongFirst) && length > longest {
+        return Verdict::Refused(13, longest);
+    }
     let seen = if on(Plant::LongLast) { length.min(longest + 1) } else { length.min(longest) };
     match whole(&part.bytes[..seen]) {
         Err(Stop::Fault(place)) => Verdict::Refused(11, place),

@@ -165,6 +165,9 @@ impl Text<'_> {
         if on(Plant::RawKeys) {
             text = self.bytes[start..self.at - 1].to_vec();
         }
+        if on(Plant::KeyCutAt32) {
+            text.truncate(32);
+        }
         if on(Plant::KeyCutAtNul) {
             text.truncate(text.iter().position(|&b| b == 0).unwrap_or(text.len()));
         }
@@ -241,7 +244,7 @@ impl Text<'_> {
 
     /// Takes an opening byte that the grammar allows here; 12 where there is no level left.
     fn open(&mut self) -> Step<()> {
-        if self.level == LEVELS + usize::from(on(Plant::Levels65)) {
+        if self.level == LEVELS + usize::from(on(Plant::Levels65)) - usize::from(on(Plant::Levels63)) {
             return Err(Stop::Deep(self.at));
         }
         self.level += 1;

@@ -115,11 +115,7 @@ fn take_line<'a>(book: &mut Book, earlier: &mut HashSet<&'a [u8]>, text: &'a [u8
     }
     let repeated = !earlier.insert(text);
     book.forms[rule] = Some(line.form);
-    let new_key = !line.key.is_empty() && !book.keys.contains(&line.key);
-    let most_edges = if on(Plant::Edges513) { 513 } else { 512 };
-    let most_keys = if on(Plant::Keys129) { 129 } else { 128 };
-    let counted = if on(Plant::EndsCounted) { number - 2 } else { book.edges.len() };
-    let full = line.edge.is_some() && (counted == most_edges || new_key && book.keys.len() == most_keys);
+    let (new_key, full) = room(book, &line, number);
     if repeated && !(on(Plant::CountBeforeRepeat) && full) {
         return Err(7);
     }
@@ -136,6 +132,15 @@ fn take_line<'a>(book: &mut Book, earlier: &mut HashSet<&'a [u8]>, text: &'a [u8
         }
     }
     Ok(())
+}
+
+/// Whether the line has a new key, and whether it is an edge too many or has a key too many: at most 512 and 128.
+fn room(book: &Book, line: &Line, number: usize) -> (bool, bool) {
+    let new_key = !line.key.is_empty() && !book.keys.contains(&line.key);
+    let most_edges = if on(Plant::Edges513) { 513 } else { 512 };
+    let most_keys = if on(Plant::Keys129) { 129 } else { 128 };
+    let edges = if on(Plant::EndsCounted) { number - 2 } else { book.edges.len() };
+    (new_key, line.edge.is_some() && (edges == most_edges || new_key && book.keys.len() == most_keys))
 }
 
 /// The six fields of a well formed line; none where the line is malformed (refusal 3).

@@ -160,12 +160,14 @@ pub fn difference(trial: &Trial, found: &Found, output: &[u8], status: Option<i3
     let none = "no such line".to_string();
     let (paper, program) = (want.get(at).unwrap_or(&none), got.get(at).unwrap_or(&none));
     let book = trial.book.as_ref().map_or("absent".to_string(), |bytes| escaped(bytes));
-    Some(format!("book: {book}\nrecord {at}: {record}\npaper:   {paper}\nprogram: {program} (status {status:?}, {} of {} lines)", got.len(), want.len()))
+    let ended = format!("status {status:?}, {} of {} lines", got.len(), want.len());
+    Some(format!("book: {book}\nrecord {at}: {record}\npaper:   {paper}\nprogram: {program} ({ended})"))
 }
 
 /// Bytes outside 0x20 to 0x7E as \xNN; the middle of very long ones left out.
 pub fn escaped(bytes: &[u8]) -> String {
-    let shown = |part: &[u8]| part.iter().map(|&b| if (0x20..0x7F).contains(&b) { (b as char).to_string() } else { format!("\\x{b:02X}") }).collect::<String>();
+    let letter = |&b: &u8| if (0x20..0x7F).contains(&b) { (b as char).to_string() } else { format!("\\x{b:02X}") };
+    let shown = |part: &[u8]| part.iter().map(letter).collect::<String>();
     if bytes.len() <= 4000 {
         return shown(bytes);
     }

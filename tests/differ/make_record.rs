@@ -13,7 +13,8 @@ enum Node {
     Obj(Vec<(Vec<u8>, Node)>),
 }
 
-const NUMBERS: &[&str] = &["0", "-0", "1", "12", "-7", "10", "1.0", "0.5", "-0.25", "1e0", "1E+5", "2e-3", "0e0", "-1.5E-10", "100000000000000000000"];
+const NUMBERS: &[&str] =
+    &["0", "-0", "1", "12", "-7", "10", "1.0", "0.5", "-0.25", "1e0", "1E+5", "2e-3", "0e0", "-1.5E-10", "100000000000000000000"];
 const INTS: &[&str] = &["0", "-0", "1", "12", "-7", "907", "123456789012345678901234567890"];
 const ODD: &[&str] = &[
     "01", "00", "-01", "-", "--1", "+1", "1.", ".5", "1.e1", "1e", "1e+", "1e1.5", "0x10", "1 2", "Infinity", "NaN", "nul", "nulx", "tru",
@@ -105,14 +106,19 @@ fn string(rng: &mut Rng, bad: usize) -> Vec<u8> {
 
 fn good_piece(rng: &mut Rng, bytes: &mut Vec<u8>) {
     match rng.below(6) {
-        0 => bytes.extend_from_slice(rng.pick(&["\\\"", "\\\\", "\\/", "\\b", "\\f", "\\n", "\\r", "\\t", "\\u0000", "\\u00e4", "\\uFFFF"]).as_bytes()),
+        0 => {
+            let escapes = ["\\\"", "\\\\", "\\/", "\\b", "\\f", "\\n", "\\r", "\\t", "\\u0000", "\\u00e4", "\\uFFFF"];
+            bytes.extend_from_slice(rng.pick(&escapes).as_bytes());
+        }
         1 => {
             let (high, low) = (0xD800 + rng.below(0x400), 0xDC00 + rng.below(0x400));
             let text = if rng.chance(50) { format!("\\u{high:04x}\\u{low:04X}") } else { format!("\\u{high:04X}\\u{low:04x}") };
             bytes.extend_from_slice(text.as_bytes());
         }
         2 => {
-            let ends = [0x7F, 0x80, 0x7FF, 0x800, 0xFFF, 0x1000, 0xD7FF, 0xE000, 0xFEFF, 0xFFFF, 0x10000, 0x3FFFF, 0x40000, 0xFFFFF, 0x100000, 0x10FFFF];
+            let ends = [
+                0x7F, 0x80, 0x7FF, 0x800, 0xFFF, 0x1000, 0xD7FF, 0xE000, 0xFEFF, 0xFFFF, 0x10000, 0x3FFFF, 0x40000, 0xFFFFF, 0x100000, 0x10FFFF,
+            ];
             let letter = char::from_u32(*rng.pick(&ends)).expect("no surrogate");
             bytes.extend_from_slice(letter.encode_utf8(&mut [0; 4]).as_bytes());
         }
@@ -123,13 +129,15 @@ fn good_piece(rng: &mut Rng, bytes: &mut Vec<u8>) {
 
 fn bad_piece(rng: &mut Rng, bytes: &mut Vec<u8>) {
     const BYTES: &[&[u8]] = &[
-        b"\xC0\x80", b"\xC1\xBF", b"\xC2", b"\xC2\xC2", b"\xDF\x7F", b"\xE0\x80\x80", b"\xE0\x9F\xBF", b"\xE0\xA0", b"\xED\xA0\x80", b"\xED\xBF\xBF",
-        b"\xED\x9F\x7F", b"\xEF\xBF", b"\xF0\x80\x80\x80", b"\xF0\x8F\xBF\xBF", b"\xF0\x90\x80", b"\xF3\xBF\xBF\xC0", b"\xF4\x90\x80\x80",
-        b"\xF4\x8F\xBF", b"\xF5\x80\x80\x80", b"\xFF", b"\xFE", b"\x80", b"\xBF", b"\xE1\x80\xC0", b"\x1F", b"\0", b"\n", b"\t",
+        b"\xC0\x80", b"\xC1\xBF", b"\xC2", b"\xC2\xC2", b"\xDF\x7F", b"\xE0\x80\x80", b"\xE0\x9F\xBF", b"\xE0\xA0", b"\xED\xA0\x80",
+        b"\xED\xBF\xBF", b"\xED\x9F\x7F", b"\xEF\xBF", b"\xF0\x80\x80\x80", b"\xF0\x8F\xBF\xBF", b"\xF0\x90\x80", b"\xF3\xBF\xBF\xC0",
+        b"\xF4\x90\x80\x80", b"\xF4\x8F\xBF", b"\xF5\x80\x80\x80", b"\xFF", b"\xFE", b"\x80", b"\xBF", b"\xE1\x80\xC0", b"\x1F", b"\0",
+        b"\n", b"\t",
     ];
     const ESCAPES: &[&str] = &[
-        "\\x", "\\u", "\\u1", "\\u12", "\\u123", "\\u12g4", "\\uDC00", "\\uDFFF", "\\udd00", "\\uD800", "\\uDBFF\\", "\\uD800\\n", "\\uD800\\u",
-        "\\uD800\\uD800", "\\uD800\\u0041", "\\uD800x", "\\uD800\\uDB00", "\\uD83D\\uE000", "\\U0041", "\\'", "\\0", "\\uD8G0", "\\uDG00", "\\ud800\\ud",
+        "\\x", "\\u", "\\u1", "\\u12", "\\u123", "\\u12g4", "\\uDC00", "\\uDFFF", "\\udd00", "\\uD800", "\\uDBFF\\", "\\uD800\\n",
+        "\\uD800\\u", "\\uD800\\uD800", "\\uD800\\u0041", "\\uD800x", "\\uD800\\uDB00", "\\uD83D\\uE000", "\\U0041", "\\'", "\\0",
+        "\\uD8G0", "\\uDG00", "\\ud800\\ud",
     ];
     match rng.below(4) {
         0 => bytes.extend_from_slice(rng.pick(ESCAPES).as_bytes()),
@@ -316,7 +324,10 @@ fn odd(rng: &mut Rng) -> Vec<u8> {
         3 => (0..rng.range(1, 7)).map(|_| *rng.pick(b"-+.eE001129")).collect(),
         _ => (0..rng.range(1, 8)).map(|_| *rng.pick(b"[]{},:\"a1 \\")).collect(),
     };
-    let (before, behind) = *rng.pick(&[("", ""), ("", ""), ("[", "]"), ("[1,", " ]"), ("{\"a\":", "}"), ("{\"a\" : ", ",\"b\":1}"), ("{", ":1}"), (" ", "\n"), ("[", "}")]);
+    const AROUND: &[(&str, &str)] = &[
+        ("", ""), ("", ""), ("[", "]"), ("[1,", " ]"), ("{\"a\":", "}"), ("{\"a\" : ", ",\"b\":1}"), ("{", ":1}"), (" ", "\n"), ("[", "}"),
+    ];
+    let (before, behind) = *rng.pick(AROUND);
     [before.as_bytes(), &thing, behind.as_bytes()].concat()
 }
 
@@ -391,15 +402,16 @@ pub fn stream(rng: &mut Rng, records: &[Vec<u8>]) -> Vec<u8> {
 
 /// Beginnings of texts: one for every place that the grammar knows.
 const BEGINNINGS: &[&[u8]] = &[
-    b"", b" ", b"n", b"nu", b"nul", b"null", b"t", b"tr", b"tru", b"true", b"f", b"fa", b"fal", b"fals", b"false", b"-", b"0", b"-0", b"1", b"12",
-    b"1.", b"1.5", b"1e", b"1E", b"1e+", b"1e-", b"1e5", b"0.", b"0e", b"1.5e", b"\"", b"\"a", b"\"\\", b"\"\\u", b"\"\\u0", b"\"\\u00",
-    b"\"\\u000", b"\"\\u0000", b"\"\\ud", b"\"\\uD", b"\"\\uD8", b"\"\\ud80", b"\"\\uDBFF", b"\"\\uD800\\", b"\"\\uD800\\u", b"\"\\uD800\\ud",
-    b"\"\\uD800\\uDC", b"\"\\uD800\\uDF0", b"\"\\uD800\\uDC00", b"\"\\n", b"\"\xC2", b"\"\xDF", b"\"\xE0", b"\"\xE0\xA0", b"\"\xE1", b"\"\xE1\x80",
-    b"\"\xEC", b"\"\xED", b"\"\xED\x9F", b"\"\xEE", b"\"\xEF", b"\"\xEF\xBF", b"\"\xF0", b"\"\xF0\x90", b"\"\xF0\x90\x80", b"\"\xF1", b"\"\xF3\x80",
-    b"\"\xF3\x80\x80", b"\"\xF4", b"\"\xF4\x8F", b"\"\xF4\x8F\xBF", b"\"\"", b"[", b"[ ", b"[1", b"[1 ", b"[1,", b"[1, ", b"[]", b"[[", b"[[]", b"[{}",
-    b"[null", b"[tru", b"[\"\"", b"[\"", b"[0", b"[-", b"[1.", b"[1.0", b"[1e", b"[1e1", b"{", b"{ ", b"{\"", b"{\"a", b"{\"\\", b"{\"\\u006", b"{\"a\"",
-    b"{\"a\" ", b"{\"a\":", b"{\"a\": ", b"{\"a\":1", b"{\"a\":1 ", b"{\"a\":1,", b"{\"a\":1, ", b"{\"a\":null", b"{\"a\":\"\"", b"{}", b"{\"a\":{}", b"{\"a\":[",
-    b"{\"a\":[]", b"{\"\xE0", b"{\"\xF4", b"\xEF", b"\xEF\xBB",
+    b"", b" ", b"n", b"nu", b"nul", b"null", b"t", b"tr", b"tru", b"true", b"f", b"fa", b"fal", b"fals", b"false", b"-", b"0", b"-0", b"1",
+    b"12", b"1.", b"1.5", b"1e", b"1E", b"1e+", b"1e-", b"1e5", b"0.", b"0e", b"1.5e", b"\"", b"\"a", b"\"\\", b"\"\\u", b"\"\\u0",
+    b"\"\\u00", b"\"\\u000", b"\"\\u0000", b"\"\\ud", b"\"\\uD", b"\"\\uD8", b"\"\\ud80", b"\"\\uDBFF", b"\"\\uD800\\", b"\"\\uD800\\u",
+    b"\"\\uD800\\ud", b"\"\\uD800\\uDC", b"\"\\uD800\\uDF0", b"\"\\uD800\\uDC00", b"\"\\n", b"\"\xC2", b"\"\xDF", b"\"\xE0", b"\"\xE0\xA0",
+    b"\"\xE1", b"\"\xE1\x80", b"\"\xEC", b"\"\xED", b"\"\xED\x9F", b"\"\xEE", b"\"\xEF", b"\"\xEF\xBF", b"\"\xF0", b"\"\xF0\x90",
+    b"\"\xF0\x90\x80", b"\"\xF1", b"\"\xF3\x80", b"\"\xF3\x80\x80", b"\"\xF4", b"\"\xF4\x8F", b"\"\xF4\x8F\xBF", b"\"\"", b"[", b"[ ",
+    b"[1", b"[1 ", b"[1,", b"[1, ", b"[]", b"[[", b"[[]", b"[{}", b"[null", b"[tru", b"[\"\"", b"[\"", b"[0", b"[-", b"[1.", b"[1.0",
+    b"[1e", b"[1e1", b"{", b"{ ", b"{\"", b"{\"a", b"{\"\\", b"{\"\\u006", b"{\"a\"", b"{\"a\" ", b"{\"a\":", b"{\"a\": ", b"{\"a\":1",
+    b"{\"a\":1 ", b"{\"a\":1,", b"{\"a\":1, ", b"{\"a\":null", b"{\"a\":\"\"", b"{}", b"{\"a\":{}", b"{\"a\":[", b"{\"a\":[]", b"{\"\xE0",
+    b"{\"\xF4", b"\xEF", b"\xEF\xBB",
 ];
 
 /// Every byte behind each beginning of a text, at the root or inside an array.

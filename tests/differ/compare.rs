@@ -44,7 +44,12 @@ pub fn trial(seed: u64, number: u64) -> Trial {
         return with_records(&mut rng, book, 8, pieces);
     }
     let book = joined(&book_lines(&mut rng));
-    with_records(&mut rng, Some(book), RECORDS, pieces)
+    let count = match rng.below(100) {
+        0 => rng.below(2),
+        1 => 20 * RECORDS,
+        _ => RECORDS,
+    };
+    with_records(&mut rng, Some(book), count, pieces)
 }
 
 fn with_records(rng: &mut Rng, book: Option<Vec<u8>>, count: usize, pieces: Option<u64>) -> Trial {

@@ -64,7 +64,12 @@ fn fixed(rng: &mut Rng) -> Lines {
 fn small(rng: &mut Rng) -> Lines {
     let mut names: Vec<String> = KEYS.iter().map(|k| k.to_string()).collect();
     rng.shuffle(&mut names);
-    let keys = if rng.chance(60) { rng.range(1, 5) } else { rng.range(4, 16) };
+    let (least, most) = *rng.pick(&[(1, 5), (1, 5), (4, 16), (4, 28)]);
+    let mut keys = rng.range(least, most);
+    if rng.chance(5) {
+        names.extend((0..100).map(|i| format!("g{i}")));
+        keys = names.len();
+    }
     names.truncate(keys);
     let mut others: Vec<usize> = (1..32).collect();
     rng.shuffle(&mut others);
@@ -190,9 +195,9 @@ fn pad(rng: &mut Rng, lines: &mut Lines, edges: usize, keys: usize) {
         if before { lines.insert(0, line) } else { lines.push(line) }
         count += 1;
     }
-    for i in 0..edges.saturating_sub(count) {
-        lines.push(format!("{arrays} arr {} - {} {}", i % 16, PLAIN[i / 256 % 6], i / 16 % 16).into_bytes());
-    }
+    let more = (0..edges.saturating_sub(count)).map(|i| format!("{arrays} arr {} - {} {}", i % 16, PLAIN[i / 256 % 6], i / 16 % 16).into_bytes());
+    let at = if rng.chance(50) { 0 } else { lines.len() };
+    lines.splice(at..at, more);
 }
 
 /// A changed book; `number` is the refusal aimed at.
@@ -221,9 +226,10 @@ pub fn changed(rng: &mut Rng, number: usize) -> Vec<u8> {
     }
 }
 
-/// A book of 65,535 to 65,538 bytes: a line too many, a long number, or a long key at its end.
+/// A book of 65,535 to 65,538 bytes, or far more: a line too many, a long number, or a long key at its end.
 fn size_edge(rng: &mut Rng, mut lines: Lines) -> Vec<u8> {
-    let room = (65_535 + rng.below(4)).saturating_sub(joined(&lines).len() + 1);
+    let size = if rng.chance(90) { 65_535 + rng.below(4) } else { rng.range(65_537, 400_000) };
+    let room = size.saturating_sub(joined(&lines).len() + 1);
     let line = match rng.below(4) {
         0 => vec![b'x'; room],
         1 => [b"0 arr 0 - int 1".to_vec(), vec![b'0'; room.saturating_sub(15)]].concat(),

@@ -51,6 +51,33 @@ impl<'a> Ways<'a> {
         (own + self.need[STATES * rule + next]).min(NO_WAY)
     }
 
+    /// A value with an accepting run of rule 0 that nests about `levels` deep where the book lets it, and is narrow.
+    fn dive(&self, rng: &mut Rng, rule: usize, levels: usize) -> Node {
+        let (mut list, mut state, mut inner) = (Vec::new(), 0, levels > 1);
+        for step in 0.. {
+            let edges: Vec<_> = self.book.edges(rule, state).iter().filter(|e| self.through(rule, e.kind, e.next) < NO_WAY).collect();
+            if edges.is_empty() || self.book.ends[rule][state] && (!inner || step > 5) {
+                break;
+            }
+            let nearest = edges.iter().min_by_key(|e| self.through(rule, e.kind, e.next)).expect("an edge");
+            let references: Vec<_> = edges.iter().filter(|e| matches!(e.kind, Kind::Rule(_))).collect();
+            let edge = match inner && step <= 5 {
+                true if !references.is_empty() => rng.pick(&references),
+                true => rng.pick(&edges),
+                false => nearest,
+            };
+            let value = match edge.kind {
+                Kind::Rule(n) if inner => self.dive(rng, n, levels - 1),
+                Kind::Rule(n) => self.value(rng, n, &mut 0),
+                plain => scalar(rng, plain),
+            };
+            inner &= !matches!(edge.kind, Kind::Rule(_));
+            list.push((edge.key.clone(), value));
+            state = edge.next;
+        }
+        self.node(rng, rule, list)
+    }
+
     /// A value with an accepting run of the rule; after `room` values it heads for the nearest end.
     fn value(&self, rng: &mut Rng, rule: usize, room: &mut usize) -> Node {
         let (mut list, mut state) = (Vec::new(), 0);
@@ -70,6 +97,11 @@ impl<'a> Ways<'a> {
             list.push((edge.key.clone(), value));
             state = edge.next;
         }
+        self.node(rng, rule, list)
+    }
+
+    /// The elements in their order, or the pairs in any.
+    fn node(&self, rng: &mut Rng, rule: usize, mut list: Vec<(Vec<u8>, Node)>) -> Node {
         if self.book.forms[rule] == Some(Form::Arr) {
             return Node::Arr(list.into_iter().map(|(_, value)| value).collect());
         }
@@ -162,7 +194,10 @@ fn any_node(rng: &mut Rng, book: &Book, depth: usize) -> Node {
 
 fn any_key(rng: &mut Rng, book: &Book) -> Vec<u8> {
     let mut key = if book.keys.is_empty() { b"a".to_vec() } else { rng.pick(&book.keys).clone() };
-    match rng.below(14) {
+    match rng.below(18) {
+        6 => key.extend(vec![b'k'; if rng.chance(1) { 65_536 } else { *rng.pick(&[32, 224, 255, 256, 257]) }]),
+        7 => key = [vec![b'k'; *rng.pick(&[32, 224, 256])], key].concat(),
+        8 => key = key.repeat(rng.range(2, 20)),
         0 => key.push(0),
         1 => drop(key.pop()),
         2 => key.push(b'x'),
@@ -346,8 +381,9 @@ pub fn records(rng: &mut Rng, book: &Book, count: usize) -> Vec<Vec<u8>> {
             continue;
         }
         let mut node = if ways.need[0] < NO_WAY && rng.chance(90) {
-            let mut room = rng.below(20);
-            ways.value(rng, 0, &mut room)
+            let mut room = if rng.chance(96) { rng.below(20) } else { rng.below(600) };
+            let levels = if rng.chance(8) { rng.range(40, 66) } else { 0 };
+            if levels > 0 { ways.dive(rng, 0, levels) } else { ways.value(rng, 0, &mut room) }
         } else {
             any_node(rng, book, 3)
         };

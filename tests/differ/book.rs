@@ -90,10 +90,20 @@ pub fn load(bytes: &[u8]) -> Result<Book, Refusal> {
     }
     named_rules(&book)?;
     ascending_keys(&book)?;
-    for edge in &book.edges {
-        book.by_state[STATES * edge.rule + edge.state].push(edge.clone());
+    for (number, edge) in book.edges.iter().enumerate() {
+        if !lost(&book, number, edge) {
+            book.by_state[STATES * edge.rule + edge.state].push(edge.clone());
+        }
     }
     Ok(book)
+}
+
+/// True for the edges that a planted fault loses.
+fn lost(book: &Book, number: usize, edge: &Edge) -> bool {
+    on(Plant::HighEdges) && number > 255
+        || on(Plant::HighKeys) && !edge.key.is_empty() && book.key_number(&edge.key) > 63
+        || on(Plant::HighRules) && edge.rule > 15
+        || on(Plant::LastState) && edge.next == 15
 }
 
 /// One line: 3 malformed, 4 above a limit, 6 form changed, 7 repeated, 5 an edge or key too many.

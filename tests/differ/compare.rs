@@ -11,9 +11,9 @@ use std::path::{Path, PathBuf};
 use std::process::{Command, Stdio};
 use std::thread;
 
-/// Trials with a long part each; they come first, and the two with every byte in every place behind them.
+/// Trials with a long part each; they come first, then two with every byte in every place, then the trials made by chance.
 pub const LONG: u64 = 9;
-const FIRST: u64 = LONG + 2;
+pub const FIRST: u64 = LONG + 2;
 /// Records of an accepted book, about.
 const RECORDS: usize = 60;
 

@@ -11,7 +11,7 @@ mod run;
 mod stream;
 mod text;
 
-use compare::{difference, paper, trial, Program, Table, Trial, LONG};
+use compare::{difference, paper, trial, Program, Table, Trial, FIRST, LONG};
 use plant::Plant;
 use std::path::PathBuf;
 use std::process::exit;
@@ -70,13 +70,13 @@ fn run(program: &Program, trial: &Trial) -> (Vec<u8>, Option<i32>) {
     })
 }
 
-/// The comparison: trials until there are enough cases.
+/// The comparison: the fixed trials, then trials made by chance until these have enough cases.
 fn compare_all(options: &Options, program: &Program) -> bool {
-    let cases = options.cases.unwrap_or(160_000);
+    let mut cases = options.cases.unwrap_or(100_000);
     let mut table = Table::default();
     let mut differences = 0;
     let mut number = options.only.unwrap_or(0);
-    while table.cases() < cases && differences < MOST_DIFFERENCES {
+    while (number < FIRST || table.cases() < cases) && differences < MOST_DIFFERENCES {
         let trial = trial(options.seed, number);
         let (output, status) = run(program, &trial);
         let found = paper(&trial);
@@ -86,6 +86,9 @@ fn compare_all(options: &Options, program: &Program) -> bool {
             println!("DIFFERENCE seed {} trial {number}\n{words}", options.seed);
         }
         number += 1;
+        if number == FIRST {
+            cases += table.cases();
+        }
         if options.only.is_some() {
             break;
         }
@@ -98,9 +101,9 @@ fn compare_all(options: &Options, program: &Program) -> bool {
     differences == 0 && (missed == 0 || options.only.is_some())
 }
 
-/// Trials with what the program gave for them, long records last.
+/// Trials with what the program gave for them: those made by chance first, those with long parts last.
 fn kept_trials(options: &Options, program: &Program) -> Vec<(Trial, Vec<u8>, Option<i32>)> {
-    let cases = options.cases.unwrap_or(120_000);
+    let cases = options.cases.unwrap_or(100_000);
     let mut table = Table::default();
     let mut kept = Vec::new();
     let mut keep = |number| {
@@ -110,11 +113,11 @@ fn kept_trials(options: &Options, program: &Program) -> Vec<(Trial, Vec<u8>, Opt
         kept.push((trial, output, status));
         table.cases()
     };
-    let mut number = LONG;
+    let mut number = FIRST;
     while keep(number) < cases {
         number += 1;
     }
-    for number in 0..LONG {
+    for number in (LONG..FIRST).chain(0..LONG) {
         keep(number);
     }
     kept

@@ -328,6 +328,13 @@ fn set_field(line: &mut Vec<u8>, index: usize, text: &[u8]) {
     *line = fields.join(&b' ');
 }
 
+/// The index of some edge of an obj rule, or of some line where there is none.
+fn object_edge(rng: &mut Rng, lines: &Lines) -> usize {
+    let is_edge = |i: &usize| !lines[*i].ends_with(b" -") && lines[*i].windows(5).any(|w| w == b" obj ");
+    let edges: Vec<usize> = (0..lines.len()).filter(is_edge).collect();
+    if edges.is_empty() { rng.below(lines.len()) } else { *rng.pick(&edges) }
+}
+
 /// Refusal 3 in its many shapes.
 fn malformed(rng: &mut Rng, lines: &mut Lines, at: usize) {
     let line = &mut lines[at];
@@ -337,7 +344,11 @@ fn malformed(rng: &mut Rng, lines: &mut Lines, at: usize) {
         (2, b"1x"), (3, b"-"), (3, b"a"), (3, b"k23456789012345678901234567890123"), (3, b"\xC3\xA4"), (3, b"a\x7F"), (4, b"string"), (4, b"r"),
         (4, b"r01"), (4, b"-"), (4, b"R0"), (5, b"-"), (5, b"0"), (5, b"007"),
     ];
-    match rng.below(12) {
+    match rng.below(14) {
+        7 | 8 => {
+            let edge = object_edge(rng, lines);
+            set_field(&mut lines[edge], 3, &vec![b'k'; rng.range(32, 33)]);
+        }
         0 => line.push(b'\r'),
         1 => line.insert(0, b' '),
         2 => line.push(b' '),
@@ -356,8 +367,8 @@ fn malformed(rng: &mut Rng, lines: &mut Lines, at: usize) {
 fn missing_rule(rng: &mut Rng, lines: &mut Lines, at: usize) {
     let rule: Vec<u8> = lines[at].split(|&b| b == b' ').next().unwrap_or(b"1").to_vec();
     let other = rng.range(1, 31);
-    if rng.chance(30) {
-        descending(rng, lines, at);
+    if rng.chance(40) {
+        lines.push(b"0 obj 14 zz int 14".to_vec());
     }
     match rng.below(8) {
         0 => lines.retain(|line| !line.starts_with(b"0 ")),
@@ -387,11 +398,10 @@ fn descending(rng: &mut Rng, lines: &mut Lines, at: usize) {
             lines.insert(at, format!("0 obj {state} {key} {} {next}", rng.pick(PLAIN)).into_bytes());
         }
         _ => {
-            let own = lines[at].split(|&b| b == b' ').nth(2).unwrap_or(b"0").to_vec();
+            let edge = object_edge(rng, lines);
+            let own = lines[edge].split(|&b| b == b' ').nth(2).unwrap_or(b"0").to_vec();
             let to = if rng.chance(50) { own } else { next.to_string().into_bytes() };
-            if !lines[at].ends_with(b"end -") {
-                set_field(&mut lines[at], 5, &to);
-            }
+            set_field(&mut lines[edge], 5, &to);
         }
     }
 }

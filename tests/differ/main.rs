@@ -3,6 +3,7 @@
 
 mod book;
 mod compare;
+mod examples;
 mod make_book;
 mod make_record;
 mod plant;
@@ -35,6 +36,9 @@ fn main() {
         Ok(path) => path,
         Err(error) => fail(&format!("{}: {error}", options.judge.display())),
     };
+    if let Some(words) = examples::wrong() {
+        fail(&format!("the paper is wrong about an example of 01: {words}"));
+    }
     let folder = compare::folder().unwrap_or_else(|error| fail(&format!("no folder to work in: {error}")));
     let program = Program { path, folder };
     println!("seed {}", options.seed);

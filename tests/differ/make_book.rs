@@ -39,11 +39,11 @@ pub fn joined(lines: &Lines) -> Vec<u8> {
 /// The lines of a book that most often loads.
 pub fn book_lines(rng: &mut Rng) -> Lines {
     match rng.below(12) {
-        0 => return fixed(rng),
+        0 => fixed(rng),
         1 => {
             let mut lines = small(rng);
             pad(rng, &mut lines, 512, 128);
-            return lines;
+            lines
         }
         _ => small(rng),
     }
@@ -61,6 +61,7 @@ fn fixed(rng: &mut Rng) -> Lines {
     rng.pick(&texts).iter().map(|line| line.as_bytes().to_vec()).collect()
 }
 
+/// A book of few keys or, seldom, of more than 100; of few rules or, seldom, of up to 31.
 fn small(rng: &mut Rng) -> Lines {
     let mut names: Vec<String> = KEYS.iter().map(|k| k.to_string()).collect();
     rng.shuffle(&mut names);
@@ -123,7 +124,7 @@ impl Maker<'_> {
         for first in 0..count {
             for second in first + 1..count {
                 let often = if second == first + 1 { 95 } else if dense { 70 } else { 25 };
-                while self.rng.chance(often.min(if self.lines.len() > 400 { 0 } else { often })) {
+                while self.lines.len() <= 400 && self.rng.chance(often) {
                     let key = self.rng.range(bounds[first], bounds[second] - 1);
                     let kind = self.kind();
                     let text = format!("{rule} obj {} {} {kind} {}", states[first], self.keys[key], states[second]);

@@ -1,6 +1,6 @@
 //! Makes records: valid ones along the edges of a book, near misses, damaged bytes, and odd words, numbers and strings.
 
-use crate::book::{Book, Form, Kind, RULES, STATES};
+use crate::book::{Book, Edge, Form, Kind, RULES, STATES};
 use crate::rng::Rng;
 use crate::stream::{LONGEST, RS};
 
@@ -51,19 +51,27 @@ impl<'a> Ways<'a> {
         (own + self.need[STATES * rule + next]).min(NO_WAY)
     }
 
-    /// A value with an accepting run of rule 0 that nests about `levels` deep where the book lets it, and is narrow.
+    /// The edges of a state that lead on to an end state, and the one that leads there first.
+    fn edges(&self, rule: usize, state: usize) -> (Vec<&Edge>, Option<&Edge>) {
+        let through = |edge: &&Edge| self.through(rule, edge.kind, edge.next);
+        let list: Vec<&Edge> = self.book.edges(rule, state).iter().filter(|edge| through(edge) < NO_WAY).collect();
+        let nearest = list.iter().copied().min_by_key(through);
+        (list, nearest)
+    }
+
+    /// A value with an accepting run of the rule that nests about `levels` deep where the book lets it, and is narrow.
     fn dive(&self, rng: &mut Rng, rule: usize, levels: usize) -> Node {
         let (mut list, mut state, mut inner) = (Vec::new(), 0, levels > 1);
         for step in 0.. {
-            let edges: Vec<_> = self.book.edges(rule, state).iter().filter(|e| self.through(rule, e.kind, e.next) < NO_WAY).collect();
-            if edges.is_empty() || self.book.ends[rule][state] && (!inner || step > 5) {
+            let (edges, nearest) = self.edges(rule, state);
+            let Some(nearest) = nearest else { break };
+            if self.book.ends[rule][state] && (!inner || step > 5) {
                 break;
             }
-            let nearest = edges.iter().min_by_key(|e| self.through(rule, e.kind, e.next)).expect("an edge");
-            let references: Vec<_> = edges.iter().filter(|e| matches!(e.kind, Kind::Rule(_))).collect();
+            let references: Vec<&Edge> = edges.iter().copied().filter(|edge| matches!(edge.kind, Kind::Rule(_))).collect();
             let edge = match inner && step <= 5 {
-                true if !references.is_empty() => rng.pick(&references),
-                true => rng.pick(&edges),
+                true if !references.is_empty() => *rng.pick(&references),
+                true => *rng.pick(&edges),
                 false => nearest,
             };
             let value = match edge.kind {
@@ -82,13 +90,12 @@ impl<'a> Ways<'a> {
     fn value(&self, rng: &mut Rng, rule: usize, room: &mut usize) -> Node {
         let (mut list, mut state) = (Vec::new(), 0);
         loop {
-            let edges: Vec<_> = self.book.edges(rule, state).iter().filter(|e| self.through(rule, e.kind, e.next) < NO_WAY).collect();
-            let ended = self.book.ends[rule][state];
-            if edges.is_empty() || ended && (*room == 0 || rng.chance(25)) {
+            let (edges, nearest) = self.edges(rule, state);
+            let Some(nearest) = nearest else { break };
+            if self.book.ends[rule][state] && (*room == 0 || rng.chance(25)) {
                 break;
             }
-            let nearest = edges.iter().min_by_key(|e| self.through(rule, e.kind, e.next)).expect("an edge");
-            let edge = if *room == 0 { nearest } else { rng.pick(&edges) };
+            let edge = if *room == 0 { nearest } else { *rng.pick(&edges) };
             *room = room.saturating_sub(1);
             let value = match edge.kind {
                 Kind::Rule(n) => self.value(rng, n, room),

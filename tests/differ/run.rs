@@ -1,6 +1,6 @@
 //! The paper, part three: runs (01, "Runs"). An object is accepted in *some* order of its pairs, so orders are tried.
 
-use crate::book::{Book, Edge, Form, Kind, RULES, STATES};
+use crate::book::{Book, Edge, Form, Kind, RULES};
 use crate::plant::{on, Plant};
 use crate::text::Value;
 use std::collections::HashSet;
@@ -118,7 +118,6 @@ impl Search<'_> {
 
     /// True where an accepting run goes on with this pair.
     fn takes(&mut self, used: &mut Vec<bool>, state: usize, pair: usize) -> bool {
-        debug_assert!(state < STATES);
         let (key, value) = &self.pairs[pair];
         let book = self.book;
         let edges: Vec<&Edge> = book.edges(self.rule, state).iter().filter(|edge| edge.key == *key).collect();

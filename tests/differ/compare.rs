@@ -9,13 +9,17 @@ use std::fs;
 use std::io::{Read, Write};
 use std::path::{Path, PathBuf};
 use std::process::{Command, Stdio};
+use std::sync::mpsc;
 use std::thread;
+use std::time::Duration;
 
 /// Trials with a long part each; they come first, then two with every byte in every place, then the trials made by chance.
 pub const LONG: u64 = 9;
 pub const FIRST: u64 = LONG + 2;
 /// Records of an accepted book, about.
 const RECORDS: usize = 60;
+/// A program still at one trial after this time is ended.
+const LONGEST_RUN: Duration = Duration::from_secs(60);
 
 /// A book, absent where `book.txt` cannot be read, a stream, and whether it is written in small pieces.
 pub struct Trial {
@@ -70,23 +74,33 @@ pub struct Program {
 }
 
 impl Program {
-    /// What the program prints for a trial, and its status.
+    /// What the program prints for a trial, and its status; a program that does not end is ended.
     pub fn run(&self, trial: &Trial) -> std::io::Result<(Vec<u8>, Option<i32>)> {
         let file = self.folder.join("book.txt");
         match &trial.book {
             Some(bytes) => fs::write(&file, bytes)?,
             None => drop(fs::remove_file(&file)),
         }
-        let mut child =
-            Command::new(&self.path).current_dir(&self.folder).stdin(Stdio::piped()).stdout(Stdio::piped()).spawn()?;
+        let mut command = Command::new(&self.path);
+        let mut child = command.current_dir(&self.folder).stdin(Stdio::piped()).stdout(Stdio::piped()).spawn()?;
         let mut stdin = child.stdin.take().expect("stdin");
-        let mut output = Vec::new();
+        let mut stdout = child.stdout.take().expect("stdout");
+        let (done, wait) = mpsc::channel();
         thread::scope(|scope| {
             // A program that refuses the book need not read its input: a write that fails is no fault.
             scope.spawn(move || drop(write_pieces(&mut stdin, &trial.stream, trial.pieces)));
-            child.stdout.take().expect("stdout").read_to_end(&mut output)
-        })?;
-        Ok((output, child.wait()?.code()))
+            let reader = scope.spawn(move || {
+                let mut output = Vec::new();
+                let read = stdout.read_to_end(&mut output);
+                let _ = done.send(());
+                read.map(|_| output)
+            });
+            if wait.recv_timeout(LONGEST_RUN).is_err() {
+                child.kill()?;
+            }
+            let output = reader.join().expect("the reading thread")?;
+            Ok((output, child.wait()?.code()))
+        })
     }
 }
 

@@ -35,8 +35,8 @@ pub fn trial(seed: u64, number: u64) -> Trial {
         let book = b"rule form state key value next\n0 arr 0 - str 0\n0 arr 0 - num 0\n0 arr 0 - end -\n".to_vec();
         let stream = match number {
             LONG => stream(&mut rng, &every_byte(b"")),
-            0..LONG => long_stream(number),
-            _ => stream(&mut rng, &every_byte(b"[\"\",")),
+            _ if number > LONG => stream(&mut rng, &every_byte(b"[\"\",")),
+            _ => long_stream(number),
         };
         return Trial { book: Some(book), stream, pieces: None };
     }

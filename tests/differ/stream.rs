@@ -57,7 +57,7 @@ pub fn verdict(book: &Book, part: &Part) -> Verdict {
 /// The place of 14 is the length.
 fn unfinished(bytes: &[u8]) -> usize {
     if on(Plant::UnfinishedPlace) {
-        return bytes.trim_ascii_end().len();
+        return bytes.iter().rposition(|byte| !b" \t\n\r".contains(byte)).map_or(0, |last| last + 1);
     }
     bytes.len()
 }

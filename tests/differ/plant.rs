@@ -1,0 +1,93 @@
+//! Planted faults: one-line changes of the paper, of which at most one is switched on.
+
+use std::sync::atomic::{AtomicU32, Ordering};
+
+static PLANT: AtomicU32 = AtomicU32::new(0);
+
+macro_rules! plants {
+    ($($name:ident: $words:expr,)*) => {
+        #[derive(Clone, Copy, PartialEq, Eq)]
+        #[repr(u32)]
+        pub enum Plant { Nothing, $($name,)* }
+
+        /// Every planted fault with what it does.
+        pub const ALL: &[(Plant, &str)] = &[$((Plant::$name, $words),)*];
+    };
+}
+
+plants! {
+    RawKeys: "a key compared before its escapes are resolved",
+    KeyCutAtNul: "a key cut at its first NUL",
+    KeyCutAt32: "a key cut after 32 bytes",
+    WordPlace: "fault place in a word one too far",
+    LowSurrogate: "a low surrogate alone accepted",
+    HighSurrogate: "a high surrogate alone accepted",
+    LeadingZero: "01 accepted",
+    MinusAlone: "- alone taken as a number",
+    BareFraction: "1. taken as a number",
+    NumberAtEnd: "a number at the end of a record not taken as whole",
+    NoFirstBlanks: "blanks before the first value refused",
+    FormFeed: "form feed taken as a blank",
+    ByteOrderMark: "a byte order mark skipped",
+    LongE0: "E0 80 accepted",
+    SurrogateBytes: "ED A0 accepted",
+    LongF0: "F0 80 accepted",
+    HighF4: "F4 90 accepted",
+    DelRefused: "7F refused in a string",
+    ControlText: "1F accepted in a string",
+    TrailingComma: "a comma before ] accepted",
+    Levels65: "65 levels allowed",
+    Levels63: "63 levels allowed",
+    LastLevel: "an array on level 64 fits nothing",
+    DeepFirst: "12 before 11 at one byte",
+    LengthLess: "a record of 16,777,216 bytes too long",
+    LongFirst: "13 before an earlier 11",
+    LongLast: "11 before 13 at one byte",
+    UnfinishedPlace: "place of 14 without the blanks at the end",
+    IntFraction: "int fits 1.0",
+    IntExponent: "int fits 1e0",
+    NumNotInt: "num does not fit 1",
+    NoEndAsked: "end state not asked",
+    LastPairWins: "of two pairs with one key the last is taken",
+    ManyPairs: "an object of more than 6 pairs never accepted",
+    WrittenOrder: "pairs tried in the written order only",
+    PairSkipped: "a pair that no edge takes is skipped",
+    FirstEdge: "only the first fitting edge of an array's state is taken",
+    HighEdges: "edges above 255 never taken",
+    HighKeys: "keys above 63 never taken",
+    HighRules: "rules above 15 without edges",
+    LastState: "no edge to state 15 taken",
+    FormNotAsked: "an empty array fits an obj rule",
+    ScalarRoot: "a scalar root is valid",
+    RsInString: "RS inside a string taken as text",
+    EmptyPart: "an empty part has a verdict",
+    HeadJudged: "the head judged like a record",
+    BookSize: "a book of 65,536 bytes too long",
+    LastLf: "a last line without LF accepted",
+    Key33: "a key of 33 bytes accepted",
+    NumberWraps: "a number in a book wraps at 2^32",
+    ZeroInFront: "a number in a book may have leading zeros",
+    LimitFirst: "4 before 3",
+    FormChange: "6: a changed form not asked",
+    LineBefore: "7: only the line before compared",
+    EndsCounted: "5: end lines counted as edges",
+    CountBeforeRepeat: "5 before 7",
+    Edges513: "513 edges allowed",
+    Keys129: "129 keys allowed",
+    RootFirst: "8: a missing rule 0 before a missing reference",
+    LastReference: "8: the line of the last missing reference",
+    KeysFirst: "9 before 8",
+    KeysByBytes: "9: keys compared by their bytes",
+    RulesMixed: "9: edges of different rules compared",
+    OwnKey: "9: an edge not compared with itself",
+    EarlierLine: "9: the line is the earlier of the pair",
+    EqualKeys: "9: equal keys allowed",
+}
+
+pub fn set(plant: Plant) {
+    PLANT.store(plant as u32, Ordering::Relaxed);
+}
+
+pub fn on(plant: Plant) -> bool {
+    PLANT.load(Ordering::Relaxed) == plant as u32
+}

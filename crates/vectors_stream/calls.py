@@ -190,7 +190,7 @@ class Text:
         raise Fault(self.i)
 
 
-# ---- runs of a rule, by trying every order
+# ---- runs of a rule, by searching for an order: one is given up at the first pair that no edge takes
 
 def lines(book):
     return [l.split(' ') for l in book.decode().split('\n')[1:] if l]

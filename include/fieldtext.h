@@ -1,0 +1,34 @@
+/* The field text reader for programs in C and C++: docs/LIBRARY.md. */
+#ifndef FIELDTEXT_H
+#define FIELDTEXT_H
+
+#include <stddef.h>
+#include <stdint.h>
+
+#ifdef __cplusplus
+extern "C" {
+#endif
+
+/* The bytes of an entry:
+     0      word: 0 valid, 1 invalid, 2 refused
+     1      number: 0, or that of the refusal: a book 1 to 9, a record 11 to 15, a call 21 to 23
+     2, 3   zero
+     4-7    place of the refusal, for a book its line; lowest byte first
+     8-15   bytes of the stream read by then; lowest byte first */
+#define FIELDTEXT_ENTRY 16
+
+/* The number of a book's refusal, and its line; 0 where the book is accepted. */
+uint8_t fieldtext_book_number(const uint8_t *book, size_t book_length);
+size_t fieldtext_book_line(const uint8_t *book, size_t book_length);
+
+/* Loads the book, starts with the work buffer, feeds the stream in pieces of size bytes (0: in one piece) and closes.
+   Returns how many entries that gives. Entry i is written to out + 16 * i, where out has these 16 bytes; no other byte of out
+   is written. A refused book, or a refused start, gives one entry and leaves the work buffer as it is. */
+size_t fieldtext_judge(const uint8_t *book, size_t book_length, const uint8_t *stream, size_t stream_length, size_t size,
+                       uint8_t *work, size_t work_length, uint8_t *out, size_t out_length);
+
+#ifdef __cplusplus
+}
+#endif
+
+#endif

@@ -24,7 +24,7 @@ use Rattle.reader.specs.declared.Answer.{Answer}
 use Rattle.reader.specs.declared.Answer.the-variants as Says
 
 -- ---- what 01 calls each refusal
-unfoldable pub refusalNumber : Refusal → ℕ
+abbrev pub refusalNumber : Refusal → ℕ
 refusalNumber No.SmallBuffer = 21
 refusalNumber No.ShortBuffer = 22
 refusalNumber No.AboveLimit = 23

@@ -3,7 +3,7 @@ ghost use mathlib.Core.Path.{_≡_};
 ghost use lib.ListN.{length};
 ghost use Rattle.progress.specs.Lex.{judged};
 ghost use Rattle.progress.specs.Memory.{endsRecord};
-ghost use Rattle.reader.specs.Machine.{freshLex, freshReader, zeroTally, countValid, countInvalid, countRefused, tallied, fitReader, startOf, feedOf, closeOf};
+ghost use Rattle.reader.specs.Machine.{refusalNumber, freshLex, freshReader, zeroTally, countValid, countInvalid, countRefused, tallied, fitReader, startOf, feedOf, closeOf};
 use json::lexer::Mode;
 use json::lexer::Place;
 use progress::Fault;
@@ -39,6 +39,17 @@ pub enum Refusal {
     ShortBuffer,
     // 23: a number of the table or the reader above its limit
     AboveLimit,
+}
+
+// The number of a refusal.
+pub fn refusal_number(n: Refusal) -> u8
+    ensures { λ r. ⌜ r ≡ refusalNumber n ⌝ }
+{
+    match n {
+        Refusal::SmallBuffer => 21,
+        Refusal::ShortBuffer => 22,
+        Refusal::AboveLimit => 23,
+    }
 }
 
 // What a call says: nothing, the verdict of a record, or why it is refused.

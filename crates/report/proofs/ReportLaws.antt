@@ -20,28 +20,8 @@ use Rattle.reader.specs.declared.Answer.{Answer}
 use Rattle.reader.specs.declared.Answer.the-variants as Says
 use Rattle.reader.specs.declared.Refusal.{Refusal}
 use Rattle.reader.specs.Machine.{Outcome, feedOf, withinReader, memoryOf, outcome}
+use Rattle.demand.proofs.FeedLaws.{count-of-feed}
 use Rattle.report.specs.Report.{Reported, stops, lineThen, byAnswer, reports, Report, inOut, reportOf}
-
--- ---- a feed reads no more than its piece
-
-count-of-run : (t : Table) (n : ℕ) (m : Mem) (i : ℕ) (s : List ℕ) → runMem t n m i s .count ≤ i + length s
-unfolding runMem
-count-of-run t n m i [] = omega arith
-count-of-run t n m i (b ∷ s) =
-    cond-elim (λ (e : Ran). e .count ≤ i + suc (length s)) (endsRecord (m .lex) b) (λ _. omega arith)
-    (λ _. omega (arith, count-of-run t n (stepMem t n m b) (i + 1) s))
-
-pub count-of-feed : (r : Reader) (t : Table) (w s : List ℕ) → feedOf r t w s .count ≤ length s
-unfolding feedOf
-count-of-feed r t w s =
-    let P : Outcome → Type 0 = λ (o : Outcome). o .count ≤ length s in
-    let e : Ran = runMem t (r .frames) (memoryOf r w) 0 s in
-    let h : e .count ≤ length s = omega (arith, count-of-run t (r .frames) (memoryOf r w) 0 s) in
-    cond-elim P (withinLimits t)
-    (λ _. cond-elim P (withinReader r)
-    (λ _. cond-elim P (ltb (length w) (96 * r .frames)) (λ _. omega arith) (λ _. cond-elim P (e .ended) (λ _. h) (λ _. h)))
-    (λ _. omega arith))
-    (λ _. omega arith)
 
 -- ---- one feed of a report
 

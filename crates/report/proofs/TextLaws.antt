@@ -36,27 +36,6 @@ use Rattle.demand.proofs.Corollaries.{verdicts-of-stream}
 use Rattle.report.specs.Report.{Reported, stops, lineThen, byAnswer, reports, closing, beginning}
 use Rattle.report.specs.Prints.{Prints, ended, reported}
 
--- ---- a feed keeps the length of the buffer
-
-length-of-run : (t : Table) (n : ℕ) (m : Mem) (i : ℕ) (s : List ℕ) → length (runMem t n m i s .memory .work) ≡ length (m .work)
-unfolding runMem
-length-of-run t n m i [] = refl
-length-of-run t n m i (b ∷ s) =
-    cond-elim (λ (e : Ran). length (e .memory .work) ≡ length (m .work)) (endsRecord (m .lex) b) (λ _. refl)
-    (λ _. length-of-run t n (stepMem t n m b) (i + 1) s ∙ length-stepMem t n m b)
-
-length-of-feed : (r : Reader) (t : Table) (w s : List ℕ) → length (feedOf r t w s .work) ≡ length w
-unfolding feedOf
-length-of-feed r t w s =
-    let P : Outcome → Type 0 = λ (o : Outcome). length (o .work) ≡ length w in
-    let e : Ran = runMem t (r .frames) (memoryOf r w) 0 s in
-    let h : length (e .memory .work) ≡ length w = length-of-run t (r .frames) (memoryOf r w) 0 s in
-    cond-elim P (withinLimits t)
-    (λ _. cond-elim P (withinReader r)
-    (λ _. cond-elim P (ltb (length w) (96 * r .frames)) (λ _. refl) (λ _. cond-elim P (e .ended) (λ _. h) (λ _. h)))
-    (λ _. refl))
-    (λ _. refl)
-
 -- ---- lines and answers
 
 -- the line of a verdict, if the answer is one

@@ -114,36 +114,6 @@ pub fn put_word(out: &mut [u8], at: usize, v: Verdict) -> usize
     }
 }
 
-// The number of a verdict.
-fn number_of(v: Verdict) -> usize
-    ensures { λ r. ⌜ r ≡ told v .number ⌝ }
-{
-    match v {
-        Verdict::Valid => 0,
-        Verdict::Invalid => 0,
-        Verdict::Malformed(_) => 11,
-        Verdict::TooDeep(_) => 12,
-        Verdict::TooLong => 13,
-        Verdict::Unfinished(_) => 14,
-        Verdict::Head => 15,
-    }
-}
-
-// The place of a verdict.
-fn place_of(v: Verdict) -> usize
-    ensures { λ r. ⌜ r ≡ told v .place ⌝ }
-{
-    match v {
-        Verdict::Valid => 0,
-        Verdict::Invalid => 0,
-        Verdict::Malformed(p) => p as usize,
-        Verdict::TooDeep(p) => p as usize,
-        Verdict::TooLong => 16777216,
-        Verdict::Unfinished(p) => p as usize,
-        Verdict::Head => 0,
-    }
-}
-
 // The line of a verdict.
 pub fn put_line(out: &mut [u8], at: usize, v: Verdict) -> usize
     requires { ⌜ at + 64 ≤ length (now out) ⌝ }
@@ -151,9 +121,9 @@ pub fn put_line(out: &mut [u8], at: usize, v: Verdict) -> usize
 {
     let a = put_word(out, at, v);
     let b = put(out, a, 32);
-    let c = put_decimal(out, b, number_of(v));
+    let c = put_decimal(out, b, verdict::number_of(v) as usize);
     let d = put(out, c, 32);
-    let e = put_decimal(out, d, place_of(v));
+    let e = put_decimal(out, d, verdict::place_of(v) as usize);
     put(out, e, 10)
 }
 

@@ -47,11 +47,7 @@ fn say_verdict(count: usize, v: Verdict) {
 }
 
 fn say_refusal(count: usize, r: Refusal) {
-    match r {
-        Refusal::SmallBuffer => say(count, b"call", 21, 0),
-        Refusal::ShortBuffer => say(count, b"call", 22, 0),
-        Refusal::AboveLimit => say(count, b"call", 23, 0),
-    }
+    say(count, b"call", reader::refusal_number(r) as usize, 0)
 }
 
 fn say_answer(count: usize, a: Answer) {

@@ -1,4 +1,6 @@
 // The verdict of a record: 01, "The stream".
+ghost use mathlib.Core.Path.{_≡_};
+ghost use Rattle.verdict.specs.Verdict.{told};
 
 pub enum Verdict {
     Valid,
@@ -13,4 +15,34 @@ pub enum Verdict {
     Unfinished(u32),
     // 15: the head, content unread
     Head,
+}
+
+// The number of a verdict.
+pub fn number_of(v: Verdict) -> u8
+    ensures { λ r. ⌜ r ≡ told v .number ⌝ }
+{
+    match v {
+        Verdict::Valid => 0,
+        Verdict::Invalid => 0,
+        Verdict::Malformed(_) => 11,
+        Verdict::TooDeep(_) => 12,
+        Verdict::TooLong => 13,
+        Verdict::Unfinished(_) => 14,
+        Verdict::Head => 15,
+    }
+}
+
+// The place of a verdict.
+pub fn place_of(v: Verdict) -> u32
+    ensures { λ r. ⌜ r ≡ told v .place ⌝ }
+{
+    match v {
+        Verdict::Valid => 0,
+        Verdict::Invalid => 0,
+        Verdict::Malformed(p) => p,
+        Verdict::TooDeep(p) => p,
+        Verdict::TooLong => 16777216,
+        Verdict::Unfinished(p) => p,
+        Verdict::Head => 0,
+    }
 }

@@ -1,0 +1,91 @@
+-- A call of the library by its parts: the book, the start, and the stream. Assumes nothing.
+use mathlib.Core.Bool.{Bool, true, false, cond}
+use mathlib.Core.List.{List, [], _∷_}
+use mathlib.Core.Path.{_≡_, refl, sym, ap, _∙_}
+use Prim.Native.Nat.{ℕ, _+_}
+use native.Mathlib.Omega.{arith}
+use lib.Dec.{eqb, ltb}
+use lib.ListN.{length}
+use borrow.Author.Tests.{eq-eqb, ne-eqb}
+use Rattle.laws.proofs.TestLaws.{cond-elim}
+use Rattle.table.specs.declared.Table.{Table}
+use Rattle.table.specs.Limits.{withinLimits}
+use Rattle.book.specs.Load.{loads}
+use Rattle.load.specs.declared.Loaded.{Loaded}
+use Rattle.load.specs.Answer as load
+use Rattle.load.specs.Loads.{LoadsAs}
+use Rattle.reader.specs.declared.Answer.{Answer}
+use Rattle.reader.specs.declared.Answer.the-variants as Says
+use Rattle.reader.specs.declared.Refusal.{Refusal}
+use Rattle.reader.specs.Machine.{Start, startOf, refusalNumber}
+use Rattle.verdict.specs.declared.Verdict.{Verdict}
+use Rattle.verdict.specs.Verdict.{told}
+use Rattle.fieldtext.specs.Entries.{wordNumber, refusalEntry, verdictEntry, withEntry, withEntries}
+use Rattle.fieldtext.specs.Judge.{answerEntries, isQuiet, Judged, Called, streamed, started, judges, inOut, judgeOf}
+
+-- ---- the entry of a verdict, and of an answer
+
+pub verdict-entry : (o : List ℕ) (i : ℕ) (v : Verdict) (read : ℕ) (now : List ℕ) (word number place : ℕ) → word ≡ wordNumber (told v .word)
+    → number ≡ told v .number → place ≡ told v .place → now ≡ withEntry o i (record { word = word; number = number; place = place; read = read })
+    → now ≡ withEntry o i (verdictEntry v read)
+verdict-entry o i v read now word number place e d f h =
+    let same : record { word = word; number = number; place = place; read = read } ≡ verdictEntry v read = rw (e, d, f) in
+    h ∙ ap (withEntry o i) same
+
+module _ (o : List ℕ) (i : ℕ) (a : Answer) (read : ℕ) where
+  pub answer-quiet : a ≡ Says.Quiet → (o ≡ withEntries o i (answerEntries a read)) × (i ≡ i + length (answerEntries a read))
+  unfolding withEntries
+  answer-quiet e = rw e (refl, omega arith)
+
+  pub answer-verdict : (v : Verdict) (now : List ℕ) → a ≡ Says.Judged v → now ≡ withEntry o i (verdictEntry v read)
+      → (now ≡ withEntries o i (answerEntries a read)) × (i + 1 ≡ i + length (answerEntries a read))
+  unfolding withEntries
+  answer-verdict v now e h = rw e (h, refl)
+
+  pub answer-refusal : (n : Refusal) (now : List ℕ) (number : ℕ) → a ≡ Says.Refused n → number ≡ refusalNumber n
+      → now ≡ withEntry o i (record { word = 2; number = number; place = 0; read = read })
+      → (now ≡ withEntries o i (answerEntries a read)) × (i + 1 ≡ i + length (answerEntries a read))
+  unfolding withEntries
+  answer-refusal n now number e d h = rw (e, sym d) (h, refl)
+
+-- ---- a start
+
+pub start-fresh : (t : Table) (w : List ℕ) (y : Start) → y ≡ startOf t w → y .reader .lex .pos ≡ 0
+unfolding startOf
+start-fresh t w y e =
+    let P : Start → Type 0 = λ (z : Start). z .reader .lex .pos ≡ 0 in
+    rw e (cond-elim P (withinLimits t) (λ _. cond-elim P (ltb (length w) 96) (λ _. refl) (λ _. refl)) (λ _. refl))
+
+-- ---- the book
+
+module _ (b : List ℕ) (x : Loaded) (l : LoadsAs b x) where
+  pub number-of-book : (n : ℕ) → n ≡ load.told (x .answer) .number → n ≡ loads b .number
+  number-of-book n e = e ∙ ap (λ (y : load.Told). y .number) (l .answer)
+
+  pub line-of-book : (n : ℕ) → n ≡ load.told (x .answer) .line → n ≡ loads b .line
+  line-of-book n e = e ∙ ap (λ (y : load.Told). y .line) (l .answer)
+
+  module _ (s : List ℕ) (size : ℕ) (w o : List ℕ) (number : ℕ) (n : number ≡ load.told (x .answer) .number) where
+    pub judge-refused : (number ≡ 0 → ⊥) → (line : ℕ) → line ≡ load.told (x .answer) .line → (after : List ℕ)
+        → after ≡ withEntry o 0 (record { word = 2; number = number; place = line; read = 0 })
+        → record { work = w; out = after; made = 1 } ≡ judgeOf b s size w o
+    unfolding judgeOf judges withEntries
+    judge-refused un line m after h =
+        let k : loads b .number ≡ number = sym (number-of-book number n) in
+        let e : eqb (loads b .number) 0 ≡ false = ne-eqb (loads b .number) 0 (λ z. un (sym k ∙ z)) in
+        rw (e, k, sym (line-of-book line m), h)
+
+    module _ (yes : number ≡ 0) (y : Start) (st : y ≡ startOf (x .table) w) (quiet : Bool) (q : quiet ≡ isQuiet (y .answer)) where
+      accepted : eqb (loads b .number) 0 ≡ true
+      accepted = eq-eqb (loads b .number) 0 (sym (number-of-book number n) ∙ yes)
+
+      pub judge-streamed : quiet ≡ true → (z : Called) → z ≡ inOut o (streamed (x .table) size (y .reader) w s) → z ≡ judgeOf b s size w o
+      unfolding judgeOf judges
+      judge-streamed e z h = h ∙ rw (accepted, sym (l .table), sym st, sym q, e)
+
+      pub judge-unstarted : quiet ≡ false → (after : List ℕ) (made : ℕ) → after ≡ withEntries o 0 (answerEntries (y .answer) 0)
+          → made ≡ 0 + length (answerEntries (y .answer) 0) → record { work = w; out = after; made = made } ≡ judgeOf b s size w o
+      unfolding judgeOf judges
+      judge-unstarted e after made h m =
+          let k : made ≡ length (answerEntries (y .answer) 0) = omega (arith, m) in
+          rw (accepted, sym (l .table), sym st, sym q, e, h, k)

@@ -1,0 +1,4 @@
+pub mod EntryLaws
+pub mod PieceLaws
+pub mod FeedLaws
+pub mod JudgeLaws

@@ -1,0 +1,74 @@
+-- The piece in which the unread bytes begin. Assumes nothing.
+use mathlib.Core.Bool.{Bool, true, false, cond}
+use mathlib.Core.List.{List}
+use mathlib.Core.Path.{_≡_, refl, sym, ap, subst, _∙_}
+use Prim.Native.Nat.{ℕ, _+_, _-_, _%_, _≤_, _<_}
+use native.Mathlib.Nat.{mod-lt}
+use native.Mathlib.Omega.{arith}
+use lib.Dec.{eqb, ltb}
+use lib.ListN.{length, take, drop, length-drop}
+use lib.Seq.{take-all, length-take-le}
+use borrow.Author.Tests.{eq-eqb, ne-eqb, eqb-true, eqb-false, lt-ltb, le-ltb, ltb-true, ltb-false}
+use Rattle.fieldtext.specs.Judge.{pieceOf, pieceEnd}
+
+-- ---- where it ends
+
+module _ (size read n : ℕ) where
+  pub end-whole : size ≡ 0 → n ≡ pieceEnd size read n
+  unfolding pieceEnd
+  end-whole e = rw (eq-eqb size 0 e)
+
+  module _ (some : size ≡ 0 → ⊥) where
+    pub rest-of-size : read % size ≤ size
+    rest-of-size = omega (arith, mod-lt read {m = size} (omega (arith, some)))
+
+    pub end-last : n - read < size - read % size → n ≡ pieceEnd size read n
+    unfolding pieceEnd
+    end-last h = rw (ne-eqb size 0 some, lt-ltb (n - read) (size - read % size) h)
+
+    pub end-cut : size - read % size ≤ n - read → read + (size - read % size) ≡ pieceEnd size read n
+    unfolding pieceEnd
+    end-cut h = rw (ne-eqb size 0 some, le-ltb (n - read) (size - read % size) h)
+
+  pub end-inside : read ≤ n → (read ≤ pieceEnd size read n) × (pieceEnd size read n ≤ n)
+  unfolding pieceEnd
+  end-inside h = go (eqb size 0) (ltb (n - read) (size - read % size)) refl
+    where
+      go : (x y : Bool) → ltb (n - read) (size - read % size) ≡ y
+          → (read ≤ cond x n (cond y n (read + (size - read % size)))) × (cond x n (cond y n (read + (size - read % size))) ≤ n)
+      go true y e = (h, omega arith)
+      go false true e = (h, omega arith)
+      go false false e = (omega arith, omega (arith, h, ltb-false (n - read) (size - read % size) e))
+
+  pub end-behind : read < n → read < pieceEnd size read n
+  unfolding pieceEnd
+  end-behind h = go (eqb size 0) refl (ltb (n - read) (size - read % size))
+    where
+      go : (x : Bool) → eqb size 0 ≡ x → (y : Bool) → read < cond x n (cond y n (read + (size - read % size)))
+      go true d y = h
+      go false d true = h
+      go false d false = omega (arith, mod-lt read {m = size} (omega (arith, eqb-false size 0 d)))
+
+-- ---- its bytes
+
+module _ (size read : ℕ) (s : List ℕ) where
+  pub piece-is : read ≤ length s → take (pieceEnd size read (length s) - read) (drop read s) ≡ pieceOf size read (drop read s)
+  unfolding pieceOf pieceEnd
+  piece-is h = go (eqb size 0) (ltb (length s - read) (size - read % size)) refl
+    where
+      all : (k : ℕ) → length s - read ≤ k → take k (drop read s) ≡ drop read s
+      all k l = take-all k (drop read s) (omega (arith, l, length-drop read s))
+
+      go : (x y : Bool) → ltb (length s - read) (size - read % size) ≡ y
+          → take (cond x (length s) (cond y (length s) (read + (size - read % size))) - read) (drop read s)
+          ≡ cond x (drop read s) (take (size - read % size) (drop read s))
+      go true y e = all (length s - read) (omega arith)
+      go false true e =
+          all (length s - read) (omega arith) ∙ sym (all (size - read % size) (omega (arith, ltb-true (length s - read) (size - read % size) e)))
+      go false false e = let d : read + (size - read % size) - read ≡ size - read % size = omega arith in ap (λ k. take k (drop read s)) d
+
+  pub piece-some : read < length s → 0 < length (pieceOf size read (drop read s))
+  piece-some h =
+      let end = end-inside size read (length s) (omega (arith, h)) in
+      let long = length-take-le (pieceEnd size read (length s) - read) (drop read s) (omega (arith, end .1, length-drop read s)) in
+      subst (λ (p : List ℕ). 0 < length p) (piece-is (omega (arith, h))) (omega (arith, long, end-behind size read (length s) h))

@@ -1,0 +1,11 @@
+-- `fieldtext_book_number` meets its contract. Assumes nothing.
+use Rattle.fieldtext.proofs.JudgeLaws.{number-of-book}
+use borrow.Author.Needs.{needs}
+use Rattle.fieldtext.proofs.fieldtext_book_number.Statement.{statement}
+use Rattle.fieldtext.proofs.fieldtext_book_number.Tie as tie
+
+returns : tie.Need-returns
+returns c = search (needs, number-of-book)
+
+pub fieldtext-book-number-spec : {M : Type 1} → statement M
+fieldtext-book-number-spec = tie.close (tie.spec (λ c κs. search needs) (λ c κs. search needs) returns)

@@ -1,0 +1,52 @@
+// The reader for programs in C or Rust: a book and a stream in, entries out. docs/LIBRARY.md.
+ghost use mathlib.Core.Path.{_≡_};
+ghost use Rattle.book.specs.Load.{loads};
+ghost use Rattle.fieldtext.specs.Judge.{judgeOf};
+
+mod entry; // entry.rt: the bytes of an entry
+mod feeds; // feeds.rt: a stream fed piece by piece
+
+use reader::Reader;
+
+// The number of a book's refusal; 0 where it is accepted.
+#[no_mangle]
+pub extern "C" fn fieldtext_book_number(book: &[u8]) -> u8
+    ensures { λ r. ⌜ r ≡ loads (now (book .entry)) .number ⌝ }
+{
+    let x = load::load(book);
+    let a = x.answer;
+    load::number_of(a)
+}
+
+// The line of a book's refusal; 0 where it has none.
+#[no_mangle]
+pub extern "C" fn fieldtext_book_line(book: &[u8]) -> usize
+    ensures { λ r. ⌜ r ≡ loads (now (book .entry)) .line ⌝ }
+{
+    let x = load::load(book);
+    let a = x.answer;
+    load::line_of(a)
+}
+
+// Loads a book, starts, feeds a stream cut at the multiples of a size, and closes. Answers how many entries that gives; each stands in the output
+// where that has its place. Ruled out: a library that stops where the output is full, and one that judges by a refused book.
+#[no_mangle]
+pub extern "C" fn fieldtext_judge(book: &[u8], stream: &[u8], size: usize, work: &mut [u8], out: &mut [u8]) -> usize
+    ensures { λ r. ⌜ record { work = now (work .exit); out = now (out .exit); made = r } ≡ judgeOf (now (book .entry)) (now (stream .entry)) size (now (work .entry)) (now (out .entry)) ⌝ }
+{
+    let x = load::load(book);
+    let a = x.answer;
+    let t = x.table;
+    let number = load::number_of(a);
+    if number != 0 {
+        entry::put_entry(out, 0, 2, number, load::line_of(a), 0);
+        return 1;
+    }
+    let b = Reader::start(t, work);
+    let r = b.reader;
+    let said = b.answer;
+    if feeds::is_quiet(said) {
+        return feeds::feed_close(r, t, stream, size, work, out);
+    }
+    entry::put_answer(out, 0, said, 0)
+}

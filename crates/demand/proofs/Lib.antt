@@ -2,3 +2,4 @@ pub mod BookLaws
 pub mod Demand
 pub mod Corollaries
 pub mod FeedLaws
+pub mod ReadingLaws

@@ -79,11 +79,11 @@ module _ (o : List ℕ) (i word number : ℕ) where
       let o₂ : List ℕ = set o₁ (at + 1) number in
       let o₃ : List ℕ = set o₂ (at + 2) 0 in
       let all : Put o at (bytesOf (entry place read)) now end =
-          put-then o at (word ∷ []) (number ∷ 0 ∷ 0 ∷ (little 4 place ++ little 8 read)) o₁ (at + 1) now end (put-byte o at word)
-          (put-then o₁ (at + 1) (number ∷ []) (0 ∷ 0 ∷ (little 4 place ++ little 8 read)) o₂ (at + 2) now end (byte o₁ (at + 1) number (at + 2) (omega arith))
-          (put-then o₂ (at + 2) (0 ∷ []) (0 ∷ (little 4 place ++ little 8 read)) o₃ (at + 3) now end (byte o₂ (at + 2) 0 (at + 3) (omega arith))
-          (put-then o₃ (at + 3) (0 ∷ []) (little 4 place ++ little 8 read) first (at + 4) now end (byte o₃ (at + 3) 0 (at + 4) (omega arith))
-          (put-then first (at + 4) (little 4 place) (little 8 read) mid (at + 8) now end (rw d at p) q)))) in
+      put-then o at (word ∷ []) (number ∷ 0 ∷ 0 ∷ (little 4 place ++ little 8 read)) o₁ (at + 1) now end (put-byte o at word)
+      (put-then o₁ (at + 1) (number ∷ []) (0 ∷ 0 ∷ (little 4 place ++ little 8 read)) o₂ (at + 2) now end (byte o₁ (at + 1) number (at + 2) (omega arith))
+      (put-then o₂ (at + 2) (0 ∷ []) (0 ∷ (little 4 place ++ little 8 read)) o₃ (at + 3) now end (byte o₂ (at + 2) 0 (at + 3) (omega arith))
+      (put-then o₃ (at + 3) (0 ∷ []) (little 4 place ++ little 8 read) first (at + 4) now end (byte o₃ (at + 3) 0 (at + 4) (omega arith))
+      (put-then first (at + 4) (little 4 place) (little 8 read) mid (at + 8) now end (rw d at p) q)))) in
       rw (lt-ltb i (length o / 16) h) (all .bytes)
 
   pub entry-none : (place read : ℕ) → length o / 16 ≤ i → o ≡ withEntry o i (entry place read)

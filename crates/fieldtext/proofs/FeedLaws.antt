@@ -158,8 +158,13 @@ module _ (t : Table) (size : ℕ) (w₀ s o₀ : List ℕ) (r : Reader) where
           where
             go : (n : ℕ) → n ≡ read → made + length entries ≤ read + f .count - 1
             go zero z =
-                omega (arith, z, x .few, entry-weight (f .answer) (read + f .count) on,
-                rw (sym fed) at (weight-of-feed next t w (pieceOf size read (drop read s)) (x .fresh (sym z))))
+                omega (
+                  arith,
+                  z,
+                  x .few,
+                  entry-weight (f .answer) (read + f .count) on,
+                  rw (sym fed) at (weight-of-feed next t w (pieceOf size read (drop read s)) (x .fresh (sym z))),
+                )
             go (suc n) z = omega (arith, z, x .few, one-entry (f .answer) (read + f .count), count-some)
 
         pub going-more : (after : List ℕ) (now : ℕ) → after ≡ withEntries o made entries → now ≡ made + length entries
@@ -192,6 +197,6 @@ module _ (t : Table) (size : ℕ) (r : Reader) (w s o : List ℕ) where
       let said : answerEntries (c .answer) read ≡ es = rw (e, x .reader-is, x .work-is, x .read-is) in
       let made-is : made ≡ 0 + length (f .entries) = omega (arith, x .made-is) in
       let out : after ≡ withEntries o 0 (f .entries ++ es) =
-          d ∙ rw (said, x .out-is, made-is) (sym (withEntries-append o 0 (f .entries) es)) in
+      d ∙ rw (said, x .out-is, made-is) (sym (withEntries-append o 0 (f .entries) es)) in
       let many : now ≡ length (f .entries ++ es) = omega (arith, n, ap length said, x .made-is, length-append (f .entries) es) in
       rw (x .work-is, out, many)

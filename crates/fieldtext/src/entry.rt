@@ -57,7 +57,14 @@ fn word_of(v: Verdict) -> u8
 fn put_verdict(out: &mut [u8], i: usize, v: Verdict, read: usize)
     ensures { λ _. ⌜ now (out .exit) ≡ withEntry (now (out .entry)) i (verdictEntry v read) ⌝ }
 {
-    put_entry(out, i, word_of(v), verdict::number_of(v), verdict::place_of(v) as usize, read)
+    put_entry(
+        out,
+        i,
+        word_of(v),
+        verdict::number_of(v),
+        verdict::place_of(v) as usize,
+        read,
+    )
 }
 
 // The entry of an answer, if it says anything, and how many entries there are then.

@@ -82,7 +82,14 @@ fn feed_all(r: Reader, t: Table, stream: &[u8], size: usize, work: &mut [u8], ou
 }
 
 // The feeds of a stream, then the close.
-pub fn feed_close(r: Reader, t: Table, stream: &[u8], size: usize, work: &mut [u8], out: &mut [u8]) -> usize
+pub fn feed_close(
+    r: Reader,
+    t: Table,
+    stream: &[u8],
+    size: usize,
+    work: &mut [u8],
+    out: &mut [u8],
+) -> usize
     requires { ⌜ r .lex .pos ≡ 0 ⌝ }
     ensures { λ x. ⌜ record { work = now (work .exit); out = now (out .exit); made = x } ≡ inOut (now (out .entry)) (streamed t size r (now (work .entry)) (now (stream .entry))) ⌝ }
 {

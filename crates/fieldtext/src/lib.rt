@@ -31,7 +31,13 @@ pub extern "C" fn fieldtext_book_line(book: &[u8]) -> usize
 // Loads a book, starts, feeds a stream cut at the multiples of a size, and closes. Answers how many entries that gives; each stands in the output
 // where that has its place. Ruled out: a library that stops where the output is full, and one that judges by a refused book.
 #[no_mangle]
-pub extern "C" fn fieldtext_judge(book: &[u8], stream: &[u8], size: usize, work: &mut [u8], out: &mut [u8]) -> usize
+pub extern "C" fn fieldtext_judge(
+    book: &[u8],
+    stream: &[u8],
+    size: usize,
+    work: &mut [u8],
+    out: &mut [u8],
+) -> usize
     ensures { λ r. ⌜ record { work = now (work .exit); out = now (out .exit); made = r } ≡ judgeOf (now (book .entry)) (now (stream .entry)) size (now (work .entry)) (now (out .entry)) ⌝ }
 {
     let x = load::load(book);

@@ -48,7 +48,7 @@ says-of-saying J n p (feed t w s) = refl
 says-of-saying J n p (close t w) = refl
 
 -- a record that ends, or goes on, is no refusal
-reading-not-refused : (r : Reader) (c : Call) (k : Refusal) → reading r c .answer ≡ Says.Refused k → ⊥
+pub reading-not-refused : (r : Reader) (c : Call) (k : Refusal) → reading r c .answer ≡ Says.Refused k → ⊥
 reading-not-refused r (feed t w s) k = go (runMem t (r .frames) (memoryOf r w) 0 s)
   where
     go : (e : Ran) → outcome r e .answer ≡ Says.Refused k → ⊥

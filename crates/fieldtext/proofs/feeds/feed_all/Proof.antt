@@ -35,9 +35,10 @@ add-read : tie.Need-add-read Inv-loop μ-loop
 add-read c = omega (arith, count-inside _ _ _ _ _ _ _ _ _ _ _ (c .before .before .before .before .before .before .before .before .before .loop .inv .2) (c .before .before .before .before .before .before .before .before .loop-test .taken) _ (c .before .before .before .before .before .before .before .piece-end .ensures) _ (c .before .before .before .before .feed .ensures), c .before .before .before .before .before .before .before .before .before .before .before .before .before .good)
 
 returns : tie.Need-returns Inv-loop μ-loop
-returns c =
-    (going-refused _ _ _ _ _ _ _ _ _ _ _ (c .before .before .before .before .before .before .before .before .before .before .before .loop .inv .2) (c .before .before .before .before .before .before .before .before .before .before .loop-test .taken) _ (c .before .before .before .before .before .before .before .before .before .piece-end .ensures) _ (c .before .before .before .before .before .before .feed .ensures) (sym (c .before .is-refused .ensures) ∙ c .if1 .taken),
-    made-inside _ _ _ _ _ _ _ _ _ _ _ (c .before .before .before .before .before .before .before .before .before .before .before .loop .inv .2))
+returns c = (
+  going-refused _ _ _ _ _ _ _ _ _ _ _ (c .before .before .before .before .before .before .before .before .before .before .before .loop .inv .2) (c .before .before .before .before .before .before .before .before .before .before .loop-test .taken) _ (c .before .before .before .before .before .before .before .before .before .piece-end .ensures) _ (c .before .before .before .before .before .before .feed .ensures) (sym (c .before .is-refused .ensures) ∙ c .if1 .taken),
+  made-inside _ _ _ _ _ _ _ _ _ _ _ (c .before .before .before .before .before .before .before .before .before .before .before .loop .inv .2),
+)
 
 put-answer-requires : tie.Need-put-answer-requires Inv-loop μ-loop
 put-answer-requires c κs = omega (arith, count-inside _ _ _ _ _ _ _ _ _ _ _ (c .before .before .before .before .before .before .before .before .before .before .before .before .loop .inv .2) (c .before .before .before .before .before .before .before .before .before .before .before .loop-test .taken) _ (c .before .before .before .before .before .before .before .before .before .before .piece-end .ensures) _ (c .before .before .before .before .before .before .before .feed .ensures), c .before .before .before .before .before .before .before .before .before .before .before .before .loop .inv .2 .few, c .before .before .before .before .before .before .before .before .before .before .before .before .before .before .before .before .good)
@@ -52,9 +53,10 @@ loop-again c =
     (search needs, search needs, more)
 
 returns-2 : tie.Need-returns-2 Inv-loop μ-loop
-returns-2 c =
-    (going-done _ _ _ _ _ _ _ _ _ _ _ (c .before .loop .inv .2) (c .loop-test .left),
-    made-inside _ _ _ _ _ _ _ _ _ _ _ (c .before .loop .inv .2))
+returns-2 c = (
+  going-done _ _ _ _ _ _ _ _ _ _ _ (c .before .loop .inv .2) (c .loop-test .left),
+  made-inside _ _ _ _ _ _ _ _ _ _ _ (c .before .loop .inv .2),
+)
 
 pub feed-all-spec : {M : Type 1} → statement M
 feed-all-spec = tie.close (tie.spec Inv-loop μ-loop loop-holds piece-end-requires sub-feed part-feed-start part-feed-end (λ c κs. search needs) add-read (λ c κs. search needs) (λ c. search needs) (λ c. search needs) returns put-answer-requires loop-less loop-again (λ c. search needs) (λ c. search needs) returns-2)

@@ -38,7 +38,7 @@ served a e n d = true-not-false true refl (rw d at e)
 -- ---- one feed
 
 module _ (t : Table) (size : ℕ) (r : Reader) (w : List ℕ) (read : ℕ) (s : List ℕ) where
-  feeds-done : (k : ℕ) → length s ≡ 0 → feeds k t size r w read s ≡ stopped r w read
+  pub feeds-done : (k : ℕ) → length s ≡ 0 → feeds k t size r w read s ≡ stopped r w read
   unfolding feeds
   feeds-done zero e = refl
   feeds-done (suc k) e = rw (eq-eqb (length s) 0 e)
@@ -51,7 +51,7 @@ module _ (t : Table) (size : ℕ) (r : Reader) (w : List ℕ) (read : ℕ) (s : 
     unfolding feeds
     feeds-refused e = rw (some-left, sym fed, e)
 
-    feeds-more : isRefused (o .answer) ≡ false
+    pub feeds-more : isRefused (o .answer) ≡ false
         → feeds (suc k) t size r w read s
         ≡ entriesThen (answerEntries (o .answer) (read + o .count)) (feeds k t size (o .reader) (o .work) (read + o .count) (drop (o .count) s))
     unfolding feeds
@@ -140,7 +140,7 @@ module _ (t : Table) (size : ℕ) (w₀ s o₀ : List ℕ) (r : Reader) where
 
       module _ (on : isRefused (f .answer) ≡ false) where
         pub count-some : 0 < f .count
-        count-some = rw (sym fed) at (some-of-feed next t w (pieceOf size read (drop read s)) (piece-some size read s more) (rw fed at (served (f .answer) on)))
+        count-some = rw (sym fed) at (some-of-feed next t w (pieceOf size read (drop read s)) (piece-some size read (drop read s) some) (rw fed at (served (f .answer) on)))
 
         abbrev entries : List Entry
         entries = answerEntries (f .answer) (read + f .count)

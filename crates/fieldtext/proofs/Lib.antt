@@ -2,3 +2,4 @@ pub mod EntryLaws
 pub mod PieceLaws
 pub mod FeedLaws
 pub mod JudgeLaws
+pub mod StreamLaws

@@ -1,13 +1,13 @@
 -- The piece in which the unread bytes begin. Assumes nothing.
 use mathlib.Core.Bool.{Bool, true, false, cond}
-use mathlib.Core.List.{List}
-use mathlib.Core.Path.{_≡_, refl, sym, ap, subst, _∙_}
-use Prim.Native.Nat.{ℕ, _+_, _-_, _%_, _≤_, _<_}
+use mathlib.Core.List.{List, [], _∷_}
+use mathlib.Core.Path.{_≡_, refl, sym, ap, _∙_}
+use Prim.Native.Nat.{ℕ, zero, suc, _+_, _-_, _%_, _≤_, _<_}
 use native.Mathlib.Nat.{mod-lt}
 use native.Mathlib.Omega.{arith}
 use lib.Dec.{eqb, ltb}
 use lib.ListN.{length, take, drop, length-drop}
-use lib.Seq.{take-all, length-take-le}
+use lib.Seq.{take-all}
 use borrow.Author.Tests.{eq-eqb, ne-eqb, eqb-true, eqb-false, lt-ltb, le-ltb, ltb-true, ltb-false}
 use Rattle.fieldtext.specs.Judge.{pieceOf, pieceEnd}
 
@@ -40,15 +40,6 @@ module _ (size read n : ℕ) where
       go false true e = (h, omega arith)
       go false false e = (omega arith, omega (arith, h, ltb-false (n - read) (size - read % size) e))
 
-  pub end-behind : read < n → read < pieceEnd size read n
-  unfolding pieceEnd
-  end-behind h = go (eqb size 0) refl (ltb (n - read) (size - read % size))
-    where
-      go : (x : Bool) → eqb size 0 ≡ x → (y : Bool) → read < cond x n (cond y n (read + (size - read % size)))
-      go true d y = h
-      go false d true = h
-      go false d false = omega (arith, mod-lt read {m = size} (omega (arith, eqb-false size 0 d)))
-
 -- ---- its bytes
 
 module _ (size read : ℕ) (s : List ℕ) where
@@ -67,8 +58,16 @@ module _ (size read : ℕ) (s : List ℕ) where
           all (length s - read) (omega arith) ∙ sym (all (size - read % size) (omega (arith, ltb-true (length s - read) (size - read % size) e)))
       go false false e = let d : read + (size - read % size) - read ≡ size - read % size = omega arith in ap (λ k. take k (drop read s)) d
 
-  pub piece-some : read < length s → 0 < length (pieceOf size read (drop read s))
-  piece-some h =
-      let end = end-inside size read (length s) (omega (arith, h)) in
-      let long = length-take-le (pieceEnd size read (length s) - read) (drop read s) (omega (arith, end .1, length-drop read s)) in
-      subst (λ (p : List ℕ). 0 < length p) (piece-is (omega (arith, h))) (omega (arith, long, end-behind size read (length s) h))
+take-some : (k : ℕ) (s : List ℕ) → 0 < k → 0 < length s → 0 < length (take k s)
+take-some k [] l h = absurd (omega (arith, h))
+take-some zero (b ∷ s) l h = absurd (omega (arith, l))
+take-some (suc k) (b ∷ s) l h = omega arith
+
+-- a piece of unread bytes has a byte
+pub piece-some : (size read : ℕ) (s : List ℕ) → 0 < length s → 0 < length (pieceOf size read s)
+unfolding pieceOf
+piece-some size read s h = go (eqb size 0) refl
+  where
+    go : (x : Bool) → eqb size 0 ≡ x → 0 < length (cond x s (take (size - read % size) s))
+    go true d = h
+    go false d = take-some (size - read % size) s (omega (arith, mod-lt read {m = size} (omega (arith, eqb-false size 0 d)))) h

@@ -73,6 +73,9 @@ struct Entry {
 };
 std::vector<Entry> judged(const std::string &book, const std::string &stream, size_t piece, size_t work_bytes);
 
+// The moments, in seconds, at which so many records of a stream had got their entries from ours. The last mark is the number of all records.
+std::vector<double> moments(const std::string &book, const std::string &stream, const std::vector<size_t> &marks);
+
 // The least and the middle one of some times, in seconds.
 struct Times {
     double best, median;

@@ -66,7 +66,7 @@ peer() {
 build() {
     [ -f "$archive" ] || fail "there is no $archive; make it with: rt staticlib fieldtext"
     command -v "$compiler" >/dev/null 2>&1 || fail "there is no compiler $compiler"
-    for name in ours bench report inputs speed scaling sizes; do
+    for name in ours bench report inputs speed scaling moments sizes; do
         compile "$here/$name.cpp" "$out/$name.o" &
         objects="$objects $name.o"
     done

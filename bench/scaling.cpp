@@ -151,35 +151,26 @@ void scale_levels(Report &report, const Options &options) {
     report.table({"level", "numbers: ns per byte", "brackets: ns per record", "ns per level", "work bytes"}, rows);
 }
 
-// The first records of a stream.
-std::string first_records(const std::string &stream, size_t records) {
-    size_t at = 0;
-    for (size_t record = 0; record < records; record++) {
-        at = std::min(stream.find(RS, at + 1), stream.size());
-    }
-    return stream.substr(0, at);
-}
-
-// The cost of the records from one number to another is the difference of two runs from the beginning.
+// Small fields in one stream: those at the beginning, in the middle and behind a million cost the same.
 void scale_records(Report &report, const Options &options) {
     const size_t unit = options.quick ? 10'000 : 100'000;
     const std::string stream = small_records(options.seed, 11 * unit);
-    std::vector<Trial> trials;
-    for (const size_t units : {1, 5, 6, 10, 11}) {
-        trials.push_back(trial("records", FIELD_BOOK, first_records(stream, units * unit), 0));
+    const std::vector<size_t> marks = {0, unit, 5 * unit, 6 * unit, 10 * unit, 11 * unit};
+    std::vector<double> best(marks.size() - 1, 1e9);
+    for (int round = 0; round <= options.rounds; round++) {
+        const std::vector<double> seconds = moments(FIELD_BOOK, stream, marks);
+        for (size_t i = 0; i < best.size(); i++) {
+            best[i] = std::min(best[i], seconds[i + 1] - seconds[i]);
+        }
     }
-    const std::vector<Times> times = times_of(options.rounds, trials);
     std::vector<std::vector<std::string>> rows;
-    const auto row = [&](size_t from, size_t to, double seconds) {
-        const std::string name = grouped(from) + " to " + grouped(to), cost = digits(1e9 * seconds / (to - from), 1);
+    for (const size_t i : {0, 2, 4}) {
+        const std::string name = grouped(marks[i]) + " to " + grouped(marks[i + 1]);
+        const std::string cost = digits(1e9 * best[i] / static_cast<double>(marks[i + 1] - marks[i]), 1);
         rows.push_back({name, cost});
         report.result({"records", name, cost});
-    };
-    row(0, unit, times[0].best);
-    row(5 * unit, 6 * unit, times[2].best - times[1].best);
-    row(10 * unit, 11 * unit, times[4].best - times[3].best);
-    row(0, 11 * unit, times[4].best);
-    report.line("### Records\n\nSmall fields, all in one stream. A row between two numbers is the difference of two runs from the beginning.\n");
+    }
+    report.line("### Records\n\nSmall fields, all in one stream, " + grouped(stream.size()) + " bytes. A timer notes which of them have their entry.\n");
     report.table({"records", "ns per record"}, rows);
 }
 

@@ -118,8 +118,8 @@ void write_table(Report &report, const Input &input, const std::vector<Cell> &ce
 void measure_speed(Report &report, Input &input, int rounds) {
     set_apart(input);
     report.line("### " + input.name + "\n");
-    report.line(grouped(input.texts.size()) + " records, " + grouped(input.stream.size()) + " bytes, each record " +
-                (input.valid ? "valid" : "invalid") + ".\n");
+    const std::string records = input.texts.size() == 1 ? " record, " : " records, ", verdict = input.valid ? "valid" : "invalid";
+    report.line(grouped(input.texts.size()) + records + grouped(input.stream.size()) + " bytes; verdict: " + verdict + ".\n");
     if (input.valid) {
         try_wrong_records(input);
     }

@@ -68,7 +68,7 @@ def picture(speeds, machine):
         f'<svg xmlns="http://www.w3.org/2000/svg" viewBox="0 0 {WIDTH} {y}" width="{WIDTH}" height="{y}" font-family="sans-serif" font-size="12">',
         "<title>Speed of the field text reader and of other readers of JSON</title>",
         f'<rect width="{WIDTH}" height="{y}" fill="#ffffff"/>',
-        text(12, 20, "MB/s: wide bar and number, texts read whole; narrow bar, in pieces of 64 bytes. A bar with a point goes on beyond the picture."),
+        text(12, 20, "MB/s. Wide bar and number: texts read whole; narrow bar: in pieces of 64 bytes. A bar with a point goes on beyond."),
         text(12, 38, machine, ' fill="#555555"'),
     ]
     return "\n".join(head + shapes + ["</svg>"]) + "\n"

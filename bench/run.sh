@@ -138,11 +138,15 @@ while [ "$count" -gt 0 ]; do
         set -- "$@" --valid canada.json "$books/canada.txt" "$books/canada.schema.json" "$map"
         ;;
     citm_catalog.json)
-        ! derived "$map" citm || set -- "$@" --valid 'citm_catalog.json, performances' "$books/citm.txt" "$books/citm.schema.json" "$out/citm.jsons"
+        if derived "$map" citm; then
+            set -- "$@" --valid 'citm_catalog.json, performances' "$books/citm.txt" "$books/citm.schema.json" "$out/citm.jsons"
+        fi
         set -- "$@" --invalid citm_catalog.json "$books/citm.txt" - "$map"
         ;;
     twitter.json)
-        ! derived "$map" twitter || set -- "$@" --valid 'twitter.json, regrouped' "$books/twitter.txt" "$books/twitter.schema.json" "$out/twitter.jsons"
+        if derived "$map" twitter; then
+            set -- "$@" --valid 'twitter.json, regrouped' "$books/twitter.txt" "$books/twitter.schema.json" "$out/twitter.jsons"
+        fi
         set -- "$@" --invalid twitter.json "$books/twitter.txt" - "$map"
         ;;
     *) fail "no book for $map: canada.json, citm_catalog.json and twitter.json have one" ;;

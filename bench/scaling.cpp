@@ -146,8 +146,8 @@ void scale_levels(Report &report, const Options &options) {
                         grouped(FRAME * level)});
         report.result({"levels", std::to_string(level), per_byte(trials[i], times[i]), digits(record, 1)});
     }
-    report.line("### Levels\n\nNumbers in an array at a level, and records of nothing but brackets down to a level. With one byte of the work buffer\n"
-                "less, the record is refused (checked).\n");
+    report.line("### Levels\n\nNumbers in an array at a level, and records of nothing but brackets down to a level. With one byte of the work\n"
+                "buffer less, the record is refused (checked).\n");
     report.table({"level", "numbers: ns per byte", "brackets: ns per record", "ns per level", "work bytes"}, rows);
 }
 
@@ -170,7 +170,8 @@ void scale_records(Report &report, const Options &options) {
         rows.push_back({name, cost});
         report.result({"records", name, cost});
     }
-    report.line("### Records\n\nSmall fields, all in one stream, " + grouped(stream.size()) + " bytes. A timer notes which of them have their entry.\n");
+    report.line("### Records\n\nSmall fields, all in one stream, " + grouped(stream.size()) +
+                " bytes. A timer notes which of them have their entry.\n");
     report.table({"records", "ns per record"}, rows);
 }
 

@@ -52,10 +52,10 @@ public:
     virtual bool takes_pieces() const { return true; }
     // It holds texts to a schema, and reads only inputs that have one.
     virtual bool needs_schema() const { return false; }
-    // Before and after each timed call.
+    // Before and after each timed call; what is wrong with its answers, or nothing.
     virtual void ready(const Input &) {}
-    virtual bool right(const Input &) { return true; }
-    // Reads all texts, in pieces of so many bytes (0: in one piece). False where one was not accepted.
+    virtual std::string fault(const Input &) { return ""; }
+    // Reads all texts, in pieces of so many bytes (0: in one piece). False where a text was not accepted.
     virtual bool run(const Input &input, size_t piece) = 0;
 };
 

@@ -18,6 +18,15 @@ size_t judge(const std::string &book, const std::string &stream, size_t piece, s
                            out.size());
 }
 
+// A number of so many bytes, the lowest first.
+size_t little(const uint8_t *at, int count) {
+    size_t number = 0;
+    for (int i = count; i > 0; i--) {
+        number = 256 * number + at[i - 1];
+    }
+    return number;
+}
+
 // Loads the book, starts, feeds the stream and closes, with 64 frames.
 class Ours : public Reader {
 public:
@@ -28,17 +37,22 @@ public:
 
     bool run(const Input &input, size_t piece) override {
         made_ = judge(input.book, input.stream, piece, work_, out_);
-        return made_ == input.texts.size();
+        return true;
     }
 
     // Each record has got the verdict that the input names.
-    bool right(const Input &input) override {
+    std::string fault(const Input &input) override {
+        if (made_ != input.texts.size()) {
+            return std::to_string(made_) + " entries for " + std::to_string(input.texts.size()) + " records";
+        }
         for (size_t i = 0; i < made_; i++) {
-            if (out_[FIELDTEXT_ENTRY * i] != (input.valid ? 0 : 1)) {
-                return false;
+            const uint8_t *entry = &out_[FIELDTEXT_ENTRY * i];
+            if (entry[0] != (input.valid ? 0 : 1)) {
+                return "entry " + std::to_string(i) + " has word " + std::to_string(entry[0]) + ", number " + std::to_string(entry[1]) +
+                       ", place " + std::to_string(little(entry + 4, 4));
             }
         }
-        return true;
+        return "";
     }
 
 private:
@@ -46,14 +60,6 @@ private:
     std::vector<uint8_t> out_;
     size_t made_ = 0;
 };
-
-size_t little(const uint8_t *at, int count) {
-    size_t number = 0;
-    for (int i = count; i > 0; i--) {
-        number = 256 * number + at[i - 1];
-    }
-    return number;
-}
 
 struct First {
     First() { readers().insert(readers().begin(), std::make_unique<Ours>()); }

@@ -24,8 +24,9 @@ double seconds_of_run(Reader &reader, const Input &input, size_t piece) {
     const auto begin = Clock::now();
     const bool accepted = reader.run(input, piece);
     const auto end = Clock::now();
-    if (!accepted || !reader.right(input)) {
-        fail(reader.name() + " on " + input.name + ", piece " + std::to_string(piece) + ": not the expected answer for every text");
+    const std::string fault = accepted ? reader.fault(input) : "a text was not accepted";
+    if (!fault.empty()) {
+        fail(reader.name() + " on " + input.name + ", piece " + std::to_string(piece) + ": " + fault);
     }
     return std::chrono::duration<double>(end - begin).count();
 }

@@ -73,7 +73,8 @@ struct Entry {
 };
 std::vector<Entry> judged(const std::string &book, const std::string &stream, size_t piece, size_t work_bytes);
 
-// The moments, in seconds, at which so many records of a stream had got their entries from ours. The last mark is the number of all records.
+// The moments, in seconds, at which so many records of a stream had got their entries from ours. The last mark is the number of all
+// records.
 std::vector<double> moments(const std::string &book, const std::string &stream, const std::vector<size_t> &marks);
 
 // The least and the middle one of some times, in seconds.
@@ -84,8 +85,8 @@ struct Times {
 // The seconds of one run, whose answers are checked. Ends the program where they are wrong.
 double seconds_of_run(Reader &reader, const Input &input, size_t piece);
 
-// Takes several calls in rounds, one after another in each round, so that a drift of the machine meets all of them. A call gives its seconds.
-// One round more than asked for is made at the beginning, and does not count.
+// Takes several calls in rounds, one after another in each round, so that a drift of the machine meets all of them. A call gives its
+// seconds. One round more than asked for is made at the beginning, and does not count.
 std::vector<Times> in_rounds(int rounds, const std::vector<std::function<double()>> &calls);
 
 // Writes tables in Markdown to the screen and to a file, and results as lines with tabs to another.

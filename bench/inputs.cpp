@@ -41,9 +41,10 @@ private:
 
 // A name of one to four words, some with escapes or letters outside ASCII.
 std::string field_name(Numbers &numbers) {
-    static const char *const words[] = {"Long", "Acre", "Mill", "Piece", "Oxbow", "North", "Hill", "by the brook", "17", "Wood",
-                                        "C\u00f4te", "Gr\u00fcn", "\u8349\u5730", "\U0001F33E", "Caf\\u00e9", "\\\"the flat\\\"",
-                                        "a\\/b", "\\ud83c\\udf3e", "old\\tname", "Stra\u00dfe"};
+    static const char *const words[] = {
+        "Long",  "Acre",           "Mill",       "Piece",      "Oxbow",        "North",      "Hill",       "by the brook",
+        "17",    "Wood",           "C\u00f4te",  "Gr\u00fcn",  "\u8349\u5730", "\U0001F33E", "Caf\\u00e9", "\\\"the flat\\\"",
+        "a\\/b", "\\ud83c\\udf3e", "old\\tname", "Stra\u00dfe"};
     std::string name = words[numbers.below(10)];
     for (uint64_t more = numbers.below(4); more > 0; more--) {
         name += std::string(" ") + words[numbers.below(std::size(words))];

@@ -9,9 +9,7 @@ namespace {
 constexpr size_t FRAME = 96, LEVELS = 64;
 constexpr uint8_t UNWRITTEN = 255;
 
-const uint8_t *bytes_of(const std::string &text) {
-    return reinterpret_cast<const uint8_t *>(text.data());
-}
+const uint8_t *bytes_of(const std::string &text) { return reinterpret_cast<const uint8_t *>(text.data()); }
 
 size_t judge(const std::string &book, const std::string &stream, size_t piece, std::vector<uint8_t> &work, std::vector<uint8_t> &out) {
     return fieldtext_judge(bytes_of(book), book.size(), bytes_of(stream), stream.size(), piece, work.data(), work.size(), out.data(),

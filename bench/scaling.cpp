@@ -32,13 +32,9 @@ std::vector<Times> times_of(int rounds, const std::vector<Trial> &trials) {
     return in_rounds(rounds, calls);
 }
 
-std::string per_byte(const Trial &trial, const Times &times) {
-    return digits(1e9 * times.best / trial.input.stream.size(), 2);
-}
+std::string per_byte(const Trial &trial, const Times &times) { return digits(1e9 * times.best / trial.input.stream.size(), 2); }
 
-std::string speed(const Trial &trial, const Times &times) {
-    return digits(1e-6 * trial.input.stream.size() / times.best, 1);
-}
+std::string speed(const Trial &trial, const Times &times) { return digits(1e-6 * trial.input.stream.size() / times.best, 1); }
 
 void scale_pieces(Report &report, const Options &options) {
     const std::string stream = field_input(options.seed, options.bytes / 10).stream;
@@ -89,8 +85,9 @@ void scale_edges(Report &report, const Options &options) {
                         per_byte(trials[i + 1], times[i + 1])});
         report.result({"edges", count, digits(times[i].best, 6), digits(times[i + 1].best, 6), std::to_string(stream.size())});
     }
-    report.line("### Edges\n\nThe stream of fields under its book, which has five edges, and under the same with edges of further rules: of rules\n"
-                "for objects, whose keys never come, or of rules for arrays, which every array follows.\n");
+    report.line(
+        "### Edges\n\nThe stream of fields under its book, which has five edges, and under the same with edges of further rules: of rules\n"
+        "for objects, whose keys never come, or of rules for arrays, which every array follows.\n");
     report.table({"edges", "MB/s, obj", "ns per byte, obj", "MB/s, arr", "ns per byte, arr"}, rows);
 }
 
@@ -142,12 +139,13 @@ void scale_levels(Report &report, const Options &options) {
     for (size_t i = 0; i < trials.size(); i += 2) {
         const size_t level = levels[i / 2];
         const double record = 1e9 * times[i + 1].best / trials[i + 1].input.texts.size();
-        rows.push_back({std::to_string(level), per_byte(trials[i], times[i]), digits(record, 0), digits(record / level, 0),
-                        grouped(FRAME * level)});
+        rows.push_back(
+            {std::to_string(level), per_byte(trials[i], times[i]), digits(record, 0), digits(record / level, 0), grouped(FRAME * level)});
         report.result({"levels", std::to_string(level), per_byte(trials[i], times[i]), digits(record, 1)});
     }
-    report.line("### Levels\n\nNumbers in an array at a level, and records of nothing but brackets down to a level. With one byte of the work\n"
-                "buffer less, the record is refused (checked).\n");
+    report.line(
+        "### Levels\n\nNumbers in an array at a level, and records of nothing but brackets down to a level. With one byte of the work\n"
+        "buffer less, the record is refused (checked).\n");
     report.table({"level", "numbers: ns per byte", "brackets: ns per record", "ns per level", "work bytes"}, rows);
 }
 

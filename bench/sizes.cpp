@@ -10,9 +10,7 @@ constexpr uint8_t PAINT = 0xa5;
 
 std::function<void()> on_stack;
 
-void enter_stack() {
-    on_stack();
-}
+void enter_stack() { on_stack(); }
 
 // The stack bytes that a call takes: it runs on a painted stack, and the deepest byte that lost its paint tells.
 size_t stack_bytes(const std::function<void()> &call) {

@@ -17,9 +17,7 @@ struct Cell {
     size_t piece;
 };
 
-bool takes_part(const Reader &reader, const Input &input) {
-    return !reader.needs_schema() || (input.valid && !input.schema.empty());
-}
+bool takes_part(const Reader &reader, const Input &input) { return !reader.needs_schema() || (input.valid && !input.schema.empty()); }
 
 // The places of opening braces in a text, strings aside.
 std::vector<size_t> braces(const std::string &text) {

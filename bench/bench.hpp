@@ -66,6 +66,13 @@ template <class T> struct Enter {
     Enter() { readers().push_back(std::make_unique<T>()); }
 };
 
+// Loads a book by ours: the number and the line of its refusal, 0 where it is accepted.
+struct Refusal {
+    int number;
+    size_t line;
+};
+Refusal refusal_of(const std::string &book);
+
 // A call of ours: the entries that a book and a stream give with a work buffer of so many bytes.
 struct Entry {
     int word, number;

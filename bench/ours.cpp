@@ -31,7 +31,7 @@ public:
     std::string name() const override { return "field text reader"; }
     std::string version() const override { return "this repository"; }
 
-    void ready(const Input &input) override { out_.assign(FIELDTEXT_ENTRY * input.texts.size(), UNWRITTEN); }
+    void ready(const Input &input) override { out_.assign(FIELDTEXT_ENTRY * (1 + input.texts.size()), UNWRITTEN); }
 
     bool run(const Input &input, size_t piece) override {
         made_ = judge(input.book, input.stream, piece, work_, out_);
@@ -64,6 +64,11 @@ struct First {
 } const first;
 
 } // namespace
+
+Refusal refusal_of(const std::string &book) {
+    const int number = fieldtext_book_number(bytes_of(book), book.size());
+    return {number, number == 0 ? 0 : fieldtext_book_line(bytes_of(book), book.size())};
+}
 
 std::vector<Entry> judged(const std::string &book, const std::string &stream, size_t piece, size_t work_bytes) {
     std::vector<uint8_t> work(work_bytes);

@@ -66,14 +66,14 @@ peer() {
 build() {
     [ -f "$archive" ] || fail "there is no $archive; make it with: rt staticlib fieldtext"
     command -v "$compiler" >/dev/null 2>&1 || fail "there is no compiler $compiler"
-    for name in ours bench report inputs speed scaling moments sizes; do
-        compile "$here/$name.cpp" "$out/$name.o" &
-        objects="$objects $name.o"
-    done
     peer yajl yajl/yajl_parse.h -lyajl libyajl-dev
     peer rapidjson rapidjson/reader.h '' rapidjson-dev
     peer boost boost/json/basic_parser_impl.hpp -lboost_json libboost-json-dev
     peer simdjson simdjson.h -lsimdjson libsimdjson-dev
+    for name in ours bench report inputs speed scaling moments sizes; do
+        compile "$here/$name.cpp" "$out/$name.o" &
+        objects="$objects $name.o"
+    done
     wait
     # shellcheck disable=SC2086 # objects and libraries are words
     (cd "$out" && "$compiler" -Wl,-z,now -o bench $objects "$archive" $libraries) || fail 'the measurement could not be built'

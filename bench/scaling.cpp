@@ -73,22 +73,22 @@ void scale_edges(Report &report, const Options &options) {
     const size_t counts[] = {8, 64, 512};
     std::vector<Trial> trials;
     for (const size_t count : counts) {
-        for (const bool arrays : {false, true}) {
-            trials.push_back(trial("edges", book_of_edges(count, arrays), stream, 0));
-        }
+        trials.push_back(trial("edges of obj rules", book_of_edges(count, false), stream, 0));
+        trials.push_back(trial("edges of arr rules", book_of_edges(count, true), stream, 0));
+        trials.push_back(trial("no record", book_of_edges(count, false), std::string(1, RS), 0));
     }
     const std::vector<Times> times = times_of(options.rounds, trials);
     std::vector<std::vector<std::string>> rows;
-    for (size_t i = 0; i < trials.size(); i += 2) {
-        const std::string count = std::to_string(counts[i / 2]);
+    for (size_t i = 0; i < trials.size(); i += 3) {
+        const std::string count = std::to_string(counts[i / 3]), call = digits(1e6 * times[i + 2].best, 1);
         rows.push_back({count, speed(trials[i], times[i]), per_byte(trials[i], times[i]), speed(trials[i + 1], times[i + 1]),
-                        per_byte(trials[i + 1], times[i + 1])});
-        report.result({"edges", count, digits(times[i].best, 6), digits(times[i + 1].best, 6), std::to_string(stream.size())});
+                        per_byte(trials[i + 1], times[i + 1]), call});
+        report.result({"edges", count, per_byte(trials[i], times[i]), per_byte(trials[i + 1], times[i + 1]), call});
     }
-    report.line(
-        "### Edges\n\nThe stream of fields under its book, which has five edges, and under the same with edges of further rules: of rules\n"
-        "for objects, whose keys never come, or of rules for arrays, which every array follows.\n");
-    report.table({"edges", "MB/s, obj", "ns per byte, obj", "MB/s, arr", "ns per byte, arr"}, rows);
+    report.line("### Edges\n\nThe stream of fields under its book, which has five edges, with edges of further rules added: of rules for objects,\n"
+                "whose keys never come, or of rules for arrays, which every array follows. The last column is a call without a record:\n"
+                "it loads the book, starts and closes.\n");
+    report.table({"edges", "MB/s, obj", "ns per byte, obj", "MB/s, arr", "ns per byte, arr", "load, microseconds"}, rows);
 }
 
 // A rule of arrays in arrays, and whole numbers.

@@ -35,19 +35,18 @@ size_t stack_bytes(const std::function<void()> &call) {
     return stack.size() - untouched;
 }
 
-// The stack bytes of ours on an input, without those of the way to it.
-size_t ours_stack_bytes(const Input &input, size_t piece) {
-    Reader &ours = *readers().front();
-    ours.ready(input);
-    ours.run(input, piece);
-    const size_t way = stack_bytes([] {});
-    return stack_bytes([&] { ours.run(input, piece); }) - way;
+// The same without the way to the call. It is made once before, so that nothing is left to be bound.
+size_t own_stack_bytes(const std::function<void()> &call) {
+    call();
+    return stack_bytes(call) - stack_bytes([] {});
 }
 
 } // namespace
 
 void measure_sizes(Report &report, size_t text_bytes) {
     const Input input = field_input(1, 200'000);
+    Reader &ours = *readers().front();
+    ours.ready(input);
     std::vector<std::vector<std::string>> rows;
     const auto row = [&](const std::string &what, size_t bytes) {
         rows.push_back({what, grouped(bytes)});
@@ -56,8 +55,8 @@ void measure_sizes(Report &report, size_t text_bytes) {
     if (text_bytes > 0) {
         row("code and constants of the archive", text_bytes);
     }
-    row("stack of a call, stream in one piece", ours_stack_bytes(input, 0));
-    row("stack of a call, pieces of 64 bytes", ours_stack_bytes(input, 64));
+    row("stack of fieldtext_book_number, which loads", own_stack_bytes([&] { refusal_of(input.book); }));
+    row("stack of fieldtext_judge", own_stack_bytes([&] { ours.run(input, 64); }));
     row("work buffer for each level", 96);
     row("work buffer for 64 levels", 96 * 64);
     report.line("## Memory of ours\n");

@@ -114,6 +114,10 @@ void write_table(Report &report, const Input &input, const std::vector<Cell> &ce
 } // namespace
 
 void measure_speed(Report &report, Input &input, int rounds) {
+    const Refusal refusal = refusal_of(input.book);
+    if (refusal.number != 0) {
+        fail("the book of " + input.name + " is refused: " + std::to_string(refusal.number) + ", line " + std::to_string(refusal.line));
+    }
     set_apart(input);
     report.line("### " + input.name + "\n");
     const std::string records = input.texts.size() == 1 ? " record, " : " records, ", verdict = input.valid ? "valid" : "invalid";

@@ -14,14 +14,15 @@ OURS, SCHEMA, OTHERS, DARK = "#2f7d4f", "#b7812a", "#8c98a4", 0.55
 
 
 def speeds_of(name):
-    """Input, reader and piece size to MB/s, and the machine line."""
+    """Input, reader and piece size to MB/s, for streams of valid records; and the machine line."""
     speeds, machine = {}, ""
     with open(name, encoding="utf-8") as file:
         for line in file:
             fields = line.rstrip("\n").split("\t")
             if fields[0] == "speed":
-                _, source, reader, piece, count, best, _ = fields
-                speeds.setdefault(source, {}).setdefault(reader, {})[piece] = int(count) / float(best) / 1e6
+                _, source, verdict, reader, piece, count, best, _ = fields
+                if verdict == "valid":
+                    speeds.setdefault(source, {}).setdefault(reader, {})[piece] = int(count) / float(best) / 1e6
             elif fields[0] == "machine":
                 machine = f"{fields[1]}, best of {fields[3]} rounds"
     return speeds, machine

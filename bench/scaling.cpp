@@ -85,9 +85,10 @@ void scale_edges(Report &report, const Options &options) {
                         per_byte(trials[i + 1], times[i + 1]), call});
         report.result({"edges", count, per_byte(trials[i], times[i]), per_byte(trials[i + 1], times[i + 1]), call});
     }
-    report.line("### Edges\n\nThe stream of fields under its book, which has five edges, with edges of further rules added: of rules for objects,\n"
-                "whose keys never come, or of rules for arrays, which every array follows. The last column is a call without a record:\n"
-                "it loads the book, starts and closes.\n");
+    report.line(
+        "### Edges\n\nThe stream of fields under its book, which has five edges, with edges of further rules added: of rules for objects,\n"
+        "whose keys never come, or of rules for arrays, which every array follows. The last column is a call without a record:\n"
+        "it loads the book, starts and closes.\n");
     report.table({"edges", "MB/s, obj", "ns per byte, obj", "MB/s, arr", "ns per byte, arr", "load, microseconds"}, rows);
 }
 

@@ -133,7 +133,7 @@ void measure_speed(Report &report, Input &input, int rounds) {
     const std::vector<Times> times = in_rounds(rounds, calls);
     write_table(report, input, cells, times);
     for (size_t i = 0; i < cells.size(); i++) {
-        report.result({"speed", input.name, cells[i].reader->name(), piece_name(cells[i].piece), std::to_string(input.stream.size()),
-                       digits(times[i].best, 6), digits(times[i].median, 6)});
+        report.result({"speed", input.name, verdict, cells[i].reader->name(), piece_name(cells[i].piece),
+                       std::to_string(input.stream.size()), digits(times[i].best, 6), digits(times[i].median, 6)});
     }
 }

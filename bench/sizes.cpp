@@ -1,0 +1,64 @@
+// Memory of ours: the bytes of code, of stack and of the work buffer.
+#include "bench.hpp"
+
+#include <ucontext.h>
+
+namespace {
+
+constexpr size_t STACK = 1 << 20;
+constexpr uint8_t PAINT = 0xa5;
+
+std::function<void()> on_stack;
+
+void enter_stack() { on_stack(); }
+
+// The stack bytes that a call takes: it runs on a painted stack, and the deepest byte that lost its paint tells.
+size_t stack_bytes(const std::function<void()> &call) {
+    std::vector<uint8_t> stack(STACK, PAINT);
+    ucontext_t here, there;
+    if (getcontext(&there) != 0) {
+        fail("no context for a stack of its own");
+    }
+    there.uc_stack.ss_sp = stack.data();
+    there.uc_stack.ss_size = stack.size();
+    there.uc_link = &here;
+    on_stack = call;
+    makecontext(&there, enter_stack, 0);
+    swapcontext(&here, &there);
+    size_t untouched = 0;
+    while (untouched < stack.size() && stack[untouched] == PAINT) {
+        untouched++;
+    }
+    if (untouched == 0) {
+        fail("the painted stack is too small");
+    }
+    return stack.size() - untouched;
+}
+
+// The same without the way to the call. It is made once before, so that nothing is left to be bound.
+size_t own_stack_bytes(const std::function<void()> &call) {
+    call();
+    return stack_bytes(call) - stack_bytes([] {});
+}
+
+} // namespace
+
+void measure_sizes(Report &report, size_t text_bytes) {
+    const Input input = field_input(1, 200'000);
+    Reader &ours = *readers().front();
+    ours.ready(input);
+    std::vector<std::vector<std::string>> rows;
+    const auto row = [&](const std::string &what, size_t bytes) {
+        rows.push_back({what, grouped(bytes)});
+        report.result({"size", what, std::to_string(bytes)});
+    };
+    if (text_bytes > 0) {
+        row("code and constants of the archive", text_bytes);
+    }
+    row("stack of fieldtext_book_number, which loads", own_stack_bytes([&] { refusal_of(input.book); }));
+    row("stack of fieldtext_judge", own_stack_bytes([&] { ours.run(input, 64); }));
+    row("work buffer for each level", 96);
+    row("work buffer for 64 levels", 96 * 64);
+    report.line("## Memory of ours\n");
+    report.table({"what", "bytes"}, rows);
+}

@@ -3,7 +3,7 @@
 use crate::book::{Book, Refusal};
 use crate::entries::{counted, entries, words, write, Entry, ENTRY};
 use crate::frames::FRAME;
-use crate::library::{self, out_before, work_before, Lent, Shown};
+use crate::library::{self, out_before, work_before, Shown};
 use crate::program::escaped;
 use crate::stream::{judge, Found, RS};
 use crate::trial::Stream;
@@ -19,14 +19,10 @@ pub fn paper(loaded: &Result<Book, Refusal>, stream: &Stream) -> (Found, Vec<u8>
 }
 
 /// None where the library gives the paper's number and line for a book.
-pub fn book_difference(loaded: &Result<Book, Refusal>, got: (u32, usize)) -> Option<String> {
+pub fn book_difference(book: &[u8], loaded: &Result<Book, Refusal>, got: Option<(u32, usize)>) -> Option<String> {
     let want = loaded.as_ref().err().copied().unwrap_or((0, 0));
-    (want != got).then(|| format!("book number and line: paper {want:?}, library {got:?}"))
-}
-
-/// What the library gives for a book that is lent.
-pub fn book_shown(book: &[u8]) -> (u32, usize) {
-    library::refusal(&Lent::new(book, book.len() as u64))
+    let said = || got.map_or("wrote into the book or around it".to_string(), |got| format!("{got:?}"));
+    (got != Some(want)).then(|| format!("book: {}\nnumber and line: paper {want:?}, library {}", escaped(book), said()))
 }
 
 /// None where the calls for a stream gave what the paper says, else words about the first difference.

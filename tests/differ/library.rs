@@ -17,14 +17,14 @@ extern "C" {
 const MARGIN: usize = 128;
 
 /// Bytes to lend, with others around them.
-pub struct Lent {
+struct Lent {
     all: Vec<u8>,
     before: Vec<u8>,
     behind: Vec<u8>,
 }
 
 impl Lent {
-    pub fn new(bytes: &[u8], seed: u64) -> Lent {
+    fn new(bytes: &[u8], seed: u64) -> Lent {
         let before = noise(seed, MARGIN + (seed % 16) as usize);
         let behind = noise(!seed, MARGIN);
         Lent { all: [&before, bytes, &behind].concat(), before, behind }
@@ -52,10 +52,12 @@ impl Lent {
     }
 }
 
-/// The number and line of a book's refusal.
-pub fn refusal(book: &Lent) -> (u32, usize) {
+/// The number and line of a book's refusal; none where the book, or bytes around it, were written.
+pub fn refusal(book: &[u8]) -> Option<(u32, usize)> {
+    let lent = Lent::new(book, book.len() as u64);
     // SAFETY: pointer and length are those of one part of a buffer.
-    unsafe { (fieldtext_book_number(book.start(), book.length()).into(), fieldtext_book_line(book.start(), book.length())) }
+    let (number, line) = unsafe { (fieldtext_book_number(lent.start(), lent.length()), fieldtext_book_line(lent.start(), lent.length())) };
+    (lent.whole() && lent.bytes() == book).then_some((number.into(), line))
 }
 
 /// What a call gave: the number of entries and the bytes of out.

@@ -105,8 +105,19 @@ fn options() -> Option<Options> {
 /// What program and library gave for a trial.
 struct Given {
     printed: Option<Printed>,
-    refusal: (u32, usize),
+    /// Number and line of the trial's book, then of its other books.
+    refusals: Vec<Option<(u32, usize)>>,
     shown: Vec<Shown>,
+}
+
+/// The trial's book and its other books.
+fn books(trial: &Trial) -> impl Iterator<Item = &[u8]> {
+    std::iter::once(trial.book()).chain(trial.books.iter().map(Vec::as_slice))
+}
+
+/// Words about the first book whose number or line differs.
+fn book_words(trial: &Trial, given: &Given) -> Option<String> {
+    books(trial).zip(&given.refusals).find_map(|(book, &got)| held::book_difference(book, &book::load(book), got))
 }
 
 fn run(program: &Program, trial: &Trial) -> Given {
@@ -117,7 +128,7 @@ fn run(program: &Program, trial: &Trial) -> Given {
         })
     });
     let shown = trial.streams.iter().map(|stream| library::judge(trial.book(), stream)).collect();
-    Given { printed, refusal: held::book_shown(trial.book()), shown }
+    Given { printed, refusals: books(trial).map(library::refusal).collect(), shown }
 }
 
 /// Both tables: library and program.
@@ -129,7 +140,10 @@ struct Tables {
 /// Counts a trial, and gives words about its first difference.
 fn hold(trial: &Trial, given: &Given, tables: &mut Tables) -> Option<String> {
     let loaded = book::load(trial.book());
-    let mut words = held::book_difference(&loaded, given.refusal);
+    let mut words = book_words(trial, given);
+    for book in &trial.books {
+        tables.library.count_book(book::load(book).err().map_or(0, |(number, _)| number));
+    }
     for (i, (stream, shown)) in trial.streams.iter().zip(&given.shown).enumerate() {
         let said = held::paper(&loaded, stream);
         tables.library.count(&said.0, stream.work);
@@ -202,7 +216,7 @@ fn kept_trials(options: &Options, program: &Program) -> Vec<(Trial, Given)> {
 fn differs((trial, given): &(Trial, Given)) -> bool {
     let loaded = book::load(trial.book());
     let printed = |found: &stream::Found| given.printed.as_ref().is_some_and(|printed| program::difference(trial, found, printed).is_some());
-    held::book_difference(&loaded, given.refusal).is_some()
+    book_words(trial, given).is_some()
         || trial.streams.iter().zip(&given.shown).enumerate().any(|(i, (stream, shown))| {
             let said = held::paper(&loaded, stream);
             held::difference(stream, &said, shown).is_some() || i == 0 && printed(&said.0)

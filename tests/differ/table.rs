@@ -37,6 +37,11 @@ impl Table {
         }
     }
 
+    /// Counts a book without a stream, by the number of its refusal.
+    pub fn count_book(&mut self, number: u32) {
+        self.books[number as usize] += 1;
+    }
+
     /// Verdicts, refused books and refused starts.
     pub fn cases(&self) -> u64 {
         self.verdicts.iter().sum::<u64>() + self.books[1..].iter().sum::<u64>() + self.starts

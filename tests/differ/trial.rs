@@ -12,6 +12,8 @@ pub const FIRST: u64 = LONG + INSIDE.len() as u64;
 const INSIDE: [&[u8]; 3] = [b"", b"[\"\",", b"{\"a\":"];
 /// Records of an accepted book, about.
 const RECORDS: usize = 60;
+/// Other books of a trial.
+const BOOKS: usize = 4;
 /// Of the trials made by chance, one in so many goes to the program too.
 const PROGRAM: u64 = 4;
 
@@ -54,6 +56,8 @@ pub struct Trial {
     pub book: Option<Vec<u8>>,
     pub streams: Vec<Stream>,
     pub program: Option<Handed>,
+    /// Other books, of which only number and line are compared.
+    pub books: Vec<Vec<u8>>,
 }
 
 impl Trial {
@@ -92,7 +96,8 @@ pub fn trial(seed: u64, number: u64) -> Trial {
         Some(_) => vec![whole(&mut rng, &list, frames)],
         None => cut_up(&mut rng, &mut list, frames),
     };
-    Trial { book, streams, program }
+    let books = (0..BOOKS).map(|i| changed(&mut rng, (number as usize * BOOKS + i) % 10 + 1)).collect();
+    Trial { book, streams, program, books }
 }
 
 /// Long parts, and every byte in every place: each record by itself, behind one stream with all of them.
@@ -111,7 +116,7 @@ fn fixed(rng: &mut Rng, number: u64) -> Trial {
         }
         streams
     };
-    Trial { book: Some(FIXED.to_vec()), streams, program: Some(Handed { pieces: None }) }
+    Trial { book: Some(FIXED.to_vec()), streams, program: Some(Handed { pieces: None }), books: Vec::new() }
 }
 
 /// A number of frames from 1 to 70, few of them more often.

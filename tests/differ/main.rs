@@ -1,5 +1,5 @@
 //! A differential test: the library and the judging program against a paper of its own, written from the words of 01.
-//! Usage: differ JUDGE [--cases N] [--seed S] [--only TRIAL] [--plants]. See README.md beside this file.
+//! Usage: differ JUDGE [--cases N] [--seed S] [--only TRIAL] [--plants] [--say]. See README.md beside this file.
 
 mod book;
 mod entries;
@@ -42,11 +42,12 @@ struct Options {
     seed: u64,
     only: Option<u64>,
     plants: bool,
+    say: bool,
 }
 
 fn main() {
     let Some(options) = options() else {
-        eprintln!("usage: differ JUDGE [--cases N] [--seed S] [--only TRIAL] [--plants]");
+        eprintln!("usage: differ JUDGE [--cases N] [--seed S] [--only TRIAL] [--plants] [--say]");
         exit(2);
     };
     let path = match options.judge.canonicalize() {
@@ -89,13 +90,14 @@ fn watch(folder: PathBuf) {
 
 fn options() -> Option<Options> {
     let mut words = std::env::args().skip(1);
-    let mut options = Options { judge: PathBuf::from(words.next()?), cases: None, seed: 1, only: None, plants: false };
+    let mut options = Options { judge: PathBuf::from(words.next()?), cases: None, seed: 1, only: None, plants: false, say: false };
     while let Some(word) = words.next() {
         match word.as_str() {
             "--cases" => options.cases = Some(words.next()?.parse().ok()?),
             "--seed" => options.seed = words.next()?.parse().ok()?,
             "--only" => options.only = Some(words.next()?.parse().ok()?),
             "--plants" => options.plants = true,
+            "--say" => options.say = true,
             _ => return None,
         }
     }
@@ -166,6 +168,9 @@ fn compare_all(options: &Options, program: &Program) -> bool {
     let mut number = options.only.unwrap_or(0);
     while (number < FIRST || tables.library.cases() < cases) && differences < MOST_DIFFERENCES {
         NOW.store(number, Ordering::Relaxed);
+        if options.say {
+            println!("trial {number}");
+        }
         let trial = trial(options.seed, number);
         let given = run(program, &trial);
         if let Some(words) = hold(&trial, &given, &mut tables) {

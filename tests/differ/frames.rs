@@ -3,7 +3,7 @@
 //! value that opened on its level: those of its keys and values that were finished before the record's first fault. The bytes before
 //! the fault are read a second time, and each frame is drawn at once, from what the value has.
 
-use crate::book::{Book, Form, RULES, STATES};
+use crate::book::{Book, Form, Kind, RULES, STATES};
 use crate::plant::{on, Plant};
 use crate::run::{accepting, fits, reached};
 use crate::stream::{Part, Verdict};
@@ -12,7 +12,7 @@ use crate::text::{string_at, Value};
 pub const FRAME: usize = 96;
 pub const FRAMES: usize = 64;
 
-/// The number of frames of a buffer: its length divided by 96, rounded down, at most 64.
+/// As many frames as are whole in a buffer of this length, up to 64.
 pub fn count(length: usize) -> usize {
     let length = if on(Plant::RoundUp) { length + FRAME - 1 } else { length };
     (length / FRAME).min(if on(Plant::ManyFrames) { usize::MAX } else { FRAMES })
@@ -56,7 +56,8 @@ pub fn draw(book: &Book, part: &Part, verdict: Verdict, work: &mut [u8]) {
     if on(Plant::RsClears) {
         work.iter_mut().take(FRAME).for_each(|byte| *byte = 0);
     }
-    for (opened, frame) in sound.last.iter().zip(work.chunks_exact_mut(FRAME)) {
+    let most = if on(Plant::LastFrame) { FRAMES - 1 } else { usize::MAX };
+    for (opened, frame) in sound.last.iter().zip(work.chunks_exact_mut(FRAME)).take(most) {
         let kept = if on(Plant::RestKept) { 3..16 } else { 0..0 };
         let foreign = frame[kept.clone()].to_vec();
         frame.copy_from_slice(&drawn(book, opened));
@@ -136,13 +137,16 @@ impl Sound<'_> {
 
     /// What a closed value is for its parent: an object or array, and the rules with an accepting run over it.
     fn closed(&mut self, level: usize) -> (Value, u32) {
+        let number = self.bytes[self.at - 2].is_ascii_digit();
         let own = &mut self.last[level];
         let mut values = own.values.clone();
+        values.truncate(if on(Plant::NumberAfter) && number { values.len() - 1 } else { values.len() });
+        let count = values.len();
         let value = match own.object {
             true => Value::Obj(own.keys.iter().cloned().zip(values.drain(..)).collect()),
             false => Value::Arr(values),
         };
-        let fitted = accepting(self.book, &value, &own.fitted);
+        let fitted = accepting(self.book, &value, &own.fitted[..count]);
         if on(Plant::CloseWrites) {
             own.values.clear();
         }
@@ -151,7 +155,7 @@ impl Sound<'_> {
     }
 }
 
-/// Bit i is 2^(i mod 8) of byte i / 8.
+/// Sets a bit, counted from the lowest of the first byte.
 fn set(bytes: &mut [u8], bit: usize) {
     bytes[bit / 8] |= if on(Plant::HighBitFirst) { 128 >> (bit % 8) } else { 1 << (bit % 8) };
 }
@@ -171,7 +175,7 @@ fn drawn(book: &Book, opened: &Opened) -> [u8; FRAME] {
     frame
 }
 
-/// Byte 1 is the current key's number, 255 unknown or none; byte 2 marks an unknown or repeated key; a bit for each key seen.
+/// The last key by its number, the mark of an unknown or repeated one, and a bit for each of the book's keys that came up.
 fn keys(book: &Book, opened: &Opened, frame: &mut [u8; FRAME]) {
     let repeated = |i: usize| opened.keys[..i].contains(&opened.keys[i]);
     frame[1] = if on(Plant::FreshKey) { 0 } else { 255 };
@@ -201,7 +205,8 @@ fn edges(book: &Book, opened: &Opened, bits: &mut [u8]) {
             continue;
         }
         for (number, edge) in book.numbered() {
-            let taken = edge.key == opened.keys[i] && fits(edge.kind, value, fitted);
+            let any = on(Plant::ReferenceFits) && matches!((edge.kind, value), (Kind::Rule(_), Value::Obj(_)));
+            let taken = edge.key == opened.keys[i] && (any || fits(edge.kind, value, fitted));
             if taken && !(on(Plant::RootEdges) && edge.rule != 0) && !(on(Plant::HighEdgeBits) && number > 255) {
                 set(bits, number);
             }

@@ -76,6 +76,13 @@ pub fn judge(loaded: &Result<Book, Refusal>, stream: &[u8], work: &mut [u8]) -> 
     if on(Plant::StartFirst) && small {
         return Found::Start;
     }
+    if on(if loaded.is_err() || small { Plant::RefusedClears } else { Plant::StartClears }) {
+        work.fill(0);
+    }
+    let frames = 96 * frames::count(work.len());
+    if on(Plant::RestCleared) {
+        work[frames..].fill(0);
+    }
     match loaded {
         Err((number, line)) => Found::Book(*number, *line),
         Ok(_) if small => Found::Start,

@@ -61,7 +61,7 @@ pub struct Trial {
 }
 
 impl Trial {
-    /// A book that cannot be read counts as empty.
+    /// Empty where it is absent.
     pub fn book(&self) -> &[u8] {
         self.book.as_deref().unwrap_or(&[])
     }

@@ -13,7 +13,7 @@ const INSIDE: [&[u8]; 3] = [b"", b"[\"\",", b"{\"a\":"];
 /// Records of an accepted book, about.
 const RECORDS: usize = 60;
 /// Other books of a trial.
-const BOOKS: usize = 4;
+const BOOKS: usize = 2;
 /// Of the trials made by chance, one in so many goes to the program too.
 const PROGRAM: u64 = 4;
 
@@ -94,7 +94,10 @@ pub fn trial(seed: u64, number: u64) -> Trial {
     };
     let streams = match program {
         Some(_) => vec![whole(&mut rng, &list, frames)],
-        None => cut_up(&mut rng, &mut list, frames),
+        None => {
+            let lines = book.iter().flatten().filter(|&&byte| byte == b'\n').count();
+            cut_up(&mut rng, &mut list, frames, 1 + lines / 40)
+        }
     };
     let books = (0..BOOKS).map(|i| changed(&mut rng, (number as usize * BOOKS + i) % 10 + 1)).collect();
     Trial { book, streams, program, books }
@@ -135,11 +138,12 @@ fn whole(rng: &mut Rng, list: &[Vec<u8>], frames: usize) -> Stream {
     lend(rng, bytes, work)
 }
 
-/// The records in streams of one or a few; some streams end anywhere, and some buffers are too small to start with.
-fn cut_up(rng: &mut Rng, list: &mut Vec<Vec<u8>>, frames: usize) -> Vec<Stream> {
+/// The records in streams of one or a few, `times` as many for a long book, which takes long to load; some streams end anywhere, and
+/// some buffers are too small to start with.
+fn cut_up(rng: &mut Rng, list: &mut Vec<Vec<u8>>, frames: usize, times: usize) -> Vec<Stream> {
     let mut streams = Vec::new();
     while !list.is_empty() || streams.is_empty() {
-        let count = (*rng.pick(&[0, 1, 1, 1, 2, 2, 3, 6, 20])).min(list.len());
+        let count = (times * rng.pick(&[0, 1, 1, 1, 2, 2, 3, 6, 20])).min(list.len());
         let some: Vec<Vec<u8>> = list.drain(..count).collect();
         let mut bytes = stream(rng, &some);
         if rng.chance(30) {

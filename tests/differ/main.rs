@@ -162,7 +162,7 @@ fn hold(trial: &Trial, given: &Given, tables: &mut Tables) -> Option<String> {
 
 /// The comparison: the fixed trials, then trials made by chance until these have enough cases.
 fn compare_all(options: &Options, program: &Program) -> bool {
-    let mut cases = options.cases.unwrap_or(400_000);
+    let mut cases = options.cases.unwrap_or(200_000);
     let mut tables = Tables { library: Table::new(), program: Table::new() };
     let mut differences = 0;
     let mut number = options.only.unwrap_or(0);
@@ -196,7 +196,7 @@ fn compare_all(options: &Options, program: &Program) -> bool {
 
 /// Trials with what was given for them: those made by chance first, those with long parts last.
 fn kept_trials(options: &Options, program: &Program) -> Vec<(Trial, Given)> {
-    let cases = options.cases.unwrap_or(100_000);
+    let cases = options.cases.unwrap_or(50_000);
     let mut tables = Tables { library: Table::new(), program: Table::new() };
     let mut kept = Vec::new();
     let mut keep = |number| {

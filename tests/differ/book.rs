@@ -51,8 +51,18 @@ impl Book {
         &self.by_state[STATES * rule + state]
     }
 
+    /// The number of a key; none where the book does not have it.
+    pub fn key(&self, key: &[u8]) -> Option<usize> {
+        self.keys.iter().position(|k| k == key)
+    }
+
+    /// Every edge with its number.
+    pub fn numbered(&self) -> impl Iterator<Item = (usize, &Edge)> {
+        self.edges.iter().enumerate()
+    }
+
     fn key_number(&self, key: &[u8]) -> usize {
-        self.keys.iter().position(|k| k == key).expect("a key of the book")
+        self.key(key).expect("a key of the book")
     }
 }
 

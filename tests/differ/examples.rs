@@ -1,5 +1,6 @@
 //! The examples of 01, "An example day", held against the paper before it is held against the program.
 
+use crate::book::load;
 use crate::stream::{judge, lines};
 
 const BOOK: &str = "rule form state key value next
@@ -12,6 +13,8 @@ const BOOK: &str = "rule form state key value next
 2 arr 1 - int 2
 2 arr 2 - end -
 ";
+
+const TITLE: &str = "verdict number place";
 
 /// Streams under the book, with the verdict lines that 01 gives them.
 const EXAMPLES: &[(&[u8], &str)] = &[
@@ -37,15 +40,41 @@ const EXAMPLES: &[(&[u8], &str)] = &[
     (b"", ""),
 ];
 
+/// A record with the work bytes that it leaves, as far as they are not zero: by level and byte.
+const FRAMES: (&[u8], &[(usize, usize, u8)]) = (
+    b"\x1E{\"corners\":[[1,2]],\"name\":\"\"}",
+    &[(1, 0, 1), (1, 1, 1), (1, 16, 3), (1, 32, 3), (2, 0, 2), (2, 34, 1), (3, 0, 2), (3, 36, 4)],
+);
+
+/// What the paper says with so many work bytes.
+fn said(book: &[u8], stream: &[u8], work: usize) -> String {
+    lines(&judge(&load(book), stream, &mut vec![0; work])).join(", ")
+}
+
 /// Words about the first example that the paper is wrong about.
 pub fn wrong() -> Option<String> {
-    for &(stream, want) in EXAMPLES {
-        let got = lines(&judge(Some(BOOK.as_bytes()), stream))[1..].join(", ");
-        if got != want {
-            return Some(format!("{}: {got}, not {want}", stream.escape_ascii()));
+    let titled = |verdicts: &str| if verdicts.is_empty() { TITLE.to_string() } else { format!("{TITLE}, {verdicts}") };
+    let mut list: Vec<(&[u8], usize, &str)> = EXAMPLES.iter().map(|&(stream, want)| (stream, 6144, want)).collect();
+    list.extend([(FRAMES.0, 288, "valid 0 0"), (FRAMES.0, 287, "refused 12 12")]);
+    for (stream, work, want) in list {
+        let got = said(BOOK.as_bytes(), stream, work);
+        if got != titled(want) {
+            return Some(format!("{} with {work} work bytes: {got}, not {want}", stream.escape_ascii()));
         }
     }
-    let loop_line = b"rule form state key value next\n0 obj 0 a int 0\n";
-    let got = lines(&judge(Some(loop_line), b"")).join(", ");
-    (got != "number line, 9 2").then(|| format!("a line 0 obj 0 a int 0: {got}"))
+    let got = said(b"rule form state key value next\n0 obj 0 a int 0\n", b"", 6144);
+    if got != "number line, 9 2" {
+        return Some(format!("a line 0 obj 0 a int 0: {got}"));
+    }
+    wrong_frames()
+}
+
+fn wrong_frames() -> Option<String> {
+    let (mut work, mut want) = (vec![0xA5; 300], vec![0; 288]);
+    for &(level, byte, value) in FRAMES.1 {
+        want[96 * (level - 1) + byte] = value;
+    }
+    want.extend([0xA5; 12]);
+    judge(&load(BOOK.as_bytes()), FRAMES.0, &mut work);
+    (work != want).then(|| format!("frames {work:?}, not {want:?}"))
 }

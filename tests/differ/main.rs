@@ -1,23 +1,40 @@
-//! A differential test: the judging program against a paper of its own, written from the words of 01.
-//! Usage: differ JUDGE [--cases N] [--seed S] [--only TRIAL] [--plants]. See README.md beside this file.
+//! A differential test: the library and the judging program against a paper of its own, written from the words of 01.
+//! Usage: differ JUDGE [--cases N] [--seed S] [--only TRIAL] [--plants] [--say]. See README.md beside this file.
 
 mod book;
-mod compare;
+mod entries;
 mod examples;
+mod frames;
+mod held;
+mod library;
 mod make_book;
 mod make_record;
 mod plant;
+mod program;
 mod rng;
 mod run;
 mod stream;
+mod table;
 mod text;
+mod trial;
 
-use compare::{difference, paper, trial, Program, Table, Trial, FIRST, LONG};
+use library::Shown;
 use plant::Plant;
+use program::{Printed, Program};
 use std::path::PathBuf;
 use std::process::exit;
+use std::sync::atomic::{AtomicU64, Ordering};
+use std::thread;
+use std::time::Duration;
+use table::Table;
+use trial::{trial, Trial, FIRST, LONG};
 
 const MOST_DIFFERENCES: u64 = 10;
+/// A trial that takes longer than this many seconds is a failure.
+const LONGEST_TRIAL: u64 = 120;
+
+/// The trial under way.
+static NOW: AtomicU64 = AtomicU64::new(0);
 
 struct Options {
     judge: PathBuf,
@@ -25,11 +42,12 @@ struct Options {
     seed: u64,
     only: Option<u64>,
     plants: bool,
+    say: bool,
 }
 
 fn main() {
     let Some(options) = options() else {
-        eprintln!("usage: differ JUDGE [--cases N] [--seed S] [--only TRIAL] [--plants]");
+        eprintln!("usage: differ JUDGE [--cases N] [--seed S] [--only TRIAL] [--plants] [--say]");
         exit(2);
     };
     let path = match options.judge.canonicalize() {
@@ -39,11 +57,13 @@ fn main() {
     if let Some(words) = examples::wrong() {
         fail(&format!("the paper is wrong about an example of 01: {words}"));
     }
-    let folder = compare::folder().unwrap_or_else(|error| fail(&format!("no folder to work in: {error}")));
+    let folder = program::folder().unwrap_or_else(|error| fail(&format!("no folder to work in: {error}")));
     let program = Program { path, folder };
     println!("seed {}", options.seed);
+    let watched = program.folder.clone();
+    thread::spawn(move || watch(watched));
     let good = if options.plants { plants(&options, &program) } else { compare_all(&options, &program) };
-    compare::remove(&program.folder);
+    program::remove(&program.folder);
     exit(if good { 0 } else { 1 });
 }
 
@@ -52,70 +72,140 @@ fn fail(words: &str) -> ! {
     exit(2);
 }
 
+/// Ends the test where a call of the library does not come back.
+fn watch(folder: PathBuf) {
+    let (mut last, mut seconds) = (u64::MAX, 0);
+    loop {
+        thread::sleep(Duration::from_secs(1));
+        let now = NOW.load(Ordering::Relaxed);
+        seconds = if now == last { seconds + 1 } else { 0 };
+        last = now;
+        if seconds > LONGEST_TRIAL {
+            println!("DIFFERENCE trial {now} does not end");
+            program::remove(&folder);
+            exit(1);
+        }
+    }
+}
+
 fn options() -> Option<Options> {
     let mut words = std::env::args().skip(1);
-    let mut options = Options { judge: PathBuf::from(words.next()?), cases: None, seed: 1, only: None, plants: false };
+    let mut options = Options { judge: PathBuf::from(words.next()?), cases: None, seed: 1, only: None, plants: false, say: false };
     while let Some(word) = words.next() {
         match word.as_str() {
             "--cases" => options.cases = Some(words.next()?.parse().ok()?),
             "--seed" => options.seed = words.next()?.parse().ok()?,
             "--only" => options.only = Some(words.next()?.parse().ok()?),
             "--plants" => options.plants = true,
+            "--say" => options.say = true,
             _ => return None,
         }
     }
     Some(options)
 }
 
-fn run(program: &Program, trial: &Trial) -> (Vec<u8>, Option<i32>) {
-    program.run(trial).unwrap_or_else(|error| {
-        compare::remove(&program.folder);
-        fail(&format!("{}: {error}", program.path.display()))
-    })
+/// What program and library gave for a trial.
+struct Given {
+    printed: Option<Printed>,
+    /// Number and line of the trial's book, then of its other books.
+    refusals: Vec<Option<(u32, usize)>>,
+    shown: Vec<Shown>,
+}
+
+/// The trial's book and its other books.
+fn books(trial: &Trial) -> impl Iterator<Item = &[u8]> {
+    std::iter::once(trial.book()).chain(trial.books.iter().map(Vec::as_slice))
+}
+
+/// Words about the first book whose number or line differs.
+fn book_words(trial: &Trial, given: &Given) -> Option<String> {
+    books(trial).zip(&given.refusals).find_map(|(book, &got)| held::book_difference(book, &book::load(book), got))
+}
+
+fn run(program: &Program, trial: &Trial) -> Given {
+    let printed = trial.program.as_ref().map(|handed| {
+        program.run(trial, handed).unwrap_or_else(|error| {
+            program::remove(&program.folder);
+            fail(&format!("{}: {error}", program.path.display()))
+        })
+    });
+    let shown = trial.streams.iter().map(|stream| library::judge(trial.book(), stream)).collect();
+    Given { printed, refusals: books(trial).map(library::refusal).collect(), shown }
+}
+
+/// Both tables: library and program.
+struct Tables {
+    library: Table,
+    program: Table,
+}
+
+/// Counts a trial, and gives words about its first difference.
+fn hold(trial: &Trial, given: &Given, tables: &mut Tables) -> Option<String> {
+    let loaded = book::load(trial.book());
+    let mut words = book_words(trial, given);
+    for book in &trial.books {
+        tables.library.count_book(book::load(book).err().map_or(0, |(number, _)| number));
+    }
+    for (i, (stream, shown)) in trial.streams.iter().zip(&given.shown).enumerate() {
+        let said = held::paper(&loaded, stream);
+        tables.library.count(&said.0, stream.work);
+        if words.is_none() && held::difference(stream, &said, shown).is_some() {
+            words = Some(format!("stream {i}\n{}", held::smaller(trial.book(), &loaded, stream)));
+        }
+        if let (0, Some(printed)) = (i, &given.printed) {
+            tables.program.count(&said.0, stream.work);
+            words = words.or_else(|| program::difference(trial, &said.0, printed));
+        }
+    }
+    words
 }
 
 /// The comparison: the fixed trials, then trials made by chance until these have enough cases.
 fn compare_all(options: &Options, program: &Program) -> bool {
-    let mut cases = options.cases.unwrap_or(100_000);
-    let mut table = Table::default();
+    let mut cases = options.cases.unwrap_or(200_000);
+    let mut tables = Tables { library: Table::new(), program: Table::new() };
     let mut differences = 0;
     let mut number = options.only.unwrap_or(0);
-    while (number < FIRST || table.cases() < cases) && differences < MOST_DIFFERENCES {
+    while (number < FIRST || tables.library.cases() < cases) && differences < MOST_DIFFERENCES {
+        NOW.store(number, Ordering::Relaxed);
+        if options.say {
+            println!("trial {number}");
+        }
         let trial = trial(options.seed, number);
-        let (output, status) = run(program, &trial);
-        let found = paper(&trial);
-        table.count(&found);
-        if let Some(words) = difference(&trial, &found, &output, status) {
+        let given = run(program, &trial);
+        if let Some(words) = hold(&trial, &given, &mut tables) {
             differences += 1;
-            println!("DIFFERENCE seed {} trial {number}\n{words}", options.seed);
+            println!("DIFFERENCE seed {} trial {number}, {words}", options.seed);
         }
         number += 1;
         if number == FIRST {
-            cases += table.cases();
+            cases += tables.library.cases();
         }
         if options.only.is_some() {
             break;
         }
     }
-    let missed = table.print();
+    let missed = table::print(&tables.library, &tables.program);
     if missed > 0 && options.only.is_none() {
         println!("{missed} classes were never met");
     }
-    println!("differ: {} cases, {} books, {differences} differences", table.cases(), table.books());
+    let (library, program) = (tables.library.cases(), tables.program.cases());
+    println!("differ: {library} cases of the library, {program} cases of the program, {number} trials, {differences} differences");
     differences == 0 && (missed == 0 || options.only.is_some())
 }
 
-/// Trials with what the program gave for them: those made by chance first, those with long parts last.
-fn kept_trials(options: &Options, program: &Program) -> Vec<(Trial, Vec<u8>, Option<i32>)> {
-    let cases = options.cases.unwrap_or(100_000);
-    let mut table = Table::default();
+/// Trials with what was given for them: those made by chance first, those with long parts last.
+fn kept_trials(options: &Options, program: &Program) -> Vec<(Trial, Given)> {
+    let cases = options.cases.unwrap_or(50_000);
+    let mut tables = Tables { library: Table::new(), program: Table::new() };
     let mut kept = Vec::new();
     let mut keep = |number| {
+        NOW.store(number, Ordering::Relaxed);
         let trial = trial(options.seed, number);
-        let (output, status) = run(program, &trial);
-        table.count(&paper(&trial));
-        kept.push((trial, output, status));
-        table.cases()
+        let given = run(program, &trial);
+        hold(&trial, &given, &mut tables);
+        kept.push((trial, given));
+        tables.library.cases()
     };
     let mut number = FIRST;
     while keep(number) < cases {
@@ -127,10 +217,26 @@ fn kept_trials(options: &Options, program: &Program) -> Vec<(Trial, Vec<u8>, Opt
     kept
 }
 
-/// Each planted fault of the paper must be found. The program runs once for each trial; the paper once for each plant.
+/// True where the paper differs from what was given.
+fn differs((trial, given): &(Trial, Given)) -> bool {
+    let loaded = book::load(trial.book());
+    let printed = |found: &stream::Found| given.printed.as_ref().is_some_and(|printed| program::difference(trial, found, printed).is_some());
+    book_words(trial, given).is_some()
+        || trial.streams.iter().zip(&given.shown).enumerate().any(|(i, (stream, shown))| {
+            let said = held::paper(&loaded, stream);
+            held::difference(stream, &said, shown).is_some() || i == 0 && printed(&said.0)
+        })
+}
+
+/// True where a planted fault of the library shows.
+fn differs_again((trial, _): &(Trial, Given)) -> bool {
+    let loaded = book::load(trial.book());
+    trial.streams.iter().any(|stream| held::difference(stream, &held::paper(&loaded, stream), &library::judge(trial.book(), stream)).is_some())
+}
+
+/// Each planted fault must be found. Those of the paper are held against what was given once; for those of the library the calls are repeated.
 fn plants(options: &Options, program: &Program) -> bool {
     let kept = kept_trials(options, program);
-    let differs = |(trial, output, status): &(Trial, Vec<u8>, Option<i32>)| difference(trial, &paper(trial), output, *status).is_some();
     if kept.iter().any(differs) {
         println!("the paper differs without a planted fault");
         return false;
@@ -138,7 +244,8 @@ fn plants(options: &Options, program: &Program) -> bool {
     let mut missed = 0;
     for &(plant, words) in plant::ALL {
         plant::set(plant);
-        match kept.iter().position(differs) {
+        NOW.fetch_add(1, Ordering::Relaxed);
+        match kept.iter().position(if plant::of_library(plant) { differs_again } else { differs }) {
             Some(at) => println!("found after {:>5} trials: {words}", at + 1),
             None => {
                 missed += 1;

@@ -328,8 +328,8 @@ fn damage(rng: &mut Rng, bytes: &mut Vec<u8>) {
 }
 
 /// Openings around the level limit, of arrays and of objects with the book's keys; closed, cut or broken.
-fn deep(rng: &mut Rng, book: &Book) -> Vec<u8> {
-    let levels = rng.range(62, 67);
+fn deep(rng: &mut Rng, book: &Book, limit: usize) -> Vec<u8> {
+    let levels = rng.range(limit.saturating_sub(2).max(1), limit + 3);
     let (mut bytes, mut closing) = (Vec::new(), Vec::new());
     let objects = *rng.pick(&[0, 0, 30, 50, 100]);
     let before = *rng.pick(&["", "", "1,", "[],", "{},", " "]);
@@ -373,14 +373,14 @@ fn odd(rng: &mut Rng) -> Vec<u8> {
     [before.as_bytes(), &thing, behind.as_bytes()].concat()
 }
 
-/// Records for an accepted book, each without its RS; some hold an RS of their own.
-pub fn records(rng: &mut Rng, book: &Book, count: usize) -> Vec<Vec<u8>> {
+/// Records for an accepted book, each without its RS; some hold an RS of their own, and some nest about as deep as `limit`.
+pub fn records(rng: &mut Rng, book: &Book, count: usize, limit: usize) -> Vec<Vec<u8>> {
     let ways = Ways::new(book);
     let mut list: Vec<Vec<u8>> = Vec::new();
     while list.len() < count {
         let form = rng.below(100);
         if form < 8 {
-            list.push(deep(rng, book));
+            list.push(deep(rng, book, limit));
             continue;
         }
         if form < 22 {
@@ -389,7 +389,7 @@ pub fn records(rng: &mut Rng, book: &Book, count: usize) -> Vec<Vec<u8>> {
         }
         let mut node = if ways.need[0] < NO_WAY && rng.chance(90) {
             let mut room = if rng.chance(96) { rng.below(20) } else { rng.below(600) };
-            let levels = if rng.chance(8) { rng.range(40, 66) } else { 0 };
+            let levels = if rng.chance(8) { rng.range(limit * 2 / 3, limit + 2) } else { 0 };
             if levels > 0 { ways.dive(rng, 0, levels) } else { ways.value(rng, 0, &mut room) }
         } else {
             any_node(rng, book, 3)
@@ -466,12 +466,16 @@ pub fn every_byte(inside: &[u8]) -> Vec<Vec<u8>> {
     BEGINNINGS.iter().flat_map(all).collect()
 }
 
+/// The number of long streams.
+pub const LONG_STREAMS: u64 = 15;
+
 /// Streams around 16,777,216 bytes, one for each number `which`, for a book whose rule 0 is an array of strings and numbers.
 pub fn long_stream(which: u64) -> Vec<u8> {
-    let filled = |start: &[u8], fill: u8, end: &[u8], length: usize| {
+    let alone = |start: &[u8], fill: u8, end: &[u8], length: usize| {
         let middle = vec![fill; length + 1 - start.len() - end.len()];
-        [start, &middle, end, b"\x1E[]"].concat()
+        [start, &middle, end].concat()
     };
+    let filled = |start: &[u8], fill: u8, end: &[u8], length: usize| [alone(start, fill, end, length), b"\x1E[]".to_vec()].concat();
     let deep = |count: usize| [vec![RS], vec![b'['; count]].concat();
     match which {
         0 => filled(b"\x1E[", b' ', b"]", LONGEST),
@@ -482,6 +486,12 @@ pub fn long_stream(which: u64) -> Vec<u8> {
         5 => filled(b"\x1E[1,]", b' ', b"", LONGEST + 5),
         6 => filled(b"\x1E[1.0", b'0', b"x", LONGEST),
         7 => filled(&deep(64), b'\r', b"[", LONGEST),
+        8 => alone(b"\x1E[\"\",1", b'0', b",", LONGEST + 1),
+        9 => alone(b"\x1E[\"\",1", b'0', b", ", LONGEST + 1),
+        10 => alone(b"\x1E[null,", b' ', b"true,[", LONGEST + 3),
+        11 => alone(b"\x1E{\"", b'a', b"\":1,\"a\":\"\",", LONGEST + 9),
+        12 => alone(b"\x1E[{\"a\":", b'\t', b"1}", LONGEST + 1),
+        13 => alone(b"\x1E[null,", b' ', b"true,[", LONGEST + 2),
         _ => filled(b"", b' ', b"", LONGEST + 1),
     }
 }

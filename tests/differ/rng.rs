@@ -43,3 +43,14 @@ impl Rng {
         }
     }
 }
+
+/// So many bytes of chance.
+pub fn noise(seed: u64, length: usize) -> Vec<u8> {
+    let mut rng = Rng::new(seed, 0);
+    let mut bytes = Vec::with_capacity(length + 8);
+    while bytes.len() < length {
+        bytes.extend_from_slice(&rng.next().to_le_bytes());
+    }
+    bytes.truncate(length);
+    bytes
+}

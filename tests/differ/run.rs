@@ -16,20 +16,26 @@ pub fn valid(book: &Book, value: &Value) -> bool {
 
 /// The rules that have an accepting run over the value: bit n for rule n.
 fn rules(book: &Book, value: &Value) -> u32 {
-    let mut found = 0;
-    let (form, fitted) = match value {
-        Value::Arr(list) => (Form::Arr, list.iter().map(|v| rules(book, v)).collect::<Vec<u32>>()),
-        Value::Obj(pairs) => (Form::Obj, pairs.iter().map(|(_, v)| rules(book, v)).collect()),
+    let fitted: Vec<u32> = match value {
+        Value::Arr(list) => list.iter().map(|v| rules(book, v)).collect(),
+        Value::Obj(pairs) => pairs.iter().map(|(_, v)| rules(book, v)).collect(),
         _ => return 0,
     };
+    accepting(book, value, &fitted)
+}
+
+/// The same, where the rules over each inner value are known.
+pub fn accepting(book: &Book, value: &Value, fitted: &[u32]) -> u32 {
+    let mut found = 0;
+    let form = if let Value::Arr(_) = value { Form::Arr } else { Form::Obj };
     for rule in 0..RULES {
         let other = on(Plant::FormNotAsked) && fitted.is_empty() && form == Form::Arr && book.forms[rule].is_some();
         if book.forms[rule] != Some(form) && !other {
             continue;
         }
         let accepted = match value {
-            Value::Arr(list) => array(book, rule, list, &fitted),
-            Value::Obj(pairs) => object(book, rule, pairs, &fitted),
+            Value::Arr(list) => reached(book, rule, list, fitted).iter().any(|&state| end(book, rule, state)),
+            Value::Obj(pairs) => object(book, rule, pairs, fitted),
             _ => false,
         };
         found |= u32::from(accepted) << rule;
@@ -38,7 +44,7 @@ fn rules(book: &Book, value: &Value) -> u32 {
 }
 
 /// `num` fits any number, `int` one without fraction or exponent part, `rN` what rule N has an accepting run over.
-fn fits(kind: Kind, value: &Value, fitted: u32) -> bool {
+pub fn fits(kind: Kind, value: &Value, fitted: u32) -> bool {
     match (kind, value) {
         (Kind::Null, Value::Null) | (Kind::True, Value::True) | (Kind::False, Value::False) => true,
         (Kind::Str, Value::Str) => true,
@@ -56,7 +62,7 @@ fn end(book: &Book, rule: usize, state: usize) -> bool {
 }
 
 /// One edge for each element, in the written order: the set of states reached, from state 0.
-fn array(book: &Book, rule: usize, list: &[Value], fitted: &[u32]) -> bool {
+pub fn reached(book: &Book, rule: usize, list: &[Value], fitted: &[u32]) -> HashSet<usize> {
     let mut states = HashSet::from([0]);
     for (value, &fitted) in list.iter().zip(fitted) {
         let mut reached = HashSet::new();
@@ -67,7 +73,7 @@ fn array(book: &Book, rule: usize, list: &[Value], fitted: &[u32]) -> bool {
         }
         states = reached;
     }
-    states.iter().any(|&state| end(book, rule, state))
+    states
 }
 
 /// One edge for each pair, in some order of the pairs.

@@ -1,6 +1,7 @@
 //! The paper, part four: parts of a stream, their verdicts, and what the judging program prints (01, "The stream").
 
-use crate::book::{load, Book};
+use crate::book::{Book, Refusal};
+use crate::frames;
 use crate::plant::{on, Plant};
 use crate::run::valid;
 use crate::text::{whole, Stop};
@@ -12,10 +13,11 @@ pub const LONGEST: usize = 16_777_216;
 #[derive(Clone, Copy, PartialEq, Eq, Debug)]
 pub enum Verdict { Valid, Invalid, Refused(u32, usize) }
 
-/// A nonempty part of a stream, and whether it is the head.
+/// A nonempty part of a stream, whether it is the head, and the bytes of the stream read when it has its verdict.
 pub struct Part<'a> {
     pub bytes: &'a [u8],
     pub head: bool,
+    pub read: usize,
 }
 
 /// RS splits a stream; the bytes before the first RS are the head; empty parts have no verdict.
@@ -25,17 +27,19 @@ pub fn parts(stream: &[u8]) -> Vec<Part<'_>> {
     for (i, &byte) in stream.iter().enumerate() {
         quoted ^= byte == b'"';
         if byte == RS && !(on(Plant::RsInString) && quoted) {
-            list.push(Part { bytes: &stream[start..i], head });
+            let read = if on(Plant::ReadWithoutRs) { i } else { i + 1 };
+            list.push(Part { bytes: &stream[start..i], head, read });
             (start, head, quoted) = (i + 1, false, false);
         }
     }
-    list.push(Part { bytes: &stream[start..], head });
+    let read = stream.len() + usize::from(on(Plant::CloseCounted));
+    list.push(Part { bytes: &stream[start..], head, read });
     list.retain(|part| !part.bytes.is_empty() || on(Plant::EmptyPart));
     list
 }
 
 /// The verdict of a part: its first fault among 15, 13, 11, 12, or 14 at its end, or else by its runs.
-pub fn verdict(book: &Book, part: &Part) -> Verdict {
+pub fn verdict(book: &Book, part: &Part, levels: usize) -> Verdict {
     if part.head && !on(Plant::HeadJudged) {
         return Verdict::Refused(15, 0);
     }
@@ -45,7 +49,7 @@ pub fn verdict(book: &Book, part: &Part) -> Verdict {
         return Verdict::Refused(13, longest);
     }
     let seen = if on(Plant::LongLast) { length.min(longest + 1) } else { length.min(longest) };
-    match whole(&part.bytes[..seen]) {
+    match whole(&part.bytes[..seen], levels) {
         Err(Stop::Fault(place)) => Verdict::Refused(11, place),
         Err(Stop::Deep(place)) => Verdict::Refused(12, place),
         _ if length > longest => Verdict::Refused(13, longest),
@@ -62,24 +66,45 @@ fn unfinished(bytes: &[u8]) -> usize {
     bytes.len()
 }
 
-/// What the judging program finds: a refused book, or a verdict for each record.
-pub enum Found { Refused(u32, usize), Judged(Vec<Verdict>) }
+/// What load, start, feed and close find: a refused book, a refused start (21), or a verdict for each record with the bytes read by then.
+pub enum Found { Book(u32, usize), Start, Judged(Vec<(Verdict, usize)>) }
 
-/// A book that cannot be read counts as empty.
-pub fn judge(book: Option<&[u8]>, stream: &[u8]) -> Found {
-    match load(book.unwrap_or(&[])) {
-        Err((number, line)) => Found::Refused(number, line),
-        Ok(book) => Found::Judged(parts(stream).iter().map(|part| verdict(&book, part)).collect()),
+/// Load, start with the work buffer, feed and close; the buffer is left as they leave it.
+pub fn judge(loaded: &Result<Book, Refusal>, stream: &[u8], work: &mut [u8]) -> Found {
+    let least = if on(Plant::Buffer97) { 97 } else { 96 };
+    let small = work.len() < least;
+    if on(Plant::StartFirst) && small {
+        return Found::Start;
+    }
+    if on(if loaded.is_err() || small { Plant::RefusedClears } else { Plant::StartClears }) {
+        work.fill(0);
+    }
+    let frames = 96 * frames::count(work.len());
+    if on(Plant::RestCleared) {
+        work[frames..].fill(0);
+    }
+    match loaded {
+        Err((number, line)) => Found::Book(*number, *line),
+        Ok(_) if small => Found::Start,
+        Ok(book) => Found::Judged(parts(stream).iter().map(|part| (record(book, part, work), part.read)).collect()),
     }
 }
 
-/// The lines that the judging program prints (01, "An example day").
+/// The verdict of a part, and its frames.
+fn record(book: &Book, part: &Part, work: &mut [u8]) -> Verdict {
+    let verdict = verdict(book, part, frames::count(work.len()));
+    frames::draw(book, part, verdict, work);
+    verdict
+}
+
+/// The lines that the judging program prints (01, "An example day"); it lends 64 frames, so its start is not refused.
 pub fn lines(found: &Found) -> Vec<String> {
     match found {
-        Found::Refused(number, line) => vec!["number line".to_string(), format!("{number} {line}")],
+        Found::Book(number, line) => vec!["number line".to_string(), format!("{number} {line}")],
+        Found::Start => Vec::new(),
         Found::Judged(verdicts) => {
             let mut list = vec!["verdict number place".to_string()];
-            list.extend(verdicts.iter().map(|verdict| match verdict {
+            list.extend(verdicts.iter().map(|(verdict, _)| match verdict {
                 Verdict::Valid => "valid 0 0".to_string(),
                 Verdict::Invalid => "invalid 0 0".to_string(),
                 Verdict::Refused(number, place) => format!("refused {number} {place}"),

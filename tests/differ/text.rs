@@ -3,9 +3,7 @@
 
 use crate::plant::{on, Plant};
 
-/// Levels of 6,144 work bytes at 96 bytes each (01, "Frames").
-pub const LEVELS: usize = 64;
-
+#[derive(Clone)]
 pub enum Value {
     Null,
     True,
@@ -26,11 +24,18 @@ struct Text<'a> {
     bytes: &'a [u8],
     at: usize,
     level: usize,
+    levels: usize,
 }
 
-/// Blanks, one value, blanks.
-pub fn whole(bytes: &[u8]) -> Step<Value> {
-    let mut text = Text { bytes, at: 0, level: 0 };
+/// The string that begins at `at`, and the place behind it; none where it does not end.
+pub fn string_at(bytes: &[u8], at: usize) -> Option<(Vec<u8>, usize)> {
+    let mut text = Text { bytes, at, level: 0, levels: 0 };
+    text.string().ok().map(|string| (string, text.at))
+}
+
+/// Blanks, one value, blanks, with at most so many levels.
+pub fn whole(bytes: &[u8], levels: usize) -> Step<Value> {
+    let mut text = Text { bytes, at: 0, level: 0, levels };
     if on(Plant::ByteOrderMark) && bytes.starts_with(b"\xEF\xBB\xBF") {
         text.at = 3;
     }
@@ -52,7 +57,7 @@ impl Text<'_> {
     }
 
     fn fault<T>(&self) -> Step<T> {
-        if on(Plant::DeepFirst) && self.level == LEVELS && matches!(self.peek(), Some(b'[' | b'{')) {
+        if on(Plant::DeepFirst) && self.level == self.levels && matches!(self.peek(), Some(b'[' | b'{')) {
             return Err(Stop::Deep(self.at));
         }
         Err(Stop::Fault(self.at))
@@ -83,7 +88,7 @@ impl Text<'_> {
             b'f' => self.word(b"false", Value::False),
             b'"' => self.string().map(|_| Value::Str),
             b'-' | b'0'..=b'9' => self.number(),
-            b'[' if on(Plant::LastLevel) && self.level == LEVELS - 1 => self.array().map(|_| Value::Null),
+            b'[' if on(Plant::LastLevel) && self.level + 1 == self.levels => self.array().map(|_| Value::Null),
             b'[' => self.array(),
             b'{' => self.object(),
             _ => self.fault(),
@@ -245,7 +250,7 @@ impl Text<'_> {
 
     /// Takes an opening byte that the grammar allows here; 12 where there is no level left.
     fn open(&mut self) -> Step<()> {
-        if self.level == LEVELS + usize::from(on(Plant::Levels65)) - usize::from(on(Plant::Levels63)) {
+        if self.level == self.levels + usize::from(on(Plant::LevelMore)) - usize::from(on(Plant::LevelLess)) {
             return Err(Stop::Deep(self.at));
         }
         self.level += 1;

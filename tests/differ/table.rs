@@ -1,0 +1,69 @@
+//! How many cases fell on each class.
+
+use crate::frames::FRAMES;
+use crate::stream::{Found, Verdict};
+
+/// Valid, invalid, 11 to 15, a refused start (21), books 0 to 9; and the numbers of frames met.
+pub struct Table {
+    verdicts: [u64; 7],
+    starts: u64,
+    books: [u64; 10],
+    frames: [u64; FRAMES + 1],
+}
+
+const NAMES: [&str; 7] = ["valid", "invalid", "11", "12", "13", "14", "15"];
+
+impl Table {
+    pub fn new() -> Table {
+        Table { verdicts: [0; 7], starts: 0, books: [0; 10], frames: [0; FRAMES + 1] }
+    }
+
+    /// Counts what was found with a work buffer of this length.
+    pub fn count(&mut self, found: &Found, work: usize) {
+        match found {
+            Found::Book(number, _) => self.books[*number as usize] += 1,
+            Found::Start => self.starts += 1,
+            Found::Judged(list) => {
+                self.books[0] += 1;
+                self.frames[(work / 96).min(FRAMES)] += 1;
+                for (verdict, _) in list {
+                    self.verdicts[match verdict {
+                        Verdict::Valid => 0,
+                        Verdict::Invalid => 1,
+                        Verdict::Refused(number, _) => *number as usize - 9,
+                    }] += 1;
+                }
+            }
+        }
+    }
+
+    /// Counts a book without a stream, by the number of its refusal.
+    pub fn count_book(&mut self, number: u32) {
+        self.books[number as usize] += 1;
+    }
+
+    /// Verdicts, refused books and refused starts.
+    pub fn cases(&self) -> u64 {
+        self.verdicts.iter().sum::<u64>() + self.books[1..].iter().sum::<u64>() + self.starts
+    }
+
+    /// The classes with their counts.
+    fn classes(&self) -> Vec<(String, u64)> {
+        let records = NAMES.iter().zip(self.verdicts).map(|(name, count)| (format!("record {name}"), count));
+        let books = self.books.iter().enumerate().map(|(number, &count)| (format!("book   {number}"), count));
+        records.chain([("start  21".to_string(), self.starts)]).chain(books).collect()
+    }
+}
+
+/// Prints the tables of library and program; gives the number of classes that no case fell on. The program's start is never refused.
+pub fn print(library: &Table, program: &Table) -> usize {
+    println!("{:<16}{:>10}{:>10}", "", "library", "program");
+    let mut missed = 0;
+    for ((name, first), (_, second)) in library.classes().iter().zip(program.classes()) {
+        println!("{name:<16}{first:>10}{second:>10}");
+        missed += usize::from(*first == 0) + usize::from(second == 0 && name != "start  21");
+    }
+    let met = library.frames[1..].iter().filter(|&&count| count > 0).count();
+    println!("{met} of {FRAMES} numbers of frames met");
+    missed + FRAMES - met
+}

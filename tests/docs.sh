@@ -32,6 +32,13 @@ fi
 mkdir -p "$work/clean/target/bin" "$work/blocks" "$work/tmp"
 git ls-files -z --cached --others --exclude-standard | xargs -0 cp -p --parents -t "$work/clean" || exit 1
 cp -p target/bin/judge "$work/clean/target/bin/judge"
+if ! { [ -e target/staticlib/libfieldtext.a ] || rt staticlib fieldtext >"$work/first" 2>&1; }; then
+    cat -- "$work/first"
+    echo "the library cannot be built: 0 passed, 1 failed"
+    exit 1
+fi
+mkdir -p "$work/clean/target/staticlib"
+cp -p target/staticlib/libfieldtext.a "$work/clean/target/staticlib/"
 [ ! -e target/judge.built ] || cp -p target/judge.built "$work/clean/target/judge.built"
 
 for page in README.md docs/*.md; do

@@ -29,7 +29,7 @@ pub extern "C" fn fieldtext_book_line(book: &[u8]) -> usize
 }
 
 // Loads a book, starts, feeds a stream cut at the multiples of a size, and closes. Answers how many entries that gives; each stands in the output
-// where that has its place. Ruled out: a library that stops where the output is full, and one that judges by a refused book.
+// where that has its place. Ruled out: a library that judges by a refused book, and one that writes part of an entry where the output ends.
 #[no_mangle]
 pub extern "C" fn fieldtext_judge(
     book: &[u8],

@@ -1,1 +1,4 @@
+pub mod ByteLaws
+pub mod StayLaws
 pub mod PassLaws
+pub mod KeepLaws

@@ -5,7 +5,8 @@ use borrow.Author.Needs.{needs}
 use native.Mathlib.Omega.{arith}
 use lib.ListN.{length}
 use Rattle.pass.specs.Pass.{placed, KeptTo}
-use Rattle.pass.proofs.PassLaws.{kept-start, count-fits, kept-on}
+use Rattle.pass.proofs.ByteLaws.{count-fits}
+use Rattle.pass.proofs.KeepLaws.{kept-start, kept-on}
 use Rattle.pass.proofs.keep_to.Statement.{statement}
 use Rattle.pass.proofs.keep_to.Tie as tie
 

@@ -5,7 +5,8 @@ use borrow.Author.Needs.{needs}
 use native.Mathlib.Omega.{arith}
 use lib.ListN.{length}
 use Rattle.pass.specs.Pass.{placed, RunsTo}
-use Rattle.pass.proofs.PassLaws.{runs-start, count-fits, stayed-on, out-at-end, out-at-byte, passed-on}
+use Rattle.pass.proofs.ByteLaws.{count-fits}
+use Rattle.pass.proofs.PassLaws.{runs-start, stayed-on, out-at-end, out-at-byte, passed-on}
 use Rattle.pass.proofs.pass_to.Statement.{statement}
 use Rattle.pass.proofs.pass_to.Tie as tie
 

@@ -3,7 +3,7 @@ use Prim.Native.Nat.{_-_}
 use borrow.Author.Needs.{needs}
 use native.Mathlib.Omega.{arith}
 use Rattle.pass.specs.Pass.{StayedTo}
-use Rattle.pass.proofs.PassLaws.{stayed-none, stayed-more}
+use Rattle.pass.proofs.StayLaws.{stayed-none, stayed-more}
 use Rattle.pass.proofs.stay_end.Statement.{statement}
 use Rattle.pass.proofs.stay_end.Tie as tie
 

@@ -8,5 +8,6 @@ pub mod KeyLaws
 pub mod ValueLaws
 pub mod WalkLaws
 pub mod RuleLaws
+pub mod QuietLaws
 pub mod CloseLaws
 pub mod Examples

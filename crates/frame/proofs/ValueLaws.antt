@@ -1,14 +1,14 @@
 -- What a finished value leaves in each part of a frame. Assumes nothing.
 use mathlib.Core.Bool.{Bool, true, false, cond}
-use mathlib.Core.List.{List, _++_}
+use mathlib.Core.List.{List, _++_, append-nil}
 use mathlib.Core.Logic.{_⊎_, inl, inr, ⊎-elim, _↔_}
-use mathlib.Core.Path.{_≡_, refl, subst, _∙_}
+use mathlib.Core.Path.{_≡_, refl, ap, subst, _∙_}
 use Prim.Native.Nat.{ℕ, _+_, _/_, _<_, _≤_}
 use native.Mathlib.Decide.{decLt}
 use native.Mathlib.Omega.{arith}
 use lib.Dec.{T, ltb, lit<}
-use lib.ListN.{length, getD, take, replicate, length-append, List·getD-append}
-use lib.Seq.{getD-take, length-take-le}
+use lib.ListN.{length, getD, take, drop, replicate, length-append, length-drop, drop-of-length-le, List·getD-append}
+use lib.Seq.{getD-take, length-take-le, take-at, drop-at, take-all}
 use borrow.Author.Tests.{lt-ltb, le-ltb, eq-eqb, ne-eqb}
 use Rattle.laws.specs.Bits.{bitAt, setAll}
 use Rattle.laws.proofs.BitLaws.{bitAt-of-byte, length-setAll, getD-setAll-other, bitAt-setAll-of-bitAt, bitAt-setAll-of-test, test-or-bitAt-of-setAll, test-of-setAll-zeros}
@@ -19,6 +19,23 @@ use Rattle.frame.specs.Edges.{Edges, edgeCount, hasForm, stateNumber, fi
 use Rattle.frame.specs.Ops.{withEdges, withStates, valued}
 use Rattle.frame.proofs.EdgeLaws.{fitting-iff, stepping-iff}
 use Rattle.frame.proofs.PartLaws.{heldIn-of-append}
+
+-- ---- the states of a frame, replaced
+
+-- the frame with other bytes from 32 on
+abbrev put : List ℕ → List ℕ → List ℕ
+put f s = take 32 f ++ (s ++ drop 64 (drop 32 f))
+
+put-states : (f s : List ℕ) → length f ≡ 96 → put f s ≡ take 32 f ++ s
+put-states f s l =
+    let d : length (drop 32 f) ≤ 64 = simp length-drop (omega arith) in
+    rw (drop-of-length-le (drop 32 f) d, append-nil)
+
+head-of-put : (f s : List ℕ) → length f ≡ 96 → take 32 (put f s) ≡ take 32 f
+head-of-put f s l = rw (put-states f s l) (take-at (take 32 f) s 32 (length-take-le 32 f (omega arith)))
+
+states-of-put : (f s : List ℕ) → length f ≡ 96 → length s ≡ 64 → take 64 (drop 32 (put f s)) ≡ s
+states-of-put f s l k = rw (put-states f s l, drop-at (take 32 f) s 32 (length-take-le 32 f (omega arith))) (take-all 64 s (omega arith))
 
 -- ---- by case
 
@@ -44,6 +61,21 @@ module _ (t : Edges) (kinds forms : List ℕ) (v : Finished) (f : List ℕ) wher
   valued-array fits g next same o h q =
       let e : fits ≡ fitsCode v = λ i c. same c i in
       rw (ne-eqb (getD f 0 0) 1 o, ← e, ← h) q
+
+  -- in an array whose old states were kept apart, and cleared before the new ones were added
+  pub valued-cleared : (fits : ℕ → Bool) (old clear next : List ℕ) → ((c : ℕ) → fits c ≡ fitsCode v c) → (getD f 0 0 ≡ 1 → ⊥) → length f ≡ 96
+      → old ≡ f → clear ≡ replicate (length (take 64 (drop 32 f))) 0
+      → next ≡ setAll (stepping fits (t .rules) (t .states) kinds forms old) (stateNumber (t .rules) (t .nexts)) (edgeCount (t .count)) (take 64 (drop 32 (put f clear)))
+      → put (put f clear) next ≡ valued t kinds forms v f
+  valued-cleared fits old clear next same o l d z q =
+      let m : length (take 64 (drop 32 f)) ≡ 64 = length-take-le 64 (drop 32 f) (simp length-drop (omega arith)) in
+      let c : clear ≡ replicate 64 0 = z ∙ ap (λ (n : ℕ). replicate n 0) m in
+      let k : length clear ≡ 64 = ap length c in
+      let n : length (put f clear) ≡ 96 = rw (put-states f clear l, length-append (take 32 f) clear, length-take-le 32 f (omega arith)) (omega arith) in
+      valued-array fits (put (put f clear) next) next same o
+      (q ∙ ap (λ (x : List ℕ). setAll (stepping fits (t .rules) (t .states) kinds forms x) (stateNumber (t .rules) (t .nexts)) (edgeCount (t .count)) (take 64 (drop 32 (put f clear)))) d
+      ∙ ap (setAll (stepping fits (t .rules) (t .states) kinds forms f) (stateNumber (t .rules) (t .nexts)) (edgeCount (t .count))) (states-of-put f clear l k ∙ c))
+      (put-states (put f clear) next n ∙ ap (λ (x : List ℕ). x ++ next) (head-of-put f clear l))
 
 -- ---- the parts of the frame
 

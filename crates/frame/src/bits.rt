@@ -1,6 +1,8 @@
 // Bits of bytes: bit i is 2 ^ (i mod 8) of byte i / 8. A bit past the end is not set, and setting it changes nothing.
-ghost use mathlib.Core.Bool.{cond};
+ghost use mathlib.Core.Bool.{true, cond};
 ghost use mathlib.Core.Path.{_≡_};
+ghost use Prim.Native.Nat.{ℕ, _+_, _<_, _≤_};
+ghost use lib.ListN.{length, getD};
 ghost use Rattle.laws.specs.Bits.{bitAt, setBit};
 
 // Bit i is set.
@@ -24,4 +26,14 @@ pub fn set_if(on: bool, s: &mut [u8], i: usize)
             s[q] = s[q] | (1 << (i % 8));
         }
     }
+}
+
+// The eight bytes from a on are 0: one test for all of them, so that loops can pass over them.
+pub fn quiet(s: &[u8], a: usize) -> bool
+    requires { ⌜ a + 8 ≤ length (now s) ⌝ }
+    ensures { λ r. ⌜ (r ≡ true → (k : ℕ) → k < 8 → getD (now (s .entry)) (a + k) 0 ≡ 0) ⌝ }
+{
+    let low = s[a] | s[a + 1] | s[a + 2] | s[a + 3];
+    let high = s[a + 4] | s[a + 5] | s[a + 6] | s[a + 7];
+    (low | high) == 0
 }

@@ -4,7 +4,7 @@ use crate::edge;
 use crate::open;
 ghost use mathlib.Core.Bool.{cond};
 ghost use mathlib.Core.Path.{_≡_};
-ghost use Prim.Native.Nat.{_+_, _*_, _^_, _<_};
+ghost use Prim.Native.Nat.{_+_, _*_, _^_, _<_, _≤_};
 ghost use lib.ListN.{length};
 ghost use Rattle.frame.specs.Edges.{edgesOf};
 ghost use Rattle.frame.specs.Ops.{keyStates, walked, startStates, ended, accepting, ruleSet, closed};
@@ -137,15 +137,39 @@ fn with_rule<'a>(
     set
 }
 
-// The rules of the form that have an end state among the states.
+// The set with those of four rules that are of the form and have an end state among the states.
+fn with_four<'a>(
+    set: u32,
+    states: &'a [u8],
+    ends: &'a [u8; 64],
+    forms: &'a [u8; 32],
+    form: u8,
+    from: usize,
+) -> u32
+    requires { ⌜ (length (now states) ≡ 64) × (from + 4 ≤ 32) × (set ≡ ruleSet (accepting (now forms) (now ends) form (now states)) from) ⌝ }
+    ensures { λ s. ⌜ s ≡ ruleSet (accepting (now (forms .entry)) (now (ends .entry)) form (now (states .entry))) (from + 4) ⌝ }
+{
+    let mut all = set;
+    for r in from..from + 4 {
+        let t = with_rule(all, states, ends, forms, form, r);
+        all = t;
+    }
+    all
+}
+
+// The rules of the form that have an end state among the states. Four rules without states are passed over at once.
 fn rule_set<'a>(states: &'a [u8], ends: &'a [u8; 64], forms: &'a [u8; 32], form: u8) -> u32
     requires { ⌜ length (now states) ≡ 64 ⌝ }
     ensures { λ s. ⌜ s ≡ ruleSet (accepting (now (forms .entry)) (now (ends .entry)) form (now (states .entry))) 32 ⌝ }
 {
     let mut set: u32 = 0;
-    for r in 0..32 {
-        let t = with_rule(set, states, ends, forms, form, r);
-        set = t;
+    let mut r = 0;
+    while r < 32 {
+        if bits::quiet(states, 2 * r) {} else {
+            let t = with_four(set, states, ends, forms, form, r);
+            set = t;
+        }
+        r += 4;
     }
     set
 }

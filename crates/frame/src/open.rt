@@ -1,14 +1,16 @@
 // Opening: 01, "Frames".
 use crate::bits;
+ghost use mathlib.Core.Bool.{cond};
+ghost use mathlib.Core.List.{List};
 ghost use mathlib.Core.Path.{_≡_};
-ghost use Prim.Native.Nat.{_*_};
+ghost use Prim.Native.Nat.{ℕ, _+_, _*_, _<_, _≤_};
 ghost use lib.ListN.{length, replicate};
 ghost use Rattle.laws.specs.Bits.{setAll};
 ghost use Rattle.frame.specs.Edges.{hasForm};
 ghost use Rattle.frame.specs.Ops.{opened};
 
 // Sets every byte to 0.
-fn clear(s: &mut [u8])
+pub fn clear(s: &mut [u8])
     ensures { λ _. ⌜ now (s .exit) ≡ replicate (length (now (s .entry))) 0 ⌝ }
 {
     for i in 0..s.len() {
@@ -16,13 +18,35 @@ fn clear(s: &mut [u8])
     }
 }
 
-// Adds state 0 of every rule of the form.
+// 1 where a rule is of the form.
+fn one_if(on: bool) -> u8
+    ensures { λ r. ⌜ r ≡ cond on 1 0 ⌝ }
+{
+    if on { 1 } else { 0 }
+}
+
+// Adds state 0 of those of eight rules that are of the form. State 0 of rule r is bit 0 of byte 2 r.
+fn add_eight(states: &mut [u8], forms: &[u8; 32], form: u8, from: usize)
+    requires { ⌜ (length (now states) ≡ 64) × (from + 8 ≤ 32) ⌝ }
+    ensures { λ _. ⌜ ((xs : List ℕ) → now (states .entry) ≡ setAll (hasForm (now (forms .entry)) form) (λ r. 16 * r) from xs → now (states .exit) ≡ setAll (hasForm (now (forms .entry)) form) (λ r. 16 * r) (from + 8) xs) ⌝ }
+{
+    for r in from..from + 8 {
+        let on = one_if(forms[r] == form);
+        states[2 * r] = states[2 * r] | on;
+    }
+}
+
+// Adds state 0 of every rule of the form. Eight rules without lines are passed over at once.
 pub fn add_starts(states: &mut [u8], forms: &[u8; 32], form: u8)
+    requires { ⌜ (length (now states) ≡ 64) × (0 < form) ⌝ }
     ensures { λ _. ⌜ now (states .exit) ≡ setAll (hasForm (now (forms .entry)) form) (λ r. 16 * r) 32 (now (states .entry)) ⌝ }
 {
-    for r in 0..32 {
-        let on = forms[r] == form;
-        bits::set_if(on, states, 16 * r);
+    let mut r = 0;
+    while r < 32 {
+        if bits::quiet(forms, r) {} else {
+            add_eight(states, forms, form, r);
+        }
+        r += 8;
     }
 }
 

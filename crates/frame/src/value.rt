@@ -2,11 +2,11 @@
 use crate::bits;
 use crate::edge;
 use crate::mask;
+use crate::open;
 use table::kind::Finished;
-ghost use mathlib.Core.List.{_++_};
 ghost use mathlib.Core.Path.{_≡_};
 ghost use Prim.Native.Nat.{_+_};
-ghost use lib.ListN.{length, take, replicate};
+ghost use lib.ListN.{length};
 ghost use Rattle.laws.specs.Bits.{setAll};
 ghost use Rattle.frame.specs.Edges.{edgesOf, edgeCount, fitting, stepping, stateNumber};
 ghost use Rattle.frame.specs.Mask.{maskHas};
@@ -30,8 +30,9 @@ fn add_edges<'a>(
     }
 }
 
-// The states that the edges whose kinds the mask has lead to from the states of an array.
-fn next_states<'a>(
+// Adds the states that the edges whose kinds the mask has lead to from the states of an array.
+fn add_states<'a>(
+    next: &mut [u8],
     frame: &'a [u8],
     edges: usize,
     rules: &'a [u8; 512],
@@ -40,26 +41,26 @@ fn next_states<'a>(
     nexts: &'a [u8; 512],
     forms: &'a [u8; 32],
     m: u64,
-) -> [u8; 64]
-    ensures { λ r. ⌜ r ≡ setAll (stepping (maskHas m) (now (rules .entry)) (now (states .entry)) (now (kinds .entry)) (now (forms .entry)) (now (frame .entry))) (stateNumber (now (rules .entry)) (now (nexts .entry))) (edgeCount edges) (replicate 64 0) ⌝ }
+)
+    ensures { λ _. ⌜ now (next .exit) ≡ setAll (stepping (maskHas m) (now (rules .entry)) (now (states .entry)) (now (kinds .entry)) (now (forms .entry)) (now (frame .entry))) (stateNumber (now (rules .entry)) (now (nexts .entry))) (edgeCount edges) (now (next .entry)) ⌝ }
 {
-    let mut next = [0u8; 64];
     let n = edge::count(edges);
     for e in 0..n {
         let on = edge::stepping(frame, forms, rules[e], states[e], kinds[e], m);
-        bits::set_if(on, &mut next, edge::state_number(rules[e], nexts[e]));
+        bits::set_if(on, next, edge::state_number(rules[e], nexts[e]));
     }
-    next
 }
 
-// Replaces the states of an array's frame, bytes 32 to 95.
-fn put_states(frame: &mut [u8], next: [u8; 64])
+// A copy of a frame: an array's new states are written where the old ones stood.
+fn copied(frame: &[u8]) -> [u8; 96]
     requires { ⌜ length (now frame) ≡ 96 ⌝ }
-    ensures { λ _. ⌜ now (frame .exit) ≡ take 32 (now (frame .entry)) ++ next ⌝ }
+    ensures { λ r. ⌜ r ≡ now (frame .entry) ⌝ }
 {
-    for i in 0..64 {
-        frame[32 + i] = next[i];
+    let mut copy = [0u8; 96];
+    for i in 0..96 {
+        copy[i] = frame[i];
     }
+    copy
 }
 
 // A finished value in the frame of the open value that it stands in.
@@ -85,6 +86,17 @@ pub fn value_frame<'a>(
         }
         return;
     }
-    let next = next_states(frame, edges, rules, states, kinds, nexts, forms, m);
-    put_states(frame, next);
+    let old = copied(frame);
+    open::clear(&mut frame[32..96]);
+    add_states(
+        &mut frame[32..96],
+        &old,
+        edges,
+        rules,
+        states,
+        kinds,
+        nexts,
+        forms,
+        m,
+    );
 }

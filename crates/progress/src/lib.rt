@@ -22,11 +22,6 @@ pub enum Fault {
 
 // What is known of the open record.
 pub struct Lex {
-    // where the next byte stands
-    pub mode: Mode,
-    pub fault: Fault,
-    // before the first RS of the stream
-    pub head: bool,
     // how many values are open
     pub level: usize,
     // how many bytes were read, and the place of the fault
@@ -35,6 +30,11 @@ pub struct Lex {
     // of an open character: its bits, and the high surrogate before it
     pub bits: u32,
     pub high: u32,
+    // where the next byte stands
+    pub mode: Mode,
+    pub fault: Fault,
+    // before the first RS of the stream
+    pub head: bool,
     // how many characters of the open key are kept; 33 where it can be no key of a book
     pub len: u8,
 }

@@ -9,5 +9,6 @@ pub mod ValueLaws
 pub mod WalkLaws
 pub mod RuleLaws
 pub mod QuietLaws
+pub mod SkipLaws
 pub mod CloseLaws
 pub mod Examples

@@ -55,7 +55,7 @@ module _ (s : List ℕ) (a : ℕ) where
 -- ---- rules without lines
 
 -- where no number of m more passes, no bit more is set
-setAll-same : (p : ℕ → Bool) (f : ℕ → ℕ) (n m : ℕ) (xs : List ℕ) → ((k : ℕ) → k < m → p (n + k) ≡ false) → setAll p f (n + m) xs ≡ setAll p f n xs
+pub setAll-same : (p : ℕ → Bool) (f : ℕ → ℕ) (n m : ℕ) (xs : List ℕ) → ((k : ℕ) → k < m → p (n + k) ≡ false) → setAll p f (n + m) xs ≡ setAll p f n xs
 unfolding setAll
 setAll-same p f n zero xs h = ap (λ (k : ℕ). setAll p f k xs) (add-zero n)
 setAll-same p f n (suc m) xs h =

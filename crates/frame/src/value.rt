@@ -30,7 +30,8 @@ fn add_edges<'a>(
     }
 }
 
-// Adds the states that the edges whose kinds the mask has lead to from the states of an array.
+// Adds the states that the edges whose kinds the mask has lead to from the states of an array. The edges of
+// other kinds are skipped.
 fn add_states<'a>(
     next: &mut [u8],
     frame: &'a [u8],
@@ -45,9 +46,11 @@ fn add_states<'a>(
     ensures { λ _. ⌜ now (next .exit) ≡ setAll (stepping (maskHas m) (now (rules .entry)) (now (states .entry)) (now (kinds .entry)) (now (forms .entry)) (now (frame .entry))) (stateNumber (now (rules .entry)) (now (nexts .entry))) (edgeCount edges) (now (next .entry)) ⌝ }
 {
     let n = edge::count(edges);
-    for e in 0..n {
+    let mut e = mask::skip(kinds, m, 0, n);
+    while e < n {
         let on = edge::stepping(frame, forms, rules[e], states[e], kinds[e], m);
         bits::set_if(on, next, edge::state_number(rules[e], nexts[e]));
+        e = mask::skip(kinds, m, e + 1, n);
     }
 }
 

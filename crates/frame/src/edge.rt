@@ -1,10 +1,11 @@
 // Edges of a table: how many count, and the tests of one of them.
 use crate::bits;
 use crate::mask;
-ghost use mathlib.Core.Bool.{_&&_};
+ghost use mathlib.Core.Bool.{false, _&&_};
 ghost use mathlib.Core.Path.{_≡_};
-ghost use Prim.Native.Nat.{_+_, _*_, _<_};
+ghost use Prim.Native.Nat.{ℕ, _+_, _*_, _<_, _≤_};
 ghost use lib.Dec.{eqb};
+ghost use lib.ListN.{getD};
 ghost use Rattle.laws.specs.Bits.{bitAt};
 ghost use Rattle.frame.specs.Edges.{edgeCount, hasForm};
 ghost use Rattle.frame.specs.Frame.{heldIn};
@@ -33,6 +34,21 @@ fn is_arr(forms: &[u8; 32], rule: u8) -> bool
         return forms[i] == 2;
     }
     false
+}
+
+// The first edge of the key from `from` on, or n.
+pub fn next_of(keys: &[u8; 512], key: u8, from: usize, n: usize) -> usize
+    requires { ⌜ (from ≤ n) × (n ≤ 512) ⌝ }
+    ensures { λ r. ⌜ (from ≤ r) × (r ≤ n) × ((k : ℕ) → from ≤ k → k < r → eqb (getD (now (keys .entry)) k 0) key ≡ false) ⌝ }
+{
+    let mut e = from;
+    while e < n {
+        if keys[e] == key {
+            return e;
+        }
+        e += 1;
+    }
+    e
 }
 
 // An edge is one of the key, and the mask has its kind.

@@ -12,7 +12,7 @@ ghost use Rattle.frame.specs.Edges.{edgesOf, edgeCount, fitting, steppin
 ghost use Rattle.frame.specs.Mask.{maskHas};
 ghost use Rattle.frame.specs.Ops.{valued};
 
-// Adds the edges of the key whose kinds the mask has.
+// Adds the edges of the key whose kinds the mask has. The edges of other keys are skipped.
 fn add_edges<'a>(
     frame: &mut [u8],
     edges: usize,
@@ -24,9 +24,11 @@ fn add_edges<'a>(
     ensures { λ _. ⌜ now (frame .exit) ≡ setAll (fitting (maskHas m) (now (keys .entry)) (now (kinds .entry)) key) (λ e. 256 + e) (edgeCount edges) (now (frame .entry)) ⌝ }
 {
     let n = edge::count(edges);
-    for e in 0..n {
+    let mut e = edge::next_of(keys, key, 0, n);
+    while e < n {
         let on = edge::fitting(keys[e], kinds[e], key, m);
         bits::set_if(on, frame, 256 + e);
+        e = edge::next_of(keys, key, e + 1, n);
     }
 }
 

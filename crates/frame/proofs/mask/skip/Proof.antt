@@ -1,13 +1,15 @@
 -- `mask::skip` meets its contract. The mask has none of the kinds before i. Assumes nothing.
 use Prim.Native.Nat.{_-_, _≤_}
-use Rattle.frame.proofs.SkipLaws.{NoneOf, none-more}
+use Rattle.frame.proofs.SkipLaws.{NoneOf, kinds-more}
+use Rattle.frame.specs.Mask.{maskHas}
 use borrow.Author.Needs.{needs}
+use lib.ListN.{getD}
 use native.Mathlib.Omega.{arith}
 use Rattle.frame.proofs.mask.skip.Statement.{statement}
 use Rattle.frame.proofs.mask.skip.Tie as tie
 
 abbrev Inv-loop : tie.InvT-loop
-Inv-loop kinds m from n i₀ i = (from ≤ i) × (i ≤ n) × NoneOf m kinds from i
+Inv-loop kinds m from n i₀ i = (from ≤ i) × (i ≤ n) × NoneOf (λ k. maskHas m (getD kinds k 0)) from i
 
 abbrev μ-loop : tie.MeasureT-loop
 μ-loop kinds m from n i₀ i = n - i
@@ -16,7 +18,7 @@ loop-holds : tie.Need-loop-holds Inv-loop μ-loop
 loop-holds c = (search needs, search needs, λ k l u. absurd (omega arith))
 
 loop-again : tie.Need-loop-again Inv-loop μ-loop
-loop-again c = (search needs, search needs, search (needs, none-more))
+loop-again c = (search needs, search needs, search (needs, kinds-more))
 
 pub skip-spec : {M : Type 1} → statement M
 skip-spec = tie.close (tie.spec Inv-loop μ-loop loop-holds (λ c. search needs) (λ c. search needs) (λ c. search needs) (λ c. search needs) (λ c. search needs) (λ c. search needs) loop-again (λ c. search needs))

@@ -1,12 +1,13 @@
 -- `value::add_edges` meets its contract. The loop has set the bits of the edges below e. Assumes nothing.
 use Prim.Native.Nat.{_+_, _-_, _≤_}
+use Rattle.frame.proofs.SkipLaws.{fitting-skipped}
 use Rattle.frame.specs.Edges.{edgeCount, fitting}
 use Rattle.frame.specs.Mask.{maskHas}
+use Rattle.laws.proofs.BitLaws.{setAll-more}
 use Rattle.laws.specs.Bits.{setAll}
 use borrow.Author.Needs.{needs}
 use lib.ListN.{length}
-use mathlib.Core.Path.{_≡_}
-use native.Mathlib.Numerals.{add-one}
+use mathlib.Core.Path.{_≡_, refl}
 use native.Mathlib.Omega.{arith}
 use Rattle.frame.proofs.value.add_edges.Statement.{statement}
 use Rattle.frame.proofs.value.add_edges.Tie as tie
@@ -19,14 +20,16 @@ abbrev μ-loop : tie.MeasureT-loop
 
 loop-holds : tie.Need-loop-holds Inv-loop μ-loop
 unfolding setAll
-loop-holds c = search needs
+loop-holds c = (search needs, fitting-skipped _ _ _ _ 0 _ _ _ (c .next-of .ensures .0) (c .next-of .ensures .2) refl, search needs)
 
 loop-again : tie.Need-loop-again Inv-loop μ-loop
-unfolding setAll fitting
-loop-again c = (search needs, rw add-one (cc), cc)
+unfolding fitting
+loop-again c =
+    let g = c .before .before .before .before .before .before .before .before .before .before .before .before .before .args in
+    (search needs, fitting-skipped (maskHas (g .m)) (g .keys .now) (g .kinds .now) (g .key) _ _ _ _ (c .next-of2 .ensures .0) (c .next-of2 .ensures .2) (setAll-more _ _ _ _ _ _ _ _ (c .before .before .before .before .before .before .before .before .before .loop .inv .1) (c .before .before .before .before .before .fitting .ensures) refl (c .before .before .before .set-if .ensures)), search needs)
 
 returns : tie.Need-returns Inv-loop μ-loop
-returns c = let e : c .before .loop .e ≡ edgeCount (c .before .before .before .before .args .edges) = omega arith in cc
+returns c = let e : c .before .loop .e ≡ edgeCount (c .before .before .before .before .before .args .edges) = omega arith in cc
 
 pub add-edges-spec : {M : Type 1} → statement M
-add-edges-spec = tie.close (tie.spec Inv-loop μ-loop (λ c κs. search needs) loop-holds (λ c. search needs) (λ c. search needs) (λ c κs. search needs) (λ c. search needs) (λ c κs. search needs) (λ c. search needs) (λ c. search needs) loop-again (λ c. search needs) returns)
+add-edges-spec = tie.close (tie.spec Inv-loop μ-loop (λ c κs. search needs) (λ c κs. search needs) loop-holds (λ c. search needs) (λ c. search needs) (λ c κs. search needs) (λ c. search needs) (λ c κs. search needs) (λ c. search needs) (λ c κs. search needs) (λ c. search needs) loop-again (λ c. search needs) returns)

@@ -1,6 +1,6 @@
 -- `value::add_states` meets its contract. The loop has set the states of the edges below e. Assumes nothing.
 use Prim.Native.Nat.{_-_, _≤_}
-use Rattle.frame.proofs.SkipLaws.{setAll-skip}
+use Rattle.frame.proofs.SkipLaws.{stepping-skipped}
 use Rattle.frame.specs.Edges.{edgeCount, stateNumber, stepping}
 use Rattle.frame.specs.Mask.{maskHas}
 use Rattle.laws.proofs.BitLaws.{setAll-more}
@@ -20,13 +20,13 @@ abbrev μ-loop : tie.MeasureT-loop
 
 loop-holds : tie.Need-loop-holds Inv-loop μ-loop
 unfolding setAll
-loop-holds c = (search needs, setAll-skip _ _ _ _ _ _ _ 0 _ _ _ (c .skip .ensures .0) (c .skip .ensures .2) refl, search needs)
+loop-holds c = (search needs, stepping-skipped _ _ _ _ _ _ _ 0 _ _ _ (c .skip .ensures .0) (c .skip .ensures .2) refl, search needs)
 
 loop-again : tie.Need-loop-again Inv-loop μ-loop
 unfolding stepping stateNumber
 loop-again c =
     let g = c .before .before .before .before .before .before .before .before .before .before .before .before .before .before .before .before .before .before .args in
-    (search needs, setAll-skip (g .m) (g .rules .now) (g .states .now) (g .kinds .now) (g .forms .now) (g .frame .now) (g .nexts .now) _ _ _ _ (c .skip2 .ensures .0) (c .skip2 .ensures .2) (setAll-more _ _ _ _ _ _ _ _ (c .before .before .before .before .before .before .before .before .before .before .before .before .before .loop .inv .1) (c .before .before .before .before .before .before .before .before .stepping .ensures) (c .before .before .before .before .state-number .ensures) (c .before .before .before .set-if .ensures)), search needs)
+    (search needs, stepping-skipped (g .m) (g .rules .now) (g .states .now) (g .kinds .now) (g .forms .now) (g .frame .now) (g .nexts .now) _ _ _ _ (c .skip2 .ensures .0) (c .skip2 .ensures .2) (setAll-more _ _ _ _ _ _ _ _ (c .before .before .before .before .before .before .before .before .before .before .before .before .before .loop .inv .1) (c .before .before .before .before .before .before .before .before .stepping .ensures) (c .before .before .before .before .state-number .ensures) (c .before .before .before .set-if .ensures)), search needs)
 
 returns : tie.Need-returns Inv-loop μ-loop
 returns c = let e : c .before .loop .e ≡ edgeCount (c .before .before .before .before .before .before .args .edges) = omega arith in cc

@@ -9,12 +9,15 @@ use borrow.Author.Tests.{le-ltb}
 use Rattle.table.specs.declared.Table.{Table}
 use Rattle.table.specs.Limits.{withinLimits}
 use Rattle.book.specs.Entry.{Entry}
+use Rattle.book.specs.Load.{loads}
+use Rattle.load.specs.declared.Loaded.{Loaded}
+use Rattle.load.specs.Loads.{LoadsAs}
 use Rattle.load.proofs.LoadedLaws.{loaded-withinLimits}
 use Rattle.verdict.specs.declared.Verdict.{Verdict}
 use Rattle.reader.specs.declared.Reader.{Reader}
 use Rattle.reader.specs.declared.Answer.the-variants as Says
 use Rattle.reader.specs.declared.Refusal.{Refusal}
-use Rattle.reader.specs.Machine.{Outcome, feedOf, closeOf}
+use Rattle.reader.specs.Machine.{Outcome, startOf, feedOf, closeOf}
 use Rattle.reader.specs.Paper.{Call, feed, close}
 use Rattle.reader.specs.Claim.{run, answers, accepted, Held, nothing, held, Same, Fair}
 use Rattle.stream.specs.Records.{verdictsOf, verdictsIn, andThen, Hands, closed, fed as hands-fed, Fresh}
@@ -101,3 +104,14 @@ module _ (t : Table) (es : List Entry) (book : Book t es) (n : ℕ) where
 
       pub good-of-feed : (s : List ℕ) → Good n (feedOf r t w s .reader)
       good-of-feed s = good-of-call n least most r (feed t w s) g
+
+-- ---- an accepted book begins
+
+module _ (b : List ℕ) (l : Loaded) (loaded : LoadsAs b l) (t : Table) (e : l .table ≡ t) where
+  pub book-of-loaded : loads b .number ≡ 0 → Book t (loads b .entries)
+  book-of-loaded ok = record { bytes = b; loaded = l; gave = loaded; accepted = ok; table = e; entries = refl }
+
+  -- with a frame or more its start is not refused
+  pub start-quiet : (w : List ℕ) → 96 ≤ length w → startOf t w .answer ≡ Says.Quiet
+  unfolding startOf
+  start-quiet w h = rw (rw e at (loaded-withinLimits b l loaded), le-ltb (length w) 96 h)

@@ -8,14 +8,13 @@ use native.Mathlib.Omega.{arith}
 use lib.Dec.{eqb}
 use lib.ListN.{length, take, drop, take-append-drop, length-append, length-drop}
 use lib.Seq.{drop-append-le}
-use borrow.Author.Tests.{eq-eqb, ne-eqb, le-ltb}
+use borrow.Author.Tests.{eq-eqb}
 use Rattle.table.specs.declared.Table.{Table}
 use Rattle.book.specs.Entry.{Entry}
 use Rattle.book.specs.Load.{loads}
 use Rattle.load.specs.declared.Loaded.{Loaded}
 use Rattle.load.specs.Loads.{LoadsAs}
 use Rattle.load.specs.Step.{tableOf}
-use Rattle.load.proofs.LoadedLaws.{loaded-withinLimits}
 use Rattle.frame.specs.Frame.{frameCount}
 use Rattle.verdict.specs.declared.Verdict.{Verdict}
 use Rattle.reader.specs.declared.Reader.{Reader}
@@ -29,7 +28,7 @@ use Rattle.stream.proofs.JudgeLaws.{judgeOf}
 use Rattle.demand.specs.Book.{Book}
 use Rattle.demand.specs.Reading.{Reads, ended, fed}
 use Rattle.demand.proofs.FeedLaws.{count-of-feed, some-of-feed, length-of-feed}
-use Rattle.demand.proofs.ReadingLaws.{verdicts-of-reads, feed-served, close-served, good-of-feed}
+use Rattle.demand.proofs.ReadingLaws.{verdicts-of-reads, book-of-loaded, start-quiet, feed-served, close-served, good-of-feed}
 use Rattle.fieldtext.specs.Entries.{Entry as Said}
 use Rattle.fieldtext.specs.Judge.{answerEntries, isRefused, Fed, stopped, entriesThen, fedThen, pieceOf, feeds, closes, streamed, judges}
 use Rattle.fieldtext.specs.Shows.{Shows, none, next}
@@ -140,19 +139,13 @@ module _ (b : List ℕ) (l : Loaded) (loaded : LoadsAs b l) (yes : loads b .numb
   abbrev table : Table
   table = tableOf (loads b .entries)
 
-  book-of-loaded : Book table (loads b .entries)
-  book-of-loaded = record { bytes = b; loaded = l; gave = loaded; accepted = yes; table = loaded .table; entries = refl }
-
-  quiet : (w : List ℕ) → 96 ≤ length w → startOf table w .answer ≡ Says.Quiet
-  unfolding startOf
-  quiet w h = rw (rw (loaded .table) at (loaded-withinLimits b l loaded), le-ltb (length w) 96 h)
-
   pub judges-stream : (size : ℕ) (w s : List ℕ) → 96 ≤ length w
       → Shows (judges b size w s .entries) (verdictsOf (judgeOf (loads b .entries) (frameCount (length w))) s)
   unfolding judges
   judges-stream size w s h =
       let n : ℕ = frameCount (length w) in
-      let begun = begun-of-start table w (quiet w h) in
+      let start : startOf table w .answer ≡ Says.Quiet = start-quiet b l loaded table (loaded .table) w h in
+      let begun = begun-of-start table w start in
       let fits : 96 * n ≤ length w = omega arith in
-      rw (eq-eqb (loads b .number) 0 yes, quiet w h)
-      (shown-of-stream table (loads b .entries) book-of-loaded n (begun .least) (begun .most) size (startOf table w .reader) w s (begun .fresh) fits)
+      rw (eq-eqb (loads b .number) 0 yes, start)
+      (shown-of-stream table (loads b .entries) (book-of-loaded b l loaded table (loaded .table) yes) n (begun .least) (begun .most) size (startOf table w .reader) w s (begun .fresh) fits)

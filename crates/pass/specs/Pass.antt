@@ -1,5 +1,5 @@
 -- Bytes that only move a reader on, and what passing over them means: the run over the rest of a piece is the run over the whole of it. Derived:
--- `pass-on`, `stay-on` and `keep-on` of `PassLaws` join them to `stepMem` of crate progress. Assumes nothing.
+-- `pass-on` and `stay-on` of `PassLaws` and `keep-on` of `KeepLaws` join them to `stepMem` of crate progress. Assumes nothing.
 use mathlib.Core.Bool.{Bool, true, false, cond}
 use mathlib.Core.List.{List}
 use mathlib.Core.Path.{_≡_}

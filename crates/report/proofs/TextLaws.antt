@@ -7,13 +7,11 @@ use Prim.Native.Nat.{ℕ, zero, suc, _+_, _*_, _≤_}
 use native.Mathlib.Omega.{arith}
 use lib.ListN.{length, drop}
 use lib.Seq.{drop-drop}
-use borrow.Author.Tests.{le-ltb}
 use Rattle.table.specs.declared.Table.{Table}
 use Rattle.book.specs.Entry.{Entry}
 use Rattle.book.specs.Load.{loads}
 use Rattle.load.specs.declared.Loaded.{Loaded}
 use Rattle.load.specs.Loads.{LoadsAs}
-use Rattle.load.proofs.LoadedLaws.{loaded-withinLimits}
 use Rattle.frame.specs.Frame.{frameCount}
 use Rattle.verdict.specs.declared.Verdict.{Verdict}
 use Rattle.text.specs.Text.{lineOf, linesOf, names}
@@ -26,7 +24,7 @@ use Rattle.stream.proofs.CallLaws.{begun-of-start}
 use Rattle.stream.proofs.JudgeLaws.{judgeOf}
 use Rattle.demand.specs.Book.{Book}
 use Rattle.demand.specs.Reading.{Reads, ended, fed}
-use Rattle.demand.proofs.ReadingLaws.{verdicts-of-reads}
+use Rattle.demand.proofs.ReadingLaws.{verdicts-of-reads, book-of-loaded, start-quiet}
 use Rattle.report.specs.Report.{Reported, stops, lineThen, byAnswer, reports, closing, beginning}
 use Rattle.report.specs.Prints.{Prints, ended as prints-end, reported}
 
@@ -119,19 +117,12 @@ text-of-stream t es book n r w s x least most long f p =
 -- the whole text of the program: with an accepted book, the names of the fields and a line for each verdict of the input, as the stream on paper
 -- gives them with the frames of the work buffer w
 module _ (b : List ℕ) (l : Loaded) (loaded : LoadsAs b l) (yes : loads b .number ≡ 0) where
-  book-of-loaded : Book (l .table) (loads b .entries)
-  book-of-loaded = record { bytes = b; loaded = l; gave = loaded; accepted = yes; table = refl; entries = refl }
-
-  started : (w : List ℕ) → 96 ≤ length w → startOf (l .table) w .answer ≡ Says.Quiet
-  unfolding startOf
-  started w h = rw (loaded-withinLimits b l loaded, le-ltb (length w) 96 h)
-
   pub text-of-program : (w s x : List ℕ) → 96 ≤ length w → Prints (l .table) (startOf (l .table) w .reader) w s x
       → beginning b ++ x ≡ names ++ linesOf (verdictsOf (judgeOf (loads b .entries) (frameCount (length w))) s)
   unfolding beginning
   text-of-program w s x h p =
       let n : ℕ = frameCount (length w) in
-      let begun = begun-of-start (l .table) w (started w h) in
+      let begun = begun-of-start (l .table) w (start-quiet b l loaded (l .table) refl w h) in
       let fits : 96 * n ≤ length w = omega arith in
-      rw yes (ap (λ y. names ++ y) (text-of-stream (l .table) (loads b .entries) book-of-loaded n (startOf (l .table) w .reader) w s x
+      rw yes (ap (λ y. names ++ y) (text-of-stream (l .table) (loads b .entries) (book-of-loaded b l loaded (l .table) refl yes) n (startOf (l .table) w .reader) w s x
       (begun .least) (begun .most) fits (begun .fresh) p))

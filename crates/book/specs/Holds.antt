@@ -9,7 +9,7 @@ use lib.ListN.{take, drop, getD}
 use Rattle.laws.specs.Tab.{tab}
 use Rattle.laws.specs.Lists.{any}
 use Rattle.laws.specs.Bits.{bitAt}
-use Rattle.table.specs.declared.Table.{Table}
+use Rattle.table.specs.Table.{Table}
 use Rattle.table.specs.Kind.{codeOf}
 use Rattle.book.specs.Entry.{Form, obj, arr, Entry, edge, end-state, keysOf, numberOf}
 use Rattle.book.specs.Load.{ruleOf, formIn}

@@ -9,7 +9,7 @@ use lib.ListN.{length}
 use borrow.Author.Tests.{leb-true, lt-ltb}
 use Rattle.laws.specs.Lists.{all, any, same}
 use Rattle.laws.proofs.TestLaws.{T-of-true, cond-elim}
-use Rattle.table.specs.declared.Table.{Table}
+use Rattle.table.specs.Table.{Table}
 use Rattle.table.specs.declared.kind.ValueKind.{ValueKind}
 use Rattle.book.specs.Entry.{Form, obj, arr, Entry, edge, end-state, withKey, keysFrom, keysOf, clash}
 use Rattle.book.specs.Text.{isEmpty, between}

@@ -4,10 +4,10 @@ use mathlib.Core.List.{List, [], _∷_, _++_, getLast?}
 use mathlib.Core.Path.{_≡_}
 use Prim.Native.Nat.{ℕ, _≤_}
 use lib.ListN.{length}
-use Rattle.table.specs.declared.Table.{Table}
+use Rattle.table.specs.Table.{Table}
 use Rattle.book.specs.Entry.{Entry}
 use Rattle.book.proofs.TruthLaws.{true-not-false}
-use Rattle.load.specs.declared.Loaded.{Loaded}
+use Rattle.load.specs.Step.{Loaded}
 use Rattle.load.specs.Loads.{LoadsAs}
 use Rattle.load.proofs.LoadedLaws.{loaded-withinLimits}
 use Rattle.verdict.specs.declared.Verdict.{Verdict}

@@ -7,7 +7,7 @@ use native.Mathlib.Omega.{arith}
 use lib.Dec.{T, eqb, ltb}
 use lib.ListN.{length}
 use Rattle.laws.proofs.TestLaws.{cond-elim}
-use Rattle.table.specs.declared.Table.{Table}
+use Rattle.table.specs.Table.{Table}
 use Rattle.table.specs.Limits.{withinLimits}
 use Rattle.progress.specs.declared.Lex.{Lex}
 use Rattle.progress.specs.Memory.{Mem, Ran, endsRecord, runMem, stepMem}

@@ -2,10 +2,10 @@
 use mathlib.Core.List.{List}
 use mathlib.Core.Path.{_≡_}
 use Prim.Native.Nat.{ℕ}
-use Rattle.table.specs.declared.Table.{Table}
+use Rattle.table.specs.Table.{Table}
 use Rattle.book.specs.Entry.{Entry}
 use Rattle.book.specs.Load.{loads}
-use Rattle.load.specs.declared.Loaded.{Loaded}
+use Rattle.load.specs.Step.{Loaded}
 use Rattle.load.specs.Loads.{LoadsAs}
 
 -- the table is that which load gave for an accepted book, and the entries are those of that book

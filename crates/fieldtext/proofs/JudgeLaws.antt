@@ -8,10 +8,10 @@ use lib.Dec.{eqb, ltb}
 use lib.ListN.{length}
 use borrow.Author.Tests.{eq-eqb, ne-eqb}
 use Rattle.laws.proofs.TestLaws.{cond-elim}
-use Rattle.table.specs.declared.Table.{Table}
+use Rattle.table.specs.Table.{Table}
 use Rattle.table.specs.Limits.{withinLimits}
 use Rattle.book.specs.Load.{loads}
-use Rattle.load.specs.declared.Loaded.{Loaded}
+use Rattle.load.specs.Step.{Loaded}
 use Rattle.load.specs.Answer as load
 use Rattle.load.specs.Loads.{LoadsAs}
 use Rattle.reader.specs.declared.Answer.{Answer}

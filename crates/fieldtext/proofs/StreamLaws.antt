@@ -9,10 +9,10 @@ use lib.Dec.{eqb}
 use lib.ListN.{length, take, drop, take-append-drop, length-append, length-drop}
 use lib.Seq.{drop-append-le}
 use borrow.Author.Tests.{eq-eqb}
-use Rattle.table.specs.declared.Table.{Table}
+use Rattle.table.specs.Table.{Table}
 use Rattle.book.specs.Entry.{Entry}
 use Rattle.book.specs.Load.{loads}
-use Rattle.load.specs.declared.Loaded.{Loaded}
+use Rattle.load.specs.Step.{Loaded}
 use Rattle.load.specs.Loads.{LoadsAs}
 use Rattle.load.specs.Step.{tableOf}
 use Rattle.frame.specs.Frame.{frameCount}

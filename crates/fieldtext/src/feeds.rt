@@ -2,11 +2,11 @@
 ghost use mathlib.Core.Path.{_≡_};
 ghost use Prim.Native.Nat.{_≤_, _-_};
 ghost use lib.ListN.{length};
+ghost use Rattle.table.specs.Flat.{tableIn};
 ghost use Rattle.fieldtext.specs.Judge.{isQuiet, isRefused, feeds as Judge·feeds, streamed, pieceEnd, inOut, Feeds};
 use crate::entry;
 use reader::Answer;
 use reader::Reader;
-use table::Table;
 
 // What the feeds of a stream give: the reader, the bytes read, and how many entries.
 struct Fed {
@@ -51,9 +51,16 @@ fn piece_end(read: usize, size: usize, len: usize) -> usize
 }
 
 // Feeds piece after piece from a reader that has read nothing of a record, until all is read or a feed is refused.
-fn feed_all(r: Reader, t: Table, stream: &[u8], size: usize, work: &mut [u8], out: &mut [u8]) -> Fed
+fn feed_all<'a>(
+    r: Reader,
+    table: &'a [u8; 7920],
+    stream: &'a [u8],
+    size: usize,
+    work: &mut [u8],
+    out: &mut [u8],
+) -> Fed
     requires { ⌜ r .lex .pos ≡ 0 ⌝ }
-    ensures { λ x. ⌜ Feeds (Judge·feeds (length (now (stream .entry))) t size r (now (work .entry)) 0 (now (stream .entry))) (now (out .entry)) (x .reader) (now (work .exit)) (x .read) (now (out .exit)) (x .made) ⌝ }
+    ensures { λ x. ⌜ Feeds (Judge·feeds (length (now (stream .entry))) (tableIn (now (table .entry))) size r (now (work .entry)) 0 (now (stream .entry))) (now (out .entry)) (x .reader) (now (work .exit)) (x .read) (now (out .exit)) (x .made) ⌝ }
     ensures { λ x. ⌜ x .made ≤ length (now (stream .entry)) - 1 ⌝ }
 {
     let mut next = r;
@@ -61,7 +68,7 @@ fn feed_all(r: Reader, t: Table, stream: &[u8], size: usize, work: &mut [u8], ou
     let mut made = 0;
     while read < stream.len() {
         let end = piece_end(read, size, stream.len());
-        let x = reader::feed(next, t, work, &stream[read..end]);
+        let x = reader::feed(next, table, work, &stream[read..end]);
         let a = x.answer;
         next = x.reader;
         read += x.count;
@@ -82,21 +89,21 @@ fn feed_all(r: Reader, t: Table, stream: &[u8], size: usize, work: &mut [u8], ou
 }
 
 // The feeds of a stream, then the close.
-pub fn feed_close(
+pub fn feed_close<'a>(
     r: Reader,
-    t: Table,
-    stream: &[u8],
+    table: &'a [u8; 7920],
+    stream: &'a [u8],
     size: usize,
     work: &mut [u8],
     out: &mut [u8],
 ) -> usize
     requires { ⌜ r .lex .pos ≡ 0 ⌝ }
-    ensures { λ x. ⌜ record { work = now (work .exit); out = now (out .exit); made = x } ≡ inOut (now (out .entry)) (streamed t size r (now (work .entry)) (now (stream .entry))) ⌝ }
+    ensures { λ x. ⌜ record { work = now (work .exit); out = now (out .exit); made = x } ≡ inOut (now (out .entry)) (streamed (tableIn (now (table .entry))) size r (now (work .entry)) (now (stream .entry))) ⌝ }
 {
-    let f = feed_all(r, t, stream, size, work, out);
+    let f = feed_all(r, table, stream, size, work, out);
     let next = f.reader;
     let made = f.made;
-    let c = reader::close(next, t, work);
+    let c = reader::close(next, table, work);
     let a = c.answer;
     entry::put_answer(out, made, a, f.read)
 }

@@ -13,8 +13,8 @@ use reader::Reader;
 pub extern "C" fn fieldtext_book_number(book: &[u8]) -> u8
     ensures { λ r. ⌜ r ≡ loads (now (book .entry)) .number ⌝ }
 {
-    let x = load::load(book);
-    let a = x.answer;
+    let mut table = [0u8; 7920];
+    let a = load::load(book, &mut table);
     load::number_of(a)
 }
 
@@ -23,8 +23,8 @@ pub extern "C" fn fieldtext_book_number(book: &[u8]) -> u8
 pub extern "C" fn fieldtext_book_line(book: &[u8]) -> usize
     ensures { λ r. ⌜ r ≡ loads (now (book .entry)) .line ⌝ }
 {
-    let x = load::load(book);
-    let a = x.answer;
+    let mut table = [0u8; 7920];
+    let a = load::load(book, &mut table);
     load::line_of(a)
 }
 
@@ -40,19 +40,18 @@ pub extern "C" fn fieldtext_judge(
 ) -> usize
     ensures { λ r. ⌜ record { work = now (work .exit); out = now (out .exit); made = r } ≡ judgeOf (now (book .entry)) (now (stream .entry)) size (now (work .entry)) (now (out .entry)) ⌝ }
 {
-    let x = load::load(book);
-    let a = x.answer;
-    let t = x.table;
+    let mut table = [0u8; 7920];
+    let a = load::load(book, &mut table);
     let number = load::number_of(a);
     if number != 0 {
         entry::put_entry(out, 0, 2, number, load::line_of(a), 0);
         return 1;
     }
-    let b = Reader::start(t, work);
+    let b = Reader::start(&table, work);
     let r = b.reader;
     let said = b.answer;
     if feeds::is_quiet(said) {
-        return feeds::feed_close(r, t, stream, size, work, out);
+        return feeds::feed_close(r, &table, stream, size, work, out);
     }
     entry::put_answer(out, 0, said, 0)
 }

@@ -7,7 +7,7 @@ use lib.Dec.{ltb, leb, leb→le, lit≤}
 use lib.ListN.{length, replicate}
 use Rattle.laws.specs.Lists.{same, all, any}
 use Rattle.laws.proofs.ListLaws.{T-of-all}
-use Rattle.table.specs.declared.Table.{Table}
+use Rattle.table.specs.Table.{Table}
 use Rattle.book.specs.Entry.{withKey, keysFrom, keysOf}
 use Rattle.runs.specs.Examples.{bookB}
 use Rattle.meaning.specs.Shows.{Kept}

@@ -15,7 +15,7 @@ use Rattle.laws.specs.Lists.{same, all, any}
 use Rattle.laws.proofs.TestLaws.{T-of-true, T-or-left, T-or-right}
 use Rattle.laws.proofs.ListLaws.{eq-of-same, member-of-any, T-of-all}
 use Rattle.laws.proofs.TabLaws.{length-tab}
-use Rattle.table.specs.declared.Table.{Table}
+use Rattle.table.specs.Table.{Table}
 use Rattle.book.specs.Entry.{Entry, keysOf, numberOf}
 use Rattle.book.specs.Holds.{keyAt, tableKeys}
 use Rattle.book.proofs.KeyLaws.{any-last, numberOf-new}

@@ -15,7 +15,7 @@ use Rattle.json.specs.declared.lexer.Mode.{Mode}
 use Rattle.json.specs.declared.lexer.Act.{Act}
 use Rattle.json.specs.declared.lexer.Act.the-variants as A
 use Rattle.json.specs.declared.lexer.Step.{Step}
-use Rattle.table.specs.declared.Table.{Table}
+use Rattle.table.specs.Table.{Table}
 use Rattle.table.specs.declared.kind.Finished.{Finished}
 use Rattle.table.specs.declared.kind.Finished.the-variants as Done
 use Rattle.frame.specs.Frame.{hasFrame, frameAt, putFrame}

@@ -8,7 +8,7 @@ use native.Mathlib.Omega.{arith}
 use lib.Dec.{eqb, ltb}
 use lib.ListN.{length}
 use borrow.Author.Tests.{lt-ltb}
-use Rattle.table.specs.declared.Table.{Table}
+use Rattle.table.specs.Table.{Table}
 use Rattle.book.specs.Entry.{Entry}
 use Rattle.meaning.specs.Shows.{Kept}
 use Rattle.verdict.specs.declared.Verdict.the-variants as Is

@@ -10,7 +10,7 @@ use lib.ListN.{length}
 use borrow.Author.Tests.{lt-ltb, le-leb, ne-eqb}
 use Rattle.json.specs.Machine.{Stack, bare, whole, in-array, in-object, topOf, depth, finish}
 use Rattle.table.specs.Kind.{codeOf, ruleFits}
-use Rattle.table.specs.declared.Table.{Table}
+use Rattle.table.specs.Table.{Table}
 use Rattle.table.specs.declared.kind.Finished.{Finished}
 use Rattle.table.specs.declared.kind.Finished.the-variants as Done
 use Rattle.table.specs.declared.kind.ValueKind.{ValueKind}

@@ -12,3 +12,4 @@ pub mod QuietLaws
 pub mod SkipLaws
 pub mod CloseLaws
 pub mod Examples
+pub mod ReadLaws

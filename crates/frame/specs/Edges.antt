@@ -6,6 +6,7 @@ use lib.Dec.{eqb, ltb}
 use lib.ListN.{getD}
 use Rattle.laws.specs.Bits.{bitAt}
 use Rattle.table.specs.Kind.{kindOf, fitsKind}
+use Rattle.table.specs.Table.{Table}
 use Rattle.table.specs.declared.kind.Finished.{Finished}
 use Rattle.frame.specs.Frame.{heldIn}
 
@@ -20,6 +21,10 @@ pub record Edges : Type 0 where
 -- the edges with the given numbers
 abbrev pub edgesOf : ℕ → List ℕ → List ℕ → List ℕ → List ℕ → Edges
 edgesOf n rules states keys nexts = record { count = n; rules = rules; states = states; keys = keys; nexts = nexts }
+
+-- the edges of a table
+abbrev pub edgesIn : Table → Edges
+edgesIn t = edgesOf (t .edges) (t .«edge_rule») (t .«edge_state») (t .«edge_key») (t .«edge_next»)
 
 -- at most 512 of them count
 abbrev pub edgeCount : ℕ → ℕ

@@ -1,49 +1,66 @@
 // Edges of a table: how many count, and the tests of one of them.
 use crate::bits;
 use crate::mask;
-ghost use mathlib.Core.Bool.{false, _&&_};
+use table::flat;
+ghost use mathlib.Core.Bool.{false};
 ghost use mathlib.Core.Path.{_≡_};
 ghost use Prim.Native.Nat.{ℕ, _+_, _*_, _<_, _≤_};
 ghost use lib.Dec.{eqb};
 ghost use lib.ListN.{getD};
-ghost use Rattle.laws.specs.Bits.{bitAt};
-ghost use Rattle.frame.specs.Edges.{edgeCount, hasForm};
-ghost use Rattle.frame.specs.Frame.{heldIn};
+ghost use Rattle.table.specs.Flat.{tableIn};
+ghost use Rattle.frame.specs.Edges.{edgeCount, hasForm, stateNumber, fitting as fittingOf, stepping as steppingOf, walking as walkingOf};
 ghost use Rattle.frame.specs.Mask.{maskHas};
 
 // How many edges of a table count: at most 512.
-pub fn count(edges: usize) -> usize
-    ensures { λ r. ⌜ r ≡ edgeCount edges ⌝ }
+pub fn count(table: &[u8; 7920]) -> usize
+    ensures { λ r. ⌜ r ≡ edgeCount (tableIn (now (table .entry)) .edges) ⌝ }
 {
-    if edges < 512 { edges } else { 512 }
+    let n = flat::edges(table);
+    if n < 512 { n } else { 512 }
 }
 
 // The number of a rule's state.
-pub fn state_number(rule: u8, state: u8) -> usize
-    ensures { λ r. ⌜ r ≡ 16 * rule + state ⌝ }
+fn state_number(rule: u8, state: u8) -> usize
+    ensures { λ r. ⌜ (r ≡ 16 * rule + state) × (r ≤ 4335) ⌝ }
 {
     16 * (rule as usize) + (state as usize)
 }
 
+// The number of the state that edge e leaves.
+fn state_of(table: &[u8; 7920], e: usize) -> usize
+    requires { ⌜ e < 512 ⌝ }
+    ensures { λ r. ⌜ (r ≡ stateNumber (tableIn (now (table .entry)) .«edge_rule») (tableIn (now (table .entry)) .«edge_state») e) × (r ≤ 4335) ⌝ }
+{
+    state_number(flat::rule(table, e), flat::state(table, e))
+}
+
+// The number of the state that edge e leads to.
+pub fn next_state(table: &[u8; 7920], e: usize) -> usize
+    requires { ⌜ e < 512 ⌝ }
+    ensures { λ r. ⌜ r ≡ stateNumber (tableIn (now (table .entry)) .«edge_rule») (tableIn (now (table .entry)) .«edge_next») e ⌝ }
+{
+    state_number(flat::rule(table, e), flat::next(table, e))
+}
+
 // A rule is of form arr; a rule above 31 has no form.
-fn is_arr(forms: &[u8; 32], rule: u8) -> bool
-    ensures { λ r. ⌜ r ≡ hasForm (now (forms .entry)) 2 rule ⌝ }
+fn is_arr(table: &[u8; 7920], rule: u8) -> bool
+    ensures { λ r. ⌜ r ≡ hasForm (tableIn (now (table .entry)) .forms) 2 rule ⌝ }
 {
     let i = rule as usize;
     if i < 32 {
-        return forms[i] == 2;
+        return flat::form(table, i) == 2;
     }
     false
 }
 
 // The first edge of the key from `from` on, or n.
-pub fn next_of(keys: &[u8; 512], key: u8, from: usize, n: usize) -> usize
+pub fn next_of(table: &[u8; 7920], key: u8, from: usize, n: usize) -> usize
     requires { ⌜ (from ≤ n) × (n ≤ 512) ⌝ }
-    ensures { λ r. ⌜ (from ≤ r) × (r ≤ n) × ((k : ℕ) → from ≤ k → k < r → eqb (getD (now (keys .entry)) k 0) key ≡ false) ⌝ }
+    ensures { λ r. ⌜ (from ≤ r) × (r ≤ n) × ((k : ℕ) → from ≤ k → k < r → eqb (getD (tableIn (now (table .entry)) .«edge_key») k 0) key ≡ false) ⌝ }
 {
     let mut e = from;
     while e < n {
-        if keys[e] == key {
+        if flat::key(table, e) == key {
             return e;
         }
         e += 1;
@@ -51,30 +68,25 @@ pub fn next_of(keys: &[u8; 512], key: u8, from: usize, n: usize) -> usize
     e
 }
 
-// An edge is one of the key, and the mask has its kind.
-pub fn fitting(edge_key: u8, kind: u8, key: u8, m: u64) -> bool
-    ensures { λ r. ⌜ r ≡ (eqb «edge_key» key && maskHas m kind) ⌝ }
+// Edge e is one of the key, and the mask has its kind.
+pub fn fitting(table: &[u8; 7920], e: usize, key: u8, m: u64) -> bool
+    requires { ⌜ e < 512 ⌝ }
+    ensures { λ r. ⌜ r ≡ fittingOf (maskHas m) (tableIn (now (table .entry)) .«edge_key») (tableIn (now (table .entry)) .«edge_kind») key e ⌝ }
 {
-    if edge_key == key {
-        return mask::mask_has(m, kind);
+    if flat::key(table, e) == key {
+        return mask::mask_has(m, flat::kind(table, e));
     }
     false
 }
 
-// The mask has an edge's kind, its rule is an arr rule, and its state is one of the frame's.
-pub fn stepping<'a>(
-    frame: &'a [u8],
-    forms: &'a [u8; 32],
-    rule: u8,
-    state: u8,
-    kind: u8,
-    m: u64,
-) -> bool
-    ensures { λ r. ⌜ r ≡ (maskHas m kind && (hasForm (now (forms .entry)) 2 rule && heldIn (now (frame .entry)) (16 * rule + state))) ⌝ }
+// The mask has the kind of edge e, its rule is an arr rule, and its state is one of the frame's.
+pub fn stepping<'a>(table: &'a [u8; 7920], frame: &'a [u8], e: usize, m: u64) -> bool
+    requires { ⌜ e < 512 ⌝ }
+    ensures { λ r. ⌜ r ≡ steppingOf (maskHas m) (tableIn (now (table .entry)) .«edge_rule») (tableIn (now (table .entry)) .«edge_state») (tableIn (now (table .entry)) .«edge_kind») (tableIn (now (table .entry)) .forms) (now (frame .entry)) e ⌝ }
 {
-    if mask::mask_has(m, kind) {
-        if is_arr(forms, rule) {
-            return bits::get_bit(frame, 256 + state_number(rule, state));
+    if mask::mask_has(m, flat::kind(table, e)) {
+        if is_arr(table, flat::rule(table, e)) {
+            return bits::get_bit(frame, 256 + state_of(table, e));
         }
         return false;
     }
@@ -83,20 +95,18 @@ pub fn stepping<'a>(
 
 // Edge e is one of the key, is among the frame's fitting edges, and its state is one of the states.
 pub fn walking<'a>(
+    table: &'a [u8; 7920],
     frame: &'a [u8],
     states: &'a [u8],
     e: usize,
-    edge_key: u8,
-    rule: u8,
-    state: u8,
     key: u8,
 ) -> bool
     requires { ⌜ e < 512 ⌝ }
-    ensures { λ r. ⌜ r ≡ (eqb «edge_key» key && (heldIn (now (frame .entry)) e && bitAt (now (states .entry)) (16 * rule + state))) ⌝ }
+    ensures { λ r. ⌜ r ≡ walkingOf (tableIn (now (table .entry)) .«edge_rule») (tableIn (now (table .entry)) .«edge_state») (tableIn (now (table .entry)) .«edge_key») (now (frame .entry)) (now (states .entry)) key e ⌝ }
 {
-    if edge_key == key {
+    if flat::key(table, e) == key {
         if bits::get_bit(frame, 256 + e) {
-            return bits::get_bit(states, state_number(rule, state));
+            return bits::get_bit(states, state_of(table, e));
         }
         return false;
     }

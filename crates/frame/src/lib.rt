@@ -10,7 +10,8 @@ mod value; // value.rt: a finished value
 
 use table::kind::Finished;
 ghost use mathlib.Core.Path.{_≡_};
-ghost use Rattle.frame.specs.Edges.{edgesOf};
+ghost use Rattle.table.specs.Flat.{tableIn};
+ghost use Rattle.frame.specs.Edges.{edgesIn};
 ghost use Rattle.frame.specs.Frame.{frameCount, frameAt, putFrame, kindNumber};
 ghost use Rattle.frame.specs.Place.{framePlace};
 ghost use Rattle.frame.specs.Ops.{opened, keyed, valued, closed};
@@ -53,13 +54,13 @@ pub fn kind_at(work: &[u8], level: usize) -> u8
 
 // Opens an object or an array at a level: all 96 bytes of its frame are written, and no other byte.
 // Ruled out: a program that leaves edges or states of an earlier value; one that gives an array the states of `obj` rules.
-pub fn open_level(work: &mut [u8], level: usize, object: bool, forms: &[u8; 32])
-    ensures { λ _. ⌜ now (work .exit) ≡ putFrame (now (work .entry)) level (opened (now (forms .entry)) object) ⌝ }
+pub fn open_level(work: &mut [u8], level: usize, object: bool, table: &[u8; 7920])
+    ensures { λ _. ⌜ now (work .exit) ≡ putFrame (now (work .entry)) level (opened (tableIn (now (table .entry)) .forms) object) ⌝ }
 {
     let a = place(work.len(), level);
     if a < work.len() {
         let b = a + 96;
-        open::open_frame(&mut work[a..b], object, forms);
+        open::open_frame(&mut work[a..b], object, table);
     }
 }
 
@@ -77,56 +78,25 @@ pub fn key_level(work: &mut [u8], level: usize, key: u8)
 
 // A finished value in the frame of the level that it stands in: adds an object's fitting edges, replaces an array's states.
 // Ruled out: a program that lets an unknown key match the edges without a key; one that adds an array's new states to the old.
-pub fn value_level<'a>(
-    work: &mut [u8],
-    level: usize,
-    edges: usize,
-    rules: &'a [u8; 512],
-    states: &'a [u8; 512],
-    keys: &'a [u8; 512],
-    kinds: &'a [u8; 512],
-    nexts: &'a [u8; 512],
-    forms: &'a [u8; 32],
-    v: Finished,
-)
-    ensures { λ _. ⌜ now (work .exit) ≡ putFrame (now (work .entry)) level (valued (edgesOf edges (now (rules .entry)) (now (states .entry)) (now (keys .entry)) (now (nexts .entry))) (now (kinds .entry)) (now (forms .entry)) v (frameAt (now (work .entry)) level)) ⌝ }
+pub fn value_level(work: &mut [u8], level: usize, table: &[u8; 7920], v: Finished)
+    ensures { λ _. ⌜ now (work .exit) ≡ putFrame (now (work .entry)) level (valued (edgesIn (tableIn (now (table .entry)))) (tableIn (now (table .entry)) .«edge_kind») (tableIn (now (table .entry)) .forms) v (frameAt (now (work .entry)) level)) ⌝ }
 {
     let a = place(work.len(), level);
     if a < work.len() {
         let b = a + 96;
-        value::value_frame(
-            &mut work[a..b],
-            edges,
-            rules,
-            states,
-            keys,
-            kinds,
-            nexts,
-            forms,
-            v,
-        );
+        value::value_frame(&mut work[a..b], table, v);
     }
 }
 
 // Closes the value of a level: gives the rules that it fits, rule N at bit N, and writes nothing.
 // Ruled out: a program that passes over a seen key without an edge; one that lets an `obj` rule fit an array.
-pub fn close_level<'a>(
-    work: &'a [u8],
-    level: usize,
-    edges: usize,
-    rules: &'a [u8; 512],
-    states: &'a [u8; 512],
-    keys: &'a [u8; 512],
-    nexts: &'a [u8; 512],
-    forms: &'a [u8; 32],
-    ends: &'a [u8; 64],
-) -> u32
-    ensures { λ s. ⌜ s ≡ closed (edgesOf edges (now (rules .entry)) (now (states .entry)) (now (keys .entry)) (now (nexts .entry))) (now (forms .entry)) (now (ends .entry)) (frameAt (now (work .entry)) level) ⌝ }
+pub fn close_level<'a>(work: &'a [u8], level: usize, table: &'a [u8; 7920]) -> u32
+    ensures { λ s. ⌜ s ≡ closed (edgesIn (tableIn (now (table .entry)))) (tableIn (now (table .entry)) .forms) (tableIn (now (table .entry)) .ends) (frameAt (now (work .entry)) level) ⌝ }
 {
     let a = place(work.len(), level);
     if a < work.len() {
         let b = a + 96;
-        return close::close_frame(&work[a..b], edges, rules, states, keys, nexts, forms, ends);
+        return close::close_frame(&work[a..b], table);
     }
     0
 }

@@ -1,10 +1,12 @@
 // The kinds that a finished value fits, as one number: bit c is set where the value fits the kind with code c.
+use table::flat;
 use table::kind::Finished;
 use table::kind::Scalar;
 ghost use mathlib.Core.Bool.{false};
 ghost use mathlib.Core.Path.{_≡_};
 ghost use Prim.Native.Nat.{ℕ, _<_, _≤_};
 ghost use lib.ListN.{getD};
+ghost use Rattle.table.specs.Flat.{tableIn};
 ghost use Rattle.frame.specs.Edges.{fitsCode};
 ghost use Rattle.frame.specs.Mask.{maskHas, scalarMask};
 
@@ -44,13 +46,13 @@ pub fn mask_has(mask: u64, code: u8) -> bool
 
 // The first edge from `from` on whose kind the mask may have, or n. It has none of the kinds between. A code above 63, which no
 // mask has, may stop the search or not: so its last six bits are test enough.
-pub fn skip(kinds: &[u8; 512], m: u64, from: usize, n: usize) -> usize
+pub fn skip(table: &[u8; 7920], m: u64, from: usize, n: usize) -> usize
     requires { ⌜ (from ≤ n) × (n ≤ 512) ⌝ }
-    ensures { λ r. ⌜ (from ≤ r) × (r ≤ n) × ((k : ℕ) → from ≤ k → k < r → maskHas m (getD (now (kinds .entry)) k 0) ≡ false) ⌝ }
+    ensures { λ r. ⌜ (from ≤ r) × (r ≤ n) × ((k : ℕ) → from ≤ k → k < r → maskHas m (getD (tableIn (now (table .entry)) .«edge_kind») k 0) ≡ false) ⌝ }
 {
     let mut i = from;
     while i < n {
-        if (m >> (kinds[i] % 64)) % 2 == 1 {
+        if (m >> (flat::kind(table, i) % 64)) % 2 == 1 {
             return i;
         }
         i += 1;

@@ -8,51 +8,35 @@ ghost use mathlib.Core.Path.{_≡_};
 ghost use Prim.Native.Nat.{_+_};
 ghost use lib.ListN.{length};
 ghost use Rattle.laws.specs.Bits.{setAll};
-ghost use Rattle.frame.specs.Edges.{edgesOf, edgeCount, fitting, stepping, stateNumber};
+ghost use Rattle.table.specs.Flat.{tableIn};
+ghost use Rattle.frame.specs.Edges.{edgesIn, edgeCount, fitting, stepping, stateNumber};
 ghost use Rattle.frame.specs.Mask.{maskHas};
 ghost use Rattle.frame.specs.Ops.{valued};
 
 // Adds the edges of the key whose kinds the mask has. The edges of other keys are skipped.
-fn add_edges<'a>(
-    frame: &mut [u8],
-    edges: usize,
-    keys: &'a [u8; 512],
-    kinds: &'a [u8; 512],
-    key: u8,
-    m: u64,
-)
-    ensures { λ _. ⌜ now (frame .exit) ≡ setAll (fitting (maskHas m) (now (keys .entry)) (now (kinds .entry)) key) (λ e. 256 + e) (edgeCount edges) (now (frame .entry)) ⌝ }
+fn add_edges(frame: &mut [u8], table: &[u8; 7920], key: u8, m: u64)
+    ensures { λ _. ⌜ now (frame .exit) ≡ setAll (fitting (maskHas m) (tableIn (now (table .entry)) .«edge_key») (tableIn (now (table .entry)) .«edge_kind») key) (λ e. 256 + e) (edgeCount (tableIn (now (table .entry)) .edges)) (now (frame .entry)) ⌝ }
 {
-    let n = edge::count(edges);
-    let mut e = edge::next_of(keys, key, 0, n);
+    let n = edge::count(table);
+    let mut e = edge::next_of(table, key, 0, n);
     while e < n {
-        let on = edge::fitting(keys[e], kinds[e], key, m);
+        let on = edge::fitting(table, e, key, m);
         bits::set_if(on, frame, 256 + e);
-        e = edge::next_of(keys, key, e + 1, n);
+        e = edge::next_of(table, key, e + 1, n);
     }
 }
 
 // Adds the states that the edges whose kinds the mask has lead to from the states of an array. The edges of
 // other kinds are skipped.
-fn add_states<'a>(
-    next: &mut [u8],
-    frame: &'a [u8],
-    edges: usize,
-    rules: &'a [u8; 512],
-    states: &'a [u8; 512],
-    kinds: &'a [u8; 512],
-    nexts: &'a [u8; 512],
-    forms: &'a [u8; 32],
-    m: u64,
-)
-    ensures { λ _. ⌜ now (next .exit) ≡ setAll (stepping (maskHas m) (now (rules .entry)) (now (states .entry)) (now (kinds .entry)) (now (forms .entry)) (now (frame .entry))) (stateNumber (now (rules .entry)) (now (nexts .entry))) (edgeCount edges) (now (next .entry)) ⌝ }
+fn add_states<'a>(next: &mut [u8], table: &'a [u8; 7920], frame: &'a [u8], m: u64)
+    ensures { λ _. ⌜ now (next .exit) ≡ setAll (stepping (maskHas m) (tableIn (now (table .entry)) .«edge_rule») (tableIn (now (table .entry)) .«edge_state») (tableIn (now (table .entry)) .«edge_kind») (tableIn (now (table .entry)) .forms) (now (frame .entry))) (stateNumber (tableIn (now (table .entry)) .«edge_rule») (tableIn (now (table .entry)) .«edge_next»)) (edgeCount (tableIn (now (table .entry)) .edges)) (now (next .entry)) ⌝ }
 {
-    let n = edge::count(edges);
-    let mut e = mask::skip(kinds, m, 0, n);
+    let n = edge::count(table);
+    let mut e = mask::skip(table, m, 0, n);
     while e < n {
-        let on = edge::stepping(frame, forms, rules[e], states[e], kinds[e], m);
-        bits::set_if(on, next, edge::state_number(rules[e], nexts[e]));
-        e = mask::skip(kinds, m, e + 1, n);
+        let on = edge::stepping(table, frame, e, m);
+        bits::set_if(on, next, edge::next_state(table, e));
+        e = mask::skip(table, m, e + 1, n);
     }
 }
 
@@ -69,39 +53,19 @@ fn copied(frame: &[u8]) -> [u8; 96]
 }
 
 // A finished value in the frame of the open value that it stands in.
-pub fn value_frame<'a>(
-    frame: &mut [u8],
-    edges: usize,
-    rules: &'a [u8; 512],
-    states: &'a [u8; 512],
-    keys: &'a [u8; 512],
-    kinds: &'a [u8; 512],
-    nexts: &'a [u8; 512],
-    forms: &'a [u8; 32],
-    v: Finished,
-)
+pub fn value_frame(frame: &mut [u8], table: &[u8; 7920], v: Finished)
     requires { ⌜ length (now frame) ≡ 96 ⌝ }
-    ensures { λ _. ⌜ now (frame .exit) ≡ valued (edgesOf edges (now (rules .entry)) (now (states .entry)) (now (keys .entry)) (now (nexts .entry))) (now (kinds .entry)) (now (forms .entry)) v (now (frame .entry)) ⌝ }
+    ensures { λ _. ⌜ now (frame .exit) ≡ valued (edgesIn (tableIn (now (table .entry)))) (tableIn (now (table .entry)) .«edge_kind») (tableIn (now (table .entry)) .forms) v (now (frame .entry)) ⌝ }
 {
     let m = mask::mask_of(v);
     if frame[0] == 1 {
         let key = frame[1];
         if key < 128 {
-            add_edges(frame, edges, keys, kinds, key, m);
+            add_edges(frame, table, key, m);
         }
         return;
     }
     let old = copied(frame);
     open::clear(&mut frame[32..96]);
-    add_states(
-        &mut frame[32..96],
-        &old,
-        edges,
-        rules,
-        states,
-        kinds,
-        nexts,
-        forms,
-        m,
-    );
+    add_states(&mut frame[32..96], table, &old, m);
 }

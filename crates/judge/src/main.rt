@@ -6,7 +6,6 @@ use libc::STDIN_FILENO;
 use libc::STDOUT_FILENO;
 use reader::Reader;
 use report::Begun;
-use table::Table;
 
 // A reader, and whether the program goes on.
 struct State {
@@ -40,11 +39,11 @@ fn read_book(space: &mut [u8]) -> usize {
 }
 
 // Begins with the first n bytes of the space.
-fn begin(space: &[u8], n: usize, out: &mut [u8]) -> Begun {
+fn begin(space: &[u8], n: usize, table: &mut [u8; 7920], out: &mut [u8]) -> Begun {
     if space.len() < n {
-        return report::begin(space, out);
+        return report::begin(space, table, out);
     }
-    report::begin(&space[..n], out)
+    report::begin(&space[..n], table, out)
 }
 
 // Prints the first bytes of the output.
@@ -63,11 +62,17 @@ fn stopped(r: Reader) -> State {
 }
 
 // Reports a piece, and prints its lines as they come. A report that reads nothing, or more than there is, would be a call refused or a slip: it stops.
-fn judge_piece(r: Reader, t: Table, work: &mut [u8], piece: &[u8], out: &mut [u8]) -> State {
+fn judge_piece<'a>(
+    r: Reader,
+    table: &'a [u8; 7920],
+    work: &mut [u8],
+    piece: &'a [u8],
+    out: &mut [u8],
+) -> State {
     let mut next = r;
     let mut read = 0;
     while read < piece.len() {
-        let x = report::report(next, t, work, &piece[read..], out);
+        let x = report::report(next, table, work, &piece[read..], out);
         let used = x.used;
         let more = x.read;
         next = x.reader;
@@ -89,17 +94,29 @@ fn judge_piece(r: Reader, t: Table, work: &mut [u8], piece: &[u8], out: &mut [u8
 }
 
 // Reads what has arrived, and judges it.
-fn judge_some(r: Reader, t: Table, work: &mut [u8], space: &mut [u8], out: &mut [u8]) -> State {
+fn judge_some(
+    r: Reader,
+    table: &[u8; 7920],
+    work: &mut [u8],
+    space: &mut [u8],
+    out: &mut [u8],
+) -> State {
     let got = libc::read(STDIN_FILENO, space);
     let n = io::count(got, space);
     if n == 0 {
         return stopped(r);
     }
-    judge_piece(r, t, work, &space[..n], out)
+    judge_piece(r, table, work, &space[..n], out)
 }
 
 // A proved loop has to end, and nothing says that the input does: the loop counts its turns down from a number that no run uses up.
-fn judge_all(r: Reader, t: Table, work: &mut [u8], space: &mut [u8], out: &mut [u8]) -> Reader {
+fn judge_all(
+    r: Reader,
+    table: &[u8; 7920],
+    work: &mut [u8],
+    space: &mut [u8],
+    out: &mut [u8],
+) -> Reader {
     let mut s = State {
         reader: r,
         going: true,
@@ -107,7 +124,7 @@ fn judge_all(r: Reader, t: Table, work: &mut [u8], space: &mut [u8], out: &mut [
     let mut turns = u64::MAX;
     while turns > 0 && s.going {
         let next = s.reader;
-        s = judge_some(next, t, work, space, out);
+        s = judge_some(next, table, work, space, out);
         turns -= 1;
     }
     s.reader
@@ -117,17 +134,17 @@ fn main() {
     let mut book = book_space();
     let mut out = io::large_buffer();
     let n = read_book(&mut book);
-    let begun = begin(&book, n, &mut out);
-    let t = begun.table;
+    let mut table = [0u8; 7920];
+    let begun = begin(&book, n, &mut table, &mut out);
     let used = begun.used;
     print(&out, used);
     if begun.accepted {
         let mut work = work_space();
         let mut space = io::large_buffer();
-        let started = Reader::start(t, &work);
+        let started = Reader::start(&table, &work);
         let first = started.reader;
-        let last = judge_all(first, t, &mut work, &mut space, &mut out);
-        let x = report::finish(last, t, &work, &mut out);
+        let last = judge_all(first, &table, &mut work, &mut space, &mut out);
+        let x = report::finish(last, &table, &work, &mut out);
         let end = x.used;
         print(&out, end);
     }

@@ -8,7 +8,7 @@ use lib.Dec.{eqb, ltb}
 use lib.ListN.{length, take, drop, length-append}
 use borrow.Author.Tests.{ne-eqb, eqb-true, eqb-false}
 use Rattle.laws.specs.Lists.{same, any}
-use Rattle.table.specs.declared.Table.{Table}
+use Rattle.table.specs.Table.{Table}
 use Rattle.table.specs.Limits.{WithinLimits}
 use Rattle.book.specs.Entry.{Entry, keysOf}
 use Rattle.book.specs.Text.{isEmpty, split}
@@ -18,10 +18,9 @@ use Rattle.book.specs.Holds.{ruleForm}
 use Rattle.book.proofs.HoldLaws.{hasRule-ruleForm}
 use Rattle.load.specs.declared.Answer.{Answer}
 use Rattle.load.specs.declared.Answer.the-variants.{Size, Names, Malformed, NoRule, NoRoot, NotAscending}
-use Rattle.load.specs.declared.Loaded.{Loaded}
 use Rattle.load.specs.Answer.{Told, tell, told}
 use Rattle.load.specs.Proper.{ProperSaid}
-use Rattle.load.specs.Step.{emptyTable, takeEntry, tableFrom, tableOf, takeSaid, lineRefusal, loaded, refusal, takeOn, takeLines, takeBook}
+use Rattle.load.specs.Step.{Loaded, emptyTable, takeEntry, tableFrom, tableOf, takeSaid, lineRefusal, loaded, refusal, takeOn, takeLines, takeBook}
 use Rattle.load.specs.Check.{checkTable}
 use Rattle.load.specs.Loads.{LoadsAs}
 use Rattle.load.proofs.ProperLaws.{sayLine-proper}

@@ -11,7 +11,7 @@ use borrow.Author.Tests.{eq-eqb, ne-eqb, eqb-true, eqb-false, leb-true, leb-fals
 use Rattle.laws.specs.Bits.{bitAt, setBit}
 use Rattle.laws.specs.Lists.{same, any}
 use Rattle.laws.proofs.BitLaws.{bitAt-setBit, bitAt-zeros}
-use Rattle.table.specs.declared.Table.{Table}
+use Rattle.table.specs.Table.{Table}
 use Rattle.table.specs.declared.kind.ValueKind.{ValueKind}
 use Rattle.table.specs.Kind.{codeOf}
 use Rattle.table.specs.Limits.{WithinLimits}
@@ -23,9 +23,8 @@ use Rattle.book.proofs.KeyLaws.{any-last, numberOf-new, numberOf-eqb, keyNumber
 use Rattle.book.proofs.HoldLaws.{Each, each-map, each-append, KeyAmong, KeyIn, keyIn-append, edgesOf-last, formCode-some, sameForm-codes, form-of-code, ruleForm-last, FormKept, changesForm-ruleForm}
 use Rattle.book.proofs.TruthLaws.{true-not-false, or-false, or-true, eqb-sym}
 use Rattle.load.specs.declared.store.Cell.{Cell}
-use Rattle.load.specs.declared.store.Taken.{Taken}
 use Rattle.load.specs.Proper.{isArr, ProperEdge, Proper}
-use Rattle.load.specs.Step.{emptyTable, hasCell, withEnd, withEdge, withKey, isNew, formChanges, taken, cellFor, takeEdge, takeEnd, takeEntry}
+use Rattle.load.specs.Step.{Taken, emptyTable, hasCell, withEnd, withEdge, withKey, isNew, formChanges, taken, cellFor, takeEdge, takeEnd, takeEntry}
 use Rattle.load.proofs.WithinLaws.{within-empty, within-takeEntry}
 use Rattle.load.proofs.TableLaws.{Sized, sized-empty, sized-withEnd, sized-withEdge, sized-withKey, tableEdges-withEdge, length-tableEdges, sameCell, hasCell-tableEdges, tableKeys-withKey, length-tableKeys, tableKeys-withEdge, tableEdges-withKey, tableKeys-withEnd, tableEdges-withEnd}
 

@@ -8,4 +8,6 @@ pub mod TableLaws
 pub mod KeptLaws
 pub mod OrderLaws
 pub mod AgreeLaws
+pub mod BlankLaws
 pub mod LoadedLaws
+pub mod PlaceLaws

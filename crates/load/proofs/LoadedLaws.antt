@@ -14,9 +14,8 @@ use Rattle.book.specs.Load.{Read, refused, entries, readBook, hasRule, dangles,
 use Rattle.book.specs.Holds.{Holds}
 use Rattle.book.proofs.HoldLaws.{Each, each-map, each-append}
 use Rattle.book.proofs.TruthLaws.{or-parts}
-use Rattle.load.specs.declared.Loaded.{Loaded}
 use Rattle.load.specs.Proper.{Proper}
-use Rattle.load.specs.Step.{emptyTable, tableFrom, tableOf, takeBook}
+use Rattle.load.specs.Step.{Loaded, emptyTable, tableFrom, tableOf, takeBook}
 use Rattle.load.specs.Loads.{LoadsAs}
 use Rattle.load.proofs.KeptLaws.{Kept}
 use Rattle.load.proofs.AgreeLaws.{Agree, kept-none, book-agrees}

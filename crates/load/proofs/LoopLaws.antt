@@ -3,16 +3,15 @@
 use mathlib.Core.Bool.{Bool, true, false}
 use mathlib.Core.List.{List, [], _∷_}
 use mathlib.Core.Path.{_≡_, sym, ap, _∙_}
-use Prim.Native.Nat.{ℕ, suc, _+_, _*_, _-_, _<_, _≤_}
+use Prim.Native.Nat.{ℕ, suc, _+_, _-_, _<_, _≤_}
 use native.Mathlib.Numerals.{add-one}
 use native.Mathlib.Omega.{arith}
-use lib.ListN.{length, getD, set, take, drop, drop-of-length-le}
+use lib.ListN.{length, getD, set, drop, drop-of-length-le}
 use lib.Seq.{drop-cons}
 use Rattle.laws.specs.Lists.{same}
 use Rattle.laws.specs.Tab.{tab}
 use Rattle.book.specs.Entry.{numberOf}
-use Rattle.book.specs.Holds.{keyAt}
-use Rattle.load.specs.Step.{some, firstAt, written, Lens}
+use Rattle.load.specs.Step.{some, firstAt, written}
 
 -- ---- some: from i on the test comes to b
 module _ (f : ℕ → Bool) (i n : ℕ) (b : Bool) (inv : some f i (n - i) ≡ b) where
@@ -76,14 +75,6 @@ module _ (f : ℕ → List ℕ) (k : List ℕ) (i n e : ℕ) (inv : i + numberOf
 
 pub number-start : (f : ℕ → List ℕ) (k : List ℕ) (n : ℕ) → 0 + numberOf (tab f 0 (n - 0)) k ≡ numberOf (tab f 0 n) k
 number-start f k n = let e : n - 0 ≡ n = omega arith in rw e (omega arith)
-
--- the part of the bytes that is key i
-pub part-keyAt : (bytes lens : List ℕ) (i w : ℕ) → w ≡ getD lens i 0 → take (32 * i + w - 32 * i) (drop (32 * i) bytes) ≡ keyAt bytes lens i
-part-keyAt bytes lens i w e = let q : 32 * i + w - 32 * i ≡ getD lens i 0 = omega arith in rw q
-
--- it lies within 4,096 bytes
-pub key-room : (lens : List ℕ) (i n w : ℕ) → Lens lens → i < n → n ≤ 128 → w ≡ getD lens i 0 → 32 * i + w ≤ 4096
-key-room lens i n w l h m e = let q = l .at i in omega (arith, q)
 
 -- ---- writing a key: what is left to write gives v
 module _ (w k v : List ℕ) (a i : ℕ) (inv : written w (a + i) (drop i k) ≡ v) where

@@ -10,7 +10,7 @@ use lib.ListN.{length, take, drop, length-drop, length-take, drop-of-length-le}
 use lib.Seq.{length-take-le}
 use borrow.Author.Tests.{eq-eqb, ne-eqb, lt-ltb, le-ltb}
 use Rattle.laws.specs.Lists.{same}
-use Rattle.table.specs.declared.Table.{Table}
+use Rattle.table.specs.Table.{Table}
 use Rattle.book.specs.Text.{isEmpty, split}
 use Rattle.book.specs.Line.{bad, good, sayLine}
 use Rattle.book.specs.Load.{names}
@@ -21,10 +21,8 @@ use Rattle.line.specs.Line.{seg, entryWith, Says}
 use Rattle.line.proofs.SplitLaws.{split-more, split-last, split-some}
 use Rattle.load.specs.declared.Answer.{Answer}
 use Rattle.load.specs.declared.Answer.the-variants.{Size, Names, Malformed}
-use Rattle.load.specs.declared.Loaded.{Loaded}
-use Rattle.load.specs.declared.store.Taken.{Taken}
 use Rattle.load.specs.Proper.{Proper, ProperSaid}
-use Rattle.load.specs.Step.{emptyTable, taken, takeEntry, takeSaid, lineRefusal, loaded, refusal, takeOn, takeLines, takeBook}
+use Rattle.load.specs.Step.{Loaded, Taken, emptyTable, taken, takeEntry, takeSaid, lineRefusal, loaded, refusal, takeOn, takeLines, takeBook}
 use Rattle.load.proofs.ProperLaws.{sayLine-proper}
 
 -- ---- a line
@@ -65,19 +63,21 @@ module _ (b : List ℕ) (i n : ℕ) (t : Table) (r : Loaded) (inv : takeLines n 
         go [] f g = absurd (omega (arith, length-take-le (length b - i) (drop i b) (omega (arith, length-drop i b)), ap length g))
         go (x ∷ s) f g = f
 
-    module _ (v : Taken) (u : v ≡ takeSaid n t (sayLine (take (p - i) (drop i b)))) where
-      turn : p < length b → cond (eqb (v .fault) 0) (takeLines (suc n) (v .table) (split 10 (drop (p + 1) b))) (refusal (lineRefusal (v .fault) n)) ≡ r
+    module _ (x : ℕ) (y : Table) (u : taken x y ≡ takeSaid n t (sayLine (take (p - i) (drop i b)))) where
+      turn : p < length b → cond (eqb x 0) (takeLines (suc n) y (split 10 (drop (p + 1) b))) (refusal (lineRefusal x n)) ≡ r
       unfolding takeLines takeOn
       turn h =
           let s = split-some 10 (drop (p + 1) b) in
           let z = rw (split-more 10 b i p q h, s .2) at inv in
-          rw (s .2, u) z
+          let a : x ≡ takeSaid n t (sayLine (take (p - i) (drop i b))) .fault = ap (λ (v : Taken). v .fault) u in
+          let d : y ≡ takeSaid n t (sayLine (take (p - i) (drop i b))) .table = ap (λ (v : Taken). v .table) u in
+          rw (s .2, a, d) z
 
-      pub lines-bad : (a : Answer) (w : Loaded) → p < length b → (v .fault ≡ 0 → ⊥) → a ≡ lineRefusal (v .fault) n → w ≡ refusal a → w ≡ r
-      lines-bad a w h f e g = g ∙ ap refusal e ∙ rw (ne-eqb (v .fault) 0 f) at (turn h)
+      pub lines-bad : (a : Answer) (w : Loaded) → p < length b → (x ≡ 0 → ⊥) → a ≡ lineRefusal x n → w ≡ refusal a → w ≡ r
+      lines-bad a w h f e g = g ∙ ap refusal e ∙ rw (ne-eqb x 0 f) at (turn h)
 
-      pub lines-more : p < length b → v .fault ≡ 0 → takeLines (n + 1) (v .table) (split 10 (drop (p + 1) b)) ≡ r
-      lines-more h f = rw (add-one n) (rw (eq-eqb (v .fault) 0 f) at (turn h))
+      pub lines-more : p < length b → x ≡ 0 → takeLines (n + 1) y (split 10 (drop (p + 1) b)) ≡ r
+      lines-more h f = rw (add-one n) (rw (eq-eqb x 0 f) at (turn h))
 
 -- ---- a book
 same-length : (s t : List ℕ) → same s t ≡ true → length s ≡ length t

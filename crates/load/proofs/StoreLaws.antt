@@ -2,7 +2,7 @@
 use mathlib.Core.Bool.{Bool, true, false, cond}
 use mathlib.Core.List.{List, [], _∷_}
 use mathlib.Core.Path.{_≡_, refl, sym, ap, _∙_}
-use Prim.Native.Nat.{ℕ, zero, suc, _+_, _*_, _-_, _%_, _<_, _≤_}
+use Prim.Native.Nat.{ℕ, zero, suc, _+_, _*_, _<_, _≤_}
 use native.Mathlib.Omega.{arith}
 use lib.Dec.{ltb}
 use lib.ListN.{length, getD}
@@ -10,7 +10,7 @@ use borrow.Author.Tests.{lt-ltb, le-ltb, le-leb, lt-leb}
 use Rattle.laws.specs.Bits.{bitAt}
 use Rattle.laws.specs.Lists.{same}
 use Rattle.laws.specs.Tab.{tab}
-use Rattle.table.specs.declared.Table.{Table}
+use Rattle.table.specs.Table.{Table}
 use Rattle.table.specs.Kind.{kindOf}
 use Rattle.table.specs.Limits.{WithinLimits}
 use Rattle.table.proofs.KindLaws.{codeOf-kindOf}
@@ -19,9 +19,8 @@ use Rattle.book.specs.Holds.{keyAt, keyNumber, tableKeys, formCode}
 use Rattle.line.specs.declared.Line.{Line}
 use Rattle.line.specs.Line.{formWith, entryWith}
 use Rattle.load.specs.declared.store.Cell.{Cell}
-use Rattle.load.specs.declared.store.Taken.{Taken}
 use Rattle.load.specs.Proper.{Proper}
-use Rattle.load.specs.Step.{some, sameAt, hasCell, written, withEnd, withEdge, withKeyIn, withKey, isNew, formChanges, taken, takeEdge, takeEnd, takeEntry, Lens}
+use Rattle.load.specs.Step.{Taken, hasCell, withEnd, withEdge, withKey, isNew, formChanges, taken, takeEdge, takeEnd, takeEntry, Lens}
 
 -- ---- keys
 -- a key has a number up to how many keys there are
@@ -45,10 +44,6 @@ unfolding keyNumber
 keyNumber-some f n [] r h e q = absurd (e refl)
 keyNumber-some f n (x ∷ k) r h e q = (q, omega (arith, numberOf-tab-le f 0 n (x ∷ k)))
 
-pub withKey-eq : (t : Table) (k w : List ℕ) → w ≡ written (t .«key_bytes») (32 * t .keys) k → length k ≤ 32
-    → withKeyIn t w (length k % 256) ≡ withKey t k
-withKey-eq t k w e h = let m : length k % 256 ≡ length k = omega arith in rw (e, m)
-
 -- ---- end lines
 module _ (t : Table) (r f q : ℕ) (b : Bool) (p : b ≡ bitAt (t .ends) (16 * r + q)) where
   pub takeEnd-again : b ≡ true → taken 7 t ≡ takeEnd t r f q
@@ -60,32 +55,32 @@ module _ (t : Table) (r f q : ℕ) (b : Bool) (p : b ≡ bitAt (t .ends) (16 * r
   takeEnd-new u e w = rw (sym p ∙ e, w)
 
 -- ---- edges
-module _ (n : ℕ) (t : Table) (f : ℕ) (c : Cell) (k : List ℕ) (b : Bool)
-    (p : b ≡ some (sameAt (t .«edge_rule») (t .«edge_state») (t .«edge_key») (t .«edge_kind») (t .«edge_next») c) 0 (t .edges)) where
+-- b: an edge of the table has the numbers; a and m: the counts of edges and keys as they were read
+module _ (n : ℕ) (t : Table) (f : ℕ) (c : Cell) (k : List ℕ) (b : Bool) (p : b ≡ hasCell t c) where
   pub takeEdge-again : b ≡ true → taken 7 t ≡ takeEdge n t f c k
-  unfolding takeEdge hasCell
+  unfolding takeEdge
   takeEdge-again e = rw (sym p ∙ e)
 
-  module _ (nb : b ≡ false) where
-    pub takeEdge-full : 512 ≤ t .edges → taken 5 t ≡ takeEdge n t f c k
-    unfolding takeEdge hasCell
-    takeEdge-full h = rw (sym p ∙ nb, le-leb 512 (t .edges) h)
+  module _ (a : ℕ) (qa : a ≡ t .edges) (nb : b ≡ false) where
+    pub takeEdge-full : 512 ≤ a → taken 5 t ≡ takeEdge n t f c k
+    unfolding takeEdge
+    takeEdge-full h = rw (sym p ∙ nb, le-leb 512 (t .edges) (omega arith))
 
-    module _ (h : t .edges < 512) (w : Bool) (m : ℕ) (qm : m ≡ c .key) (qw : w ≡ isNew (length k) m (t .keys)) where
-      test : {x : Bool} → w ≡ x → isNew (length k) (c .key) (t .keys) ≡ x
-      test e = ap (λ (i : ℕ). isNew (length k) i (t .keys)) (sym qm) ∙ sym qw ∙ e
+    module _ (h : a < 512) (w : Bool) (m x : ℕ) (qm : m ≡ t .keys) (qx : x ≡ c .key) (qw : w ≡ isNew (length k) x m) where
+      test : {y : Bool} → w ≡ y → isNew (length k) (c .key) (t .keys) ≡ y
+      test e = ap (λ (i : ℕ). isNew (length k) i (t .keys)) (sym qx) ∙ ap (isNew (length k) x) (sym qm) ∙ sym qw ∙ e
 
-      pub takeEdge-keys : w ≡ true → 128 ≤ t .keys → taken 5 t ≡ takeEdge n t f c k
-      unfolding takeEdge hasCell
-      takeEdge-keys e l = rw (sym p ∙ nb, lt-leb 512 (t .edges) h, test e, le-leb 128 (t .keys) l)
+      pub takeEdge-keys : w ≡ true → 128 ≤ m → taken 5 t ≡ takeEdge n t f c k
+      unfolding takeEdge
+      takeEdge-keys e l = rw (sym p ∙ nb, lt-leb 512 (t .edges) (omega arith), test e, le-leb 128 (t .keys) (omega arith))
 
-      pub takeEdge-key : (u v : Table) → w ≡ true → t .keys < 128 → u ≡ withKey t k → v ≡ withEdge u f c n → taken 0 v ≡ takeEdge n t f c k
-      unfolding takeEdge hasCell
-      takeEdge-key u v e l x y = rw (sym p ∙ nb, lt-leb 512 (t .edges) h, test e, lt-leb 128 (t .keys) l, y, x)
+      pub takeEdge-key : (u v : Table) → w ≡ true → m < 128 → u ≡ withKey t k → v ≡ withEdge u f c n → taken 0 v ≡ takeEdge n t f c k
+      unfolding takeEdge
+      takeEdge-key u v e l y z = rw (sym p ∙ nb, lt-leb 512 (t .edges) (omega arith), test e, lt-leb 128 (t .keys) (omega arith), z, y)
 
       pub takeEdge-old : (v : Table) → w ≡ false → v ≡ withEdge t f c n → taken 0 v ≡ takeEdge n t f c k
-      unfolding takeEdge hasCell
-      takeEdge-old v e y = rw (sym p ∙ nb, lt-leb 512 (t .edges) h, test e, y)
+      unfolding takeEdge
+      takeEdge-old v e y = rw (sym p ∙ nb, lt-leb 512 (t .edges) (omega arith), test e, y)
 
 -- the limits of a table bound the lengths of its keys
 pub lens-of-limits : (t : Table) → WithinLimits t → Lens (t .«key_len»)
@@ -114,7 +109,10 @@ module _ (l : Line) (k : List ℕ) where
   proper-len h p = let q : Proper (edge (l .rule) (formWith (l .obj)) (l .state) k (kindOf (l .kind)) (l .next)) = rw (entryWith-edge h) at p in q .len
 
 module _ (n : ℕ) (t : Table) (l : Line) (k : List ℕ) (f : ℕ) (qf : f ≡ formCode (formWith (l .obj))) (b : Bool)
-    (qb : b ≡ formChanges (getD (t .forms) (l .rule) 0) f) where
+    (x : ℕ) (qx : x ≡ getD (t .forms) (l .rule) 0) (qy : b ≡ formChanges x f) where
+  qb : b ≡ formChanges (getD (t .forms) (l .rule) 0) f
+  qb = qy ∙ ap (λ (i : ℕ). formChanges i f) qx
+
   pub takeEntry-form : b ≡ true → taken 6 t ≡ takeEntry n t (entryWith l k)
   unfolding takeEntry
   takeEntry-form e = go (ltb (l .kind) 38)
@@ -130,10 +128,12 @@ module _ (n : ℕ) (t : Table) (l : Line) (k : List ℕ) (f : ℕ) (qf : f ≡ f
     same-form : formChanges (getD (t .forms) (l .rule) 0) (formCode (formWith (l .obj))) ≡ false
     same-form = sym (ap (formChanges (getD (t .forms) (l .rule) 0)) qf) ∙ sym qb ∙ nb
 
-    pub takeEntry-edge : (m : ℕ) (v : Taken) → l .kind < 38 → m ≡ keyNumber (tab (keyAt (t .«key_bytes») (t .«key_len»)) 0 (t .keys)) k
+    pub takeEntry-edge : (m n′ : ℕ) (v : Taken) → l .kind < 38 → n′ ≡ t .keys → m ≡ keyNumber (tab (keyAt (t .«key_bytes») (t .«key_len»)) 0 n′) k
         → v ≡ takeEdge n t f (record { rule = l .rule; state = l .state; key = m; kind = l .kind; next = l .next }) k → v ≡ takeEntry n t (entryWith l k)
     unfolding takeEntry tableKeys
-    takeEntry-edge m v h qm w = w ∙ rw (entryWith-edge l k h, same-form, codeOf-kindOf (l .kind), sym qm, qf)
+    takeEntry-edge m n′ v h qn qm′ w =
+        let qm : m ≡ keyNumber (tab (keyAt (t .«key_bytes») (t .«key_len»)) 0 (t .keys)) k = qm′ ∙ ap (λ (i : ℕ). keyNumber (tab (keyAt (t .«key_bytes») (t .«key_len»)) 0 i) k) qn in
+        w ∙ rw (entryWith-edge l k h, same-form, codeOf-kindOf (l .kind), sym qm, qf)
 
     pub takeEntry-end : (v : Taken) → 38 ≤ l .kind → v ≡ takeEnd t (l .rule) f (l .state) → v ≡ takeEntry n t (entryWith l k)
     unfolding takeEntry

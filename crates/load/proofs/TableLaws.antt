@@ -7,13 +7,13 @@ use native.Mathlib.Nat.{add-zero, add-suc, suc-add, zero-add}
 use native.Mathlib.Numerals.{add-one}
 use native.Mathlib.Omega.{arith}
 use lib.Dec.{eqb}
-use lib.ListN.{length, getD, set, take, drop, length-set, length-replicate, length-drop, take-append-drop}
+use lib.ListN.{length, getD, set, take, drop, replicate, length-set, length-replicate, length-drop, take-append-drop}
 use lib.Seq.{getD-set-same, getD-set-other, sets, sets-eq, length-sets, take-append-le, drop-append-le, drop-at, length-take-le, take-append-seam}
 use Rattle.laws.specs.Lists.{any}
 use Rattle.laws.specs.Tab.{tab}
 use Rattle.laws.proofs.BitLaws.{length-setBit}
 use Rattle.laws.proofs.TabLaws.{length-tab}
-use Rattle.table.specs.declared.Table.{Table}
+use Rattle.table.specs.Table.{Table}
 use Rattle.table.specs.Limits.{WithinLimits}
 use Rattle.book.specs.Holds.{Edge, edgeAt, tableEdges, keyAt, tableKeys}
 use Rattle.load.specs.declared.store.Cell.{Cell}
@@ -48,7 +48,7 @@ unfolding some any
 some-tab f p h i zero e = refl
 some-tab f p h i (suc n) e = rw (e i, some-tab f p h (suc i) n e)
 
--- ---- the arrays of a table have their lengths
+-- ---- the arrays of a table have their lengths, and its bytes that mean nothing are 0
 pub record Sized (t : Table) : Type 0 where
   pub rule : length (t .«edge_rule») ≡ 512
   pub state : length (t .«edge_state») ≡ 512
@@ -60,6 +60,7 @@ pub record Sized (t : Table) : Type 0 where
   pub lens : length (t .«key_len») ≡ 128
   pub ends : length (t .ends) ≡ 64
   pub forms : length (t .forms) ≡ 32
+  pub spare : t .spare ≡ replicate 13 0
 
 pub sized-empty : Sized emptyTable
 unfolding emptyTable
@@ -74,6 +75,7 @@ sized-empty = record {
   lens = length-replicate {A = ℕ} 128 0;
   ends = length-replicate {A = ℕ} 64 0;
   forms = length-replicate {A = ℕ} 32 0;
+  spare = refl;
 }
 
 written-sets : (w : List ℕ) (a : ℕ) (k : List ℕ) → written w a k ≡ sets w a k
@@ -94,6 +96,7 @@ module _ (t : Table) (s : Sized t) where
     lens = s .lens;
     ends = length-setBit (t .ends) (16 * r + q) ∙ s .ends;
     forms = length-set (t .forms) r f ∙ s .forms;
+    spare = s .spare;
   }
 
   pub sized-withEdge : (f : ℕ) (c : Cell) (n : ℕ) → Sized (withEdge t f c n)
@@ -108,6 +111,7 @@ module _ (t : Table) (s : Sized t) where
     lens = s .lens;
     ends = s .ends;
     forms = length-set (t .forms) _ _ ∙ s .forms;
+    spare = s .spare;
   }
 
   pub sized-withKey : (k : List ℕ) → Sized (withKey t k)
@@ -122,6 +126,7 @@ module _ (t : Table) (s : Sized t) where
     lens = length-set (t .«key_len») _ _ ∙ s .lens;
     ends = s .ends;
     forms = s .forms;
+    spare = s .spare;
   }
 
 -- ---- edges

@@ -1,23 +1,22 @@
 -- A table stays within its limits as entries are taken. Assumes nothing.
 use mathlib.Core.Bool.{Bool, true, false, cond}
 use mathlib.Core.List.{List, [], _∷_}
-use mathlib.Core.Path.{_≡_, refl}
+use mathlib.Core.Path.{_≡_, refl, ap}
 use Prim.Native.Nat.{ℕ, zero, suc, _+_, _*_, _<_, _≤_}
 use native.Mathlib.Omega.{arith}
 use lib.Dec.{leb}
 use lib.ListN.{length, getD, set, replicate}
 use borrow.Author.Tests.{leb-false}
 use Rattle.laws.specs.Bits.{bitAt}
-use Rattle.table.specs.declared.Table.{Table}
+use Rattle.table.specs.Table.{Table}
 use Rattle.table.specs.Kind.{codeOf}
 use Rattle.table.specs.Limits.{WithinLimits}
 use Rattle.book.specs.Entry.{Form, obj, arr, Entry, edge, end-state}
 use Rattle.book.specs.Line.{Said, bad, good, sayLine}
 use Rattle.book.specs.Holds.{keyAt, keyNumber, tableKeys, formCode}
 use Rattle.load.specs.declared.store.Cell.{Cell}
-use Rattle.load.specs.declared.store.Taken.{Taken}
 use Rattle.load.specs.Proper.{Proper, ProperSaid}
-use Rattle.load.specs.Step.{emptyTable, hasCell, withEnd, withEdge, withKey, isNew, formChanges, taken, cellFor, takeEdge, takeEnd, takeEntry, takeSaid}
+use Rattle.load.specs.Step.{Taken, emptyTable, hasCell, withEnd, withEdge, withKey, isNew, formChanges, taken, cellFor, takeEdge, takeEnd, takeEntry, takeSaid}
 use Rattle.load.proofs.StoreLaws.{numberOf-tab-le}
 use Rattle.load.proofs.ProperLaws.{sayLine-proper}
 
@@ -142,5 +141,7 @@ within-takeSaid n t (bad k) w p = w
 within-takeSaid n t (good e) w p = within-takeEntry n t e w p
 
 -- taking a line does
-pub within-line : (n : ℕ) (t : Table) (l : List ℕ) (v : Taken) → v ≡ takeSaid n t (sayLine l) → WithinLimits t → WithinLimits (v .table)
-within-line n t l v q w = rw q (within-takeSaid n t (sayLine l) w (sayLine-proper l))
+pub within-line : (n : ℕ) (t : Table) (l : List ℕ) (x : ℕ) (y : Table) → taken x y ≡ takeSaid n t (sayLine l) → WithinLimits t → WithinLimits y
+within-line n t l x y q w =
+    let d : y ≡ takeSaid n t (sayLine l) .table = ap (λ (v : Taken). v .table) q in
+    rw d (within-takeSaid n t (sayLine l) w (sayLine-proper l))

@@ -4,10 +4,9 @@ use mathlib.Core.List.{List}
 use Prim.Native.Nat.{ℕ, _+_, _-_}
 use lib.Dec.{leb, ltb, eqb}
 use lib.ListN.{getD}
-use Rattle.table.specs.declared.Table.{Table}
+use Rattle.table.specs.Table.{Table}
 use Rattle.load.specs.declared.Answer.the-variants.{NoRule, NoRoot, NotAscending}
-use Rattle.load.specs.declared.Loaded.{Loaded}
-use Rattle.load.specs.Step.{some, firstAt, loaded, refusal}
+use Rattle.load.specs.Step.{Loaded, some, firstAt, loaded, refusal}
 
 -- a kind with a code refers to a rule without lines
 unfoldable pub danglesCode : List ℕ → ℕ → Bool

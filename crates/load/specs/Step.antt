@@ -7,7 +7,7 @@ use lib.Dec.{leb, ltb, eqb}
 use lib.ListN.{length, getD, set, take, drop, replicate}
 use Rattle.laws.specs.Bits.{bitAt, setBit}
 use Rattle.laws.specs.Lists.{same}
-use Rattle.table.specs.declared.Table.{Table}
+use Rattle.table.specs.Table.{Table}
 use Rattle.table.specs.Kind.{codeOf}
 use Rattle.book.specs.Entry.{Entry, edge, end-state}
 use Rattle.book.specs.Text.{isEmpty, split}
@@ -16,9 +16,7 @@ use Rattle.book.specs.Load.{names}
 use Rattle.book.specs.Holds.{tableKeys, keyNumber, formCode}
 use Rattle.load.specs.declared.Answer.{Answer}
 use Rattle.load.specs.declared.Answer.the-variants.{Accepted, Size, Names, Malformed, AboveLimit, TooMany, FormChanged, Repeated}
-use Rattle.load.specs.declared.Loaded.{Loaded}
 use Rattle.load.specs.declared.store.Cell.{Cell}
-use Rattle.load.specs.declared.store.Taken.{Taken}
 
 -- ---- numbers below a bound
 
@@ -39,6 +37,7 @@ unfoldable pub emptyTable : Table
 emptyTable = record {
   edges = 0;
   keys = 0;
+  spare = replicate 13 0;
   «edge_rule» = replicate 512 0;
   «edge_state» = replicate 512 0;
   «edge_key» = replicate 512 0;
@@ -56,6 +55,7 @@ abbrev pub withEnd : Table → ℕ → ℕ → ℕ → Table
 withEnd t r f q = record {
   edges = t .edges;
   keys = t .keys;
+  spare = t .spare;
   «edge_rule» = t .«edge_rule»;
   «edge_state» = t .«edge_state»;
   «edge_key» = t .«edge_key»;
@@ -73,6 +73,7 @@ abbrev pub withEdge : Table → ℕ → Cell → ℕ → Table
 withEdge t f c n = record {
   edges = t .edges + 1;
   keys = t .keys;
+  spare = t .spare;
   «edge_rule» = set (t .«edge_rule») (t .edges) (c .rule);
   «edge_state» = set (t .«edge_state») (t .edges) (c .state);
   «edge_key» = set (t .«edge_key») (t .edges) (c .key);
@@ -95,6 +96,7 @@ abbrev pub withKeyIn : Table → List ℕ → ℕ → Table
 withKeyIn t w n = record {
   edges = t .edges;
   keys = t .keys + 1;
+  spare = t .spare;
   «edge_rule» = t .«edge_rule»;
   «edge_state» = t .«edge_state»;
   «edge_key» = t .«edge_key»;
@@ -134,6 +136,11 @@ isNew n k m = not (eqb n 0) && eqb k m
 -- a rule has another form already
 unfoldable pub formChanges : ℕ → ℕ → Bool
 formChanges old new = not (eqb old 0) && not (eqb old new)
+
+-- the table with one entry more; or the fault of the entry, and the table as it was
+pub record Taken : Type 0 where
+  pub fault : ℕ
+  pub table : Table
 
 abbrev pub taken : ℕ → Table → Taken
 taken k t = record { fault = k; table = t }
@@ -182,11 +189,19 @@ unfoldable pub lineRefusal : ℕ → ℕ → Answer
 lineRefusal k n =
     cond (eqb k 3) (Malformed n) (cond (eqb k 4) (AboveLimit n) (cond (eqb k 6) (FormChanged n) (cond (eqb k 7) (Repeated n) (TooMany n))))
 
+-- the answer, and the table: that of the book where it is accepted, else an empty one
+pub record Loaded : Type 0 where
+  pub answer : Answer
+  pub table : Table
+
+abbrev pub loadedAs : Answer → Table → Loaded
+loadedAs a t = record { answer = a; table = t }
+
 abbrev pub loaded : Table → Loaded
-loaded t = record { answer = Accepted; table = t }
+loaded t = loadedAs Accepted t
 
 abbrev pub refusal : Answer → Loaded
-refusal a = record { answer = a; table = emptyTable }
+refusal a = loadedAs a emptyTable
 
 -- the rest of the book behind line n, where the line is taken
 unfoldable pub takeOn : ℕ → Taken → (Table → Loaded) → Loaded

@@ -2,47 +2,36 @@
 ghost use mathlib.Core.Path.{_≡_};
 ghost use Prim.Native.Nat.{_≤_, _<_};
 ghost use lib.ListN.{getD};
-ghost use Rattle.load.specs.Step.{firstAt};
+ghost use Rattle.table.specs.Flat.{tableIn};
+ghost use Rattle.load.specs.Step.{firstAt, loadedAs};
 ghost use Rattle.load.specs.Check.{danglesCode, danglesAt, clashCodes, clashAt, clashesAt, lateAt, lineAt, checkTable};
 use crate::Answer;
-use crate::Loaded;
 use crate::read;
-use table::Table;
-
-fn wide(x: u16) -> usize
-    ensures { λ r. ⌜ r ≡ x ⌝ }
-{
-    x as usize
-}
+use table::flat;
 
 // A kind with this code refers to a rule without lines. A rule that is past the forms has none.
-fn dangles(kind: u8, forms: &[u8]) -> bool
-    ensures { λ r. ⌜ r ≡ danglesCode (now (forms .entry)) kind ⌝ }
+fn dangles(table: &[u8; 7920], kind: u8) -> bool
+    ensures { λ r. ⌜ r ≡ danglesCode (tableIn (now (table .entry)) .forms) kind ⌝ }
 {
     if kind < 6 {
         return false;
     }
     let r = (kind - 6) as usize;
-    if r < forms.len() {
-        return forms[r] == 0;
+    if r < 32 {
+        return flat::form(table, r) == 0;
     }
     true
 }
 
 // The line of the first of n edges that refers to a rule without lines, or 0.
-fn dangling_line<'a>(
-    kinds: &'a [u8; 512],
-    forms: &'a [u8; 32],
-    lines: &'a [u16; 512],
-    n: usize,
-) -> usize
+fn dangling_line(table: &[u8; 7920], n: usize) -> usize
     requires { ⌜ n ≤ 512 ⌝ }
-    ensures { λ r. ⌜ r ≡ firstAt (danglesAt (now (kinds .entry)) (now (forms .entry))) (lineAt (now (lines .entry))) 0 n ⌝ }
+    ensures { λ r. ⌜ r ≡ firstAt (danglesAt (tableIn (now (table .entry)) .«edge_kind») (tableIn (now (table .entry)) .forms)) (lineAt (tableIn (now (table .entry)) .«edge_line»)) 0 n ⌝ }
 {
     let mut e = 0;
     while e < n {
-        if dangles(kinds[e], forms) {
-            return wide(lines[e]);
+        if dangles(table, flat::kind(table, e)) {
+            return flat::line(table, e);
         }
         e += 1;
     }
@@ -64,68 +53,51 @@ fn clash(form: u8, a: u8, b: u8, next: u8, state: u8, k: u8, m: u8) -> bool
 }
 
 // The form of a rule; 0 past the forms.
-fn form_of(forms: &[u8], rule: u8) -> u8
-    ensures { λ r. ⌜ r ≡ getD (now (forms .entry)) rule 0 ⌝ }
+fn form_of(table: &[u8; 7920], rule: u8) -> u8
+    ensures { λ r. ⌜ r ≡ getD (tableIn (now (table .entry)) .forms) rule 0 ⌝ }
 {
     let r = rule as usize;
-    if r < forms.len() {
-        return forms[r];
+    if r < 32 {
+        return flat::form(table, r);
     }
     0
 }
 
 // Edge a leads to edge b, and the keys do not rise.
-fn clash_at<'a>(
-    rules: &'a [u8; 512],
-    states: &'a [u8; 512],
-    keys: &'a [u8; 512],
-    nexts: &'a [u8; 512],
-    forms: &'a [u8; 32],
-    a: usize,
-    b: usize,
-) -> bool
+fn clash_at(table: &[u8; 7920], a: usize, b: usize) -> bool
     requires { ⌜ (a < 512) × (b < 512) ⌝ }
-    ensures { λ r. ⌜ r ≡ clashAt (now (rules .entry)) (now (states .entry)) (now (keys .entry)) (now (nexts .entry)) (now (forms .entry)) a b ⌝ }
+    ensures { λ r. ⌜ r ≡ clashAt (tableIn (now (table .entry)) .«edge_rule») (tableIn (now (table .entry)) .«edge_state») (tableIn (now (table .entry)) .«edge_key») (tableIn (now (table .entry)) .«edge_next») (tableIn (now (table .entry)) .forms) a b ⌝ }
 {
-    let f = form_of(forms, rules[a]);
-    clash(f, rules[a], rules[b], nexts[a], states[b], keys[a], keys[b])
+    let f = form_of(table, flat::rule(table, a));
+    let ra = flat::rule(table, a);
+    let rb = flat::rule(table, b);
+    let na = flat::next(table, a);
+    let qb = flat::state(table, b);
+    let ka = flat::key(table, a);
+    let kb = flat::key(table, b);
+    clash(f, ra, rb, na, qb, ka, kb)
 }
 
 // Edges a and b clash, the one way or the other.
-fn clashes_at<'a>(
-    rules: &'a [u8; 512],
-    states: &'a [u8; 512],
-    keys: &'a [u8; 512],
-    nexts: &'a [u8; 512],
-    forms: &'a [u8; 32],
-    b: usize,
-    a: usize,
-) -> bool
+fn clashes_at(table: &[u8; 7920], b: usize, a: usize) -> bool
     requires { ⌜ (a < 512) × (b < 512) ⌝ }
-    ensures { λ r. ⌜ r ≡ clashesAt (now (rules .entry)) (now (states .entry)) (now (keys .entry)) (now (nexts .entry)) (now (forms .entry)) b a ⌝ }
+    ensures { λ r. ⌜ r ≡ clashesAt (tableIn (now (table .entry)) .«edge_rule») (tableIn (now (table .entry)) .«edge_state») (tableIn (now (table .entry)) .«edge_key») (tableIn (now (table .entry)) .«edge_next») (tableIn (now (table .entry)) .forms) b a ⌝ }
 {
-    if clash_at(rules, states, keys, nexts, forms, a, b) {
+    if clash_at(table, a, b) {
         return true;
     }
-    clash_at(rules, states, keys, nexts, forms, b, a)
+    clash_at(table, b, a)
 }
 
 // Edge b clashes with an edge up to it.
-fn late_at<'a>(
-    rules: &'a [u8; 512],
-    states: &'a [u8; 512],
-    keys: &'a [u8; 512],
-    nexts: &'a [u8; 512],
-    forms: &'a [u8; 32],
-    b: usize,
-) -> bool
+fn late_at(table: &[u8; 7920], b: usize) -> bool
     requires { ⌜ b < 512 ⌝ }
-    ensures { λ r. ⌜ r ≡ lateAt (now (rules .entry)) (now (states .entry)) (now (keys .entry)) (now (nexts .entry)) (now (forms .entry)) b ⌝ }
+    ensures { λ r. ⌜ r ≡ lateAt (tableIn (now (table .entry)) .«edge_rule») (tableIn (now (table .entry)) .«edge_state») (tableIn (now (table .entry)) .«edge_key») (tableIn (now (table .entry)) .«edge_next») (tableIn (now (table .entry)) .forms) b ⌝ }
 {
     let n = b + 1;
     let mut a = 0;
     while a < n {
-        if clashes_at(rules, states, keys, nexts, forms, b, a) {
+        if clashes_at(table, b, a) {
             return true;
         }
         a += 1;
@@ -134,22 +106,14 @@ fn late_at<'a>(
 }
 
 // The line of the first of n edges that clashes with one up to it, or 0.
-fn clash_line<'a>(
-    rules: &'a [u8; 512],
-    states: &'a [u8; 512],
-    keys: &'a [u8; 512],
-    nexts: &'a [u8; 512],
-    forms: &'a [u8; 32],
-    lines: &'a [u16; 512],
-    n: usize,
-) -> usize
+fn clash_line(table: &[u8; 7920], n: usize) -> usize
     requires { ⌜ n ≤ 512 ⌝ }
-    ensures { λ r. ⌜ r ≡ firstAt (lateAt (now (rules .entry)) (now (states .entry)) (now (keys .entry)) (now (nexts .entry)) (now (forms .entry))) (lineAt (now (lines .entry))) 0 n ⌝ }
+    ensures { λ r. ⌜ r ≡ firstAt (lateAt (tableIn (now (table .entry)) .«edge_rule») (tableIn (now (table .entry)) .«edge_state») (tableIn (now (table .entry)) .«edge_key») (tableIn (now (table .entry)) .«edge_next») (tableIn (now (table .entry)) .forms)) (lineAt (tableIn (now (table .entry)) .«edge_line»)) 0 n ⌝ }
 {
     let mut b = 0;
     while b < n {
-        if late_at(rules, states, keys, nexts, forms, b) {
-            return wide(lines[b]);
+        if late_at(table, b) {
+            return flat::line(table, b);
         }
         b += 1;
     }
@@ -157,32 +121,21 @@ fn clash_line<'a>(
 }
 
 // The table, or refusals 8 and 9.
-pub fn check_table(t: Table) -> Loaded
-    requires { ⌜ t .edges ≤ 512 ⌝ }
-    ensures { λ r. ⌜ r ≡ checkTable t ⌝ }
+pub fn check_table(table: &mut [u8; 7920]) -> Answer
+    requires { ⌜ tableIn (now table) .edges ≤ 512 ⌝ }
+    ensures { λ r. ⌜ loadedAs r (tableIn (now (table .exit))) ≡ checkTable (tableIn (now (table .entry))) ⌝ }
 {
-    let n = t.edges;
-    let d = dangling_line(&t.edge_kind, &t.forms, &t.edge_line, n);
+    let n = flat::edges(table);
+    let d = dangling_line(table, n);
     if d != 0 {
-        return read::refusal(Answer::NoRule(d));
+        return read::refusal(table, Answer::NoRule(d));
     }
-    if t.forms[0] == 0 {
-        return read::refusal(Answer::NoRoot);
+    if flat::form(table, 0) == 0 {
+        return read::refusal(table, Answer::NoRoot);
     }
-    let c = clash_line(
-        &t.edge_rule,
-        &t.edge_state,
-        &t.edge_key,
-        &t.edge_next,
-        &t.forms,
-        &t.edge_line,
-        n,
-    );
+    let c = clash_line(table, n);
     if c != 0 {
-        return read::refusal(Answer::NotAscending(c));
+        return read::refusal(table, Answer::NotAscending(c));
     }
-    Loaded {
-        answer: Answer::Accepted,
-        table: t,
-    }
+    Answer::Accepted
 }

@@ -1,13 +1,13 @@
 // Load: the table that a rule book says, or the refusal that 01 gives it.
 ghost use mathlib.Core.Path.{_≡_};
 ghost use Rattle.load.specs.Answer.{told};
-ghost use Rattle.load.specs.Loads.{LoadsAs};
+ghost use Rattle.table.specs.Flat.{tableIn};
+ghost use Rattle.load.specs.Loads.{LoadsAs, Blank};
+ghost use Rattle.load.specs.Step.{loadedAs};
 
 pub mod store; // store.rt: the table of a book, one entry after the other
 mod read; // read.rt: a book line by line, refusals 1 to 7
 mod check; // check.rt: the checks after all lines, refusals 8 and 9
-
-use table::Table;
 
 // What load says of a book: accepted, or a refusal with its line where 01 gives it one.
 pub enum Answer {
@@ -32,12 +32,6 @@ pub enum Answer {
     NoRoot,
     // 9: keys that do not ascend
     NotAscending(usize),
-}
-
-// The answer, and the table: that of the book where it is accepted, else an empty one.
-pub struct Loaded {
-    pub answer: Answer,
-    pub table: Table,
 }
 
 // The number of a refusal in 01; 0 for a book that is accepted.
@@ -79,15 +73,15 @@ pub fn line_of(a: Answer) -> usize
 }
 
 // Loads a rule book, whose bytes stay as they are. Every byte string has an answer: the number and line that the paper's `loads` gives it, and
-// the table of the entries that it gives. Ruled out are, for example, a program that reports the earlier line of a pair of clashing edges, and
+// the table of the entries that it gives; every byte of a refused book's table is 0. Ruled out are, for example, a program that reports the earlier line of a pair of clashing edges, and
 // one that finds a repeated line only where it directly follows.
-pub fn load(book: &[u8]) -> Loaded
-    ensures { λ r. ⌜ LoadsAs (now (book .entry)) r ⌝ }
+pub fn load(book: &[u8], table: &mut [u8; 7920]) -> Answer
+    ensures { λ r. ⌜ LoadsAs (now (book .entry)) (loadedAs r (tableIn (now (table .exit)))) ⌝ }
+    ensures { λ _. ⌜ Blank (now (book .entry)) (now (table .exit)) ⌝ }
 {
-    let r = read::take_book(book);
-    let a = r.answer;
+    let a = read::take_book(table, book);
     if number_of(a) == 0 {
-        return check::check_table(r.table);
+        return check::check_table(table);
     }
-    r
+    a
 }

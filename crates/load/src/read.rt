@@ -3,23 +3,21 @@ ghost use mathlib.Core.Path.{_≡_};
 ghost use Prim.Native.Nat.{_≤_};
 ghost use lib.ListN.{length, drop};
 ghost use Rattle.book.specs.Text.{split};
+ghost use Rattle.table.specs.Flat.{tableIn};
 ghost use Rattle.table.specs.Limits.{WithinLimits};
 ghost use Rattle.book.specs.Line.{sayLine};
-ghost use Rattle.load.specs.Step.{emptyTable, refusal as refusalOf, lineRefusal, takeSaid, takeLines, takeBook};
+ghost use Rattle.load.specs.Step.{emptyTable, taken, loadedAs, refusal as refusalOf, lineRefusal, takeSaid, takeLines, takeBook};
 use crate::Answer;
-use crate::Loaded;
 use crate::store;
-use crate::store::Taken;
-use table::Table;
 
 const NAMES: [u8; 31] = *b"rule form state key value next\n";
 
 // A refusal, with an empty table.
-pub fn refusal(answer: Answer) -> Loaded
-    ensures { λ r. ⌜ r ≡ refusalOf answer ⌝ }
+pub fn refusal(table: &mut [u8; 7920], answer: Answer) -> Answer
+    ensures { λ r. ⌜ loadedAs r (tableIn (now (table .exit))) ≡ refusalOf answer ⌝ }
 {
-    let t = store::empty_table();
-    Loaded { answer, table: t }
+    store::clear(table);
+    answer
 }
 
 // The answer for a fault of line n.
@@ -42,63 +40,58 @@ fn line_refusal(fault: u8, n: usize) -> Answer
 }
 
 // A line without its LF, as line n.
-fn take_line(t: Table, n: u16, l: &[u8]) -> Taken
-    requires { ⌜ WithinLimits t ⌝ }
-    ensures { λ r. ⌜ r ≡ takeSaid n t (sayLine (now (l .entry))) ⌝ }
+fn take_line(table: &mut [u8; 7920], n: u16, l: &[u8]) -> u8
+    requires { ⌜ WithinLimits (tableIn (now table)) ⌝ }
+    ensures { λ r. ⌜ taken r (tableIn (now (table .exit))) ≡ takeSaid n (tableIn (now (table .entry))) (sayLine (now (l .entry))) ⌝ }
 {
     let j = line::judge(l);
     let fault = j.fault;
     if fault != 0 {
-        return Taken { fault, table: t };
+        return fault;
     }
     let a = j.key_at;
     let e = a + j.key_len;
-    store::take_entry(t, n, j, &l[a..e])
+    store::take_entry(table, n, j, &l[a..e])
 }
 
 // The lines behind the names line.
-fn take_lines(b: &[u8]) -> Loaded
+fn take_lines(table: &mut [u8; 7920], b: &[u8]) -> Answer
     requires { ⌜ (31 ≤ length (now b)) × (length (now b) ≤ 65536) ⌝ }
-    ensures { λ r. ⌜ r ≡ takeLines 2 emptyTable (split 10 (drop 31 (now (b .entry)))) ⌝ }
+    ensures { λ r. ⌜ loadedAs r (tableIn (now (table .exit))) ≡ takeLines 2 emptyTable (split 10 (drop 31 (now (b .entry)))) ⌝ }
 {
-    let mut t = store::empty_table();
+    store::clear(table);
     let mut i: usize = 31;
     let mut n: usize = 2;
     while i < b.len() {
         let p = scan::find(b, i, 10);
         if b.len() <= p {
-            return refusal(Answer::Malformed(n));
+            return refusal(table, Answer::Malformed(n));
         }
-        let s = take_line(t, n as u16, &b[i..p]);
-        let f = s.fault;
+        let f = take_line(table, n as u16, &b[i..p]);
         if f != 0 {
-            return refusal(line_refusal(f, n));
+            return refusal(table, line_refusal(f, n));
         }
-        t = s.table;
         i = p + 1;
         n += 1;
     }
-    Loaded {
-        answer: Answer::Accepted,
-        table: t,
-    }
+    Answer::Accepted
 }
 
 // The table of the lines of a book, or refusals 1 to 7.
-pub fn take_book(b: &[u8]) -> Loaded
-    ensures { λ r. ⌜ r ≡ takeBook (now (b .entry)) ⌝ }
+pub fn take_book(table: &mut [u8; 7920], b: &[u8]) -> Answer
+    ensures { λ r. ⌜ loadedAs r (tableIn (now (table .exit))) ≡ takeBook (now (b .entry)) ⌝ }
 {
     if b.len() == 0 {
-        return refusal(Answer::Size);
+        return refusal(table, Answer::Size);
     }
     if 65536 < b.len() {
-        return refusal(Answer::Size);
+        return refusal(table, Answer::Size);
     }
     if b.len() < 31 {
-        return refusal(Answer::Names);
+        return refusal(table, Answer::Names);
     }
     if scan::equal(&b[0..31], &NAMES) {
-        return take_lines(b);
+        return take_lines(table, b);
     }
-    refusal(Answer::Names)
+    refusal(table, Answer::Names)
 }

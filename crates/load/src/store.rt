@@ -1,17 +1,21 @@
 // The table of a book, one entry after the other.
+ghost use mathlib.Core.Bool.{_&&_};
 ghost use mathlib.Core.Path.{_≡_};
 ghost use Prim.Native.Nat.{_+_, _*_, _<_, _≤_};
+ghost use lib.Dec.{eqb};
 ghost use lib.ListN.{length};
-ghost use Rattle.laws.specs.Bits.{bitAt, setBit};
+ghost use Rattle.laws.specs.Bits.{bitAt};
+ghost use Rattle.laws.specs.Lists.{same};
 ghost use Rattle.laws.specs.Tab.{tab};
+ghost use Rattle.table.specs.Flat.{tableIn};
 ghost use Rattle.table.specs.Limits.{WithinLimits};
 ghost use Rattle.book.specs.Entry.{numberOf};
 ghost use Rattle.book.specs.Holds.{keyAt, keyNumber, formCode};
 ghost use Rattle.line.specs.Line.{formWith, entryWith};
 ghost use Rattle.load.specs.Proper.{Proper};
-ghost use Rattle.load.specs.Step.{some, sameAt, emptyTable, withEnd, withEdge, written, withKey, isNew, formChanges, takeEdge, takeEnd, takeEntry, Lens};
+ghost use Rattle.load.specs.Step.{sameAt, hasCell, emptyTable, withEnd, withEdge, written, withKey, isNew, formChanges, taken, takeEdge, takeEnd, takeEntry, Lens};
 use line::Line;
-use table::Table;
+use table::flat;
 
 // The numbers of an edge, but for its line.
 pub struct Cell {
@@ -22,29 +26,11 @@ pub struct Cell {
     pub next: u8,
 }
 
-// A table with one entry more; or the fault of the entry, and the table as it was.
-pub struct Taken {
-    pub fault: u8,
-    pub table: Table,
-}
-
-pub fn empty_table() -> Table
-    ensures { λ r. ⌜ r ≡ emptyTable ⌝ }
+// All bytes 0: the empty table.
+pub fn clear(table: &mut [u8; 7920])
+    ensures { λ _. ⌜ tableIn (now (table .exit)) ≡ emptyTable ⌝ }
 {
-    Table {
-        edges: 0,
-        keys: 0,
-        edge_rule: [0u8; 512],
-        edge_state: [0u8; 512],
-        edge_key: [0u8; 512],
-        edge_kind: [0u8; 512],
-        edge_next: [0u8; 512],
-        edge_line: [0u16; 512],
-        key_bytes: [0u8; 4096],
-        key_len: [0u8; 128],
-        ends: [0u8; 64],
-        forms: [0u8; 32],
-    }
+    *table = [0u8; 7920];
 }
 
 fn wide(x: u8) -> usize
@@ -55,24 +41,15 @@ fn wide(x: u8) -> usize
 
 // ---- edges
 
-// Edge e has the numbers of the cell.
-fn same_at<'a>(
-    rules: &'a [u8; 512],
-    states: &'a [u8; 512],
-    keys: &'a [u8; 512],
-    kinds: &'a [u8; 512],
-    nexts: &'a [u8; 512],
-    c: Cell,
-    e: usize,
-) -> bool
-    requires { ⌜ e < 512 ⌝ }
-    ensures { λ r. ⌜ r ≡ sameAt (now (rules .entry)) (now (states .entry)) (now (keys .entry)) (now (kinds .entry)) (now (nexts .entry)) c e ⌝ }
+// The numbers are those of the cell.
+fn same_cell(c: Cell, rule: u8, state: u8, key: u8, kind: u8, next: u8) -> bool
+    ensures { λ r. ⌜ r ≡ (eqb (c .rule) rule && (eqb (c .state) state && (eqb (c .key) key && (eqb (c .kind) kind && eqb (c .next) next)))) ⌝ }
 {
-    if c.rule == rules[e] {
-        if c.state == states[e] {
-            if c.key == keys[e] {
-                if c.kind == kinds[e] {
-                    return c.next == nexts[e];
+    if c.rule == rule {
+        if c.state == state {
+            if c.key == key {
+                if c.kind == kind {
+                    return c.next == next;
                 }
             }
         }
@@ -80,22 +57,28 @@ fn same_at<'a>(
     false
 }
 
-// One of the first n edges has the numbers of the cell.
-fn has_cell<'a>(
-    rules: &'a [u8; 512],
-    states: &'a [u8; 512],
-    keys: &'a [u8; 512],
-    kinds: &'a [u8; 512],
-    nexts: &'a [u8; 512],
-    c: Cell,
-    n: usize,
-) -> bool
-    requires { ⌜ n ≤ 512 ⌝ }
-    ensures { λ r. ⌜ r ≡ some (sameAt (now (rules .entry)) (now (states .entry)) (now (keys .entry)) (now (kinds .entry)) (now (nexts .entry)) c) 0 n ⌝ }
+// Edge e has the numbers of the cell.
+fn same_at(table: &[u8; 7920], c: Cell, e: usize) -> bool
+    requires { ⌜ e < 512 ⌝ }
+    ensures { λ r. ⌜ r ≡ sameAt (tableIn (now (table .entry)) .«edge_rule») (tableIn (now (table .entry)) .«edge_state») (tableIn (now (table .entry)) .«edge_key») (tableIn (now (table .entry)) .«edge_kind») (tableIn (now (table .entry)) .«edge_next») c e ⌝ }
 {
+    let r = flat::rule(table, e);
+    let q = flat::state(table, e);
+    let k = flat::key(table, e);
+    let v = flat::kind(table, e);
+    let m = flat::next(table, e);
+    same_cell(c, r, q, k, v, m)
+}
+
+// One of the edges has the numbers of the cell.
+fn has_cell(table: &[u8; 7920], c: Cell) -> bool
+    requires { ⌜ tableIn (now table) .edges ≤ 512 ⌝ }
+    ensures { λ r. ⌜ r ≡ hasCell (tableIn (now (table .entry))) c ⌝ }
+{
+    let n = flat::edges(table);
     let mut e = 0;
     while e < n {
-        if same_at(rules, states, keys, kinds, nexts, c, e) {
+        if same_at(table, c, e) {
             return true;
         }
         e += 1;
@@ -103,37 +86,48 @@ fn has_cell<'a>(
     false
 }
 
-// The table with one edge more.
-fn with_edge(t: Table, form: u8, c: Cell, line: u16) -> Table
-    requires { ⌜ (t .edges < 512) × (c .rule < 32) ⌝ }
-    ensures { λ r. ⌜ r ≡ withEdge t form c line ⌝ }
+// One edge more.
+fn with_edge(table: &mut [u8; 7920], form: u8, c: Cell, line: u16)
+    requires { ⌜ (tableIn (now table) .edges < 512) × (c .rule < 32) ⌝ }
+    ensures { λ _. ⌜ tableIn (now (table .exit)) ≡ withEdge (tableIn (now (table .entry))) form c line ⌝ }
 {
-    let at = t.edges;
-    let mut n = t;
-    n.edge_rule[at] = c.rule;
-    n.edge_state[at] = c.state;
-    n.edge_key[at] = c.key;
-    n.edge_kind[at] = c.kind;
-    n.edge_next[at] = c.next;
-    n.edge_line[at] = line;
+    flat::sized(table);
+    let at = flat::edges(table);
+    table[flat::RULE + at] = c.rule;
+    table[flat::STATE + at] = c.state;
+    table[flat::KEY + at] = c.key;
+    table[flat::KIND + at] = c.kind;
+    table[flat::NEXT + at] = c.next;
+    table[flat::LINE_LOW + at] = (line % 256) as u8;
+    table[flat::LINE_HIGH + at] = (line / 256) as u8;
     let r = c.rule as usize;
-    n.forms[r] = form;
-    n.edges = at + 1;
-    n
+    table[flat::FORM + r] = form;
+    let n = at + 1;
+    table[0] = (n % 256) as u8;
+    table[1] = (n / 256) as u8;
 }
 
 // ---- keys
 
+// Key i has these bytes.
+fn key_is<'a>(table: &'a [u8; 7920], i: usize, key: &'a [u8]) -> bool
+    requires { ⌜ (i < 128) × Lens (tableIn (now table) .«key_len») ⌝ }
+    ensures { λ r. ⌜ r ≡ same (keyAt (tableIn (now (table .entry)) .«key_bytes») (tableIn (now (table .entry)) .«key_len») i) (now (key .entry)) ⌝ }
+{
+    let bytes: &[u8] = table;
+    let a = flat::KEY_BYTES + 32 * i;
+    let b = a + wide(flat::len(table, i));
+    scan::equal(&bytes[a..b], key)
+}
+
 // The number of a key among the first n, or n where it is new.
-pub fn find_key<'a>(bytes: &'a [u8], lens: &'a [u8; 128], n: usize, key: &[u8]) -> usize
-    requires { ⌜ (n ≤ 128) × Lens (now lens) × (length (now bytes) ≡ 4096) ⌝ }
-    ensures { λ r. ⌜ r ≡ numberOf (tab (keyAt (now (bytes .entry)) (now (lens .entry))) 0 n) (now (key .entry)) ⌝ }
+pub fn find_key<'a>(table: &'a [u8; 7920], n: usize, key: &'a [u8]) -> usize
+    requires { ⌜ (n ≤ 128) × Lens (tableIn (now table) .«key_len») ⌝ }
+    ensures { λ r. ⌜ r ≡ numberOf (tab (keyAt (tableIn (now (table .entry)) .«key_bytes») (tableIn (now (table .entry)) .«key_len»)) 0 n) (now (key .entry)) ⌝ }
 {
     let mut i = 0;
     while i < n {
-        let a = 32 * i;
-        let b = a + wide(lens[i]);
-        if scan::equal(&bytes[a..b], key) {
+        if key_is(table, i, key) {
             return i;
         }
         i += 1;
@@ -142,19 +136,19 @@ pub fn find_key<'a>(bytes: &'a [u8], lens: &'a [u8; 128], n: usize, key: &[u8]) 
 }
 
 // The number of a key, 128 where there is none.
-fn key_number<'a>(bytes: &'a [u8], lens: &'a [u8; 128], n: usize, key: &[u8]) -> usize
-    requires { ⌜ (n ≤ 128) × Lens (now lens) × (length (now bytes) ≡ 4096) ⌝ }
-    ensures { λ r. ⌜ (r ≡ keyNumber (tab (keyAt (now (bytes .entry)) (now (lens .entry))) 0 n) (now (key .entry))) × (r ≤ 128) ⌝ }
+fn key_number<'a>(table: &'a [u8; 7920], n: usize, key: &'a [u8]) -> usize
+    requires { ⌜ (n ≤ 128) × Lens (tableIn (now table) .«key_len») ⌝ }
+    ensures { λ r. ⌜ (r ≡ keyNumber (tab (keyAt (tableIn (now (table .entry)) .«key_bytes») (tableIn (now (table .entry)) .«key_len»)) 0 n) (now (key .entry))) × (r ≤ 128) ⌝ }
 {
     if key.len() == 0 {
         return 128;
     }
-    find_key(bytes, lens, n, key)
+    find_key(table, n, key)
 }
 
 // The bytes from place a on become those of the key.
-fn write_key(w: &mut [u8; 4096], a: usize, key: &[u8])
-    requires { ⌜ a + length (now key) ≤ 4096 ⌝ }
+fn write_key(w: &mut [u8; 7920], a: usize, key: &[u8])
+    requires { ⌜ a + length (now key) ≤ 7920 ⌝ }
     ensures { λ _. ⌜ now (w .exit) ≡ written (now (w .entry)) a (now (key .entry)) ⌝ }
 {
     let mut i = 0;
@@ -164,17 +158,16 @@ fn write_key(w: &mut [u8; 4096], a: usize, key: &[u8])
     }
 }
 
-// The table with one key more.
-fn with_key(t: Table, key: &[u8]) -> Table
-    requires { ⌜ (t .keys < 128) × (length (now key) ≤ 32) ⌝ }
-    ensures { λ r. ⌜ r ≡ withKey t (now (key .entry)) ⌝ }
+// One key more.
+fn with_key(table: &mut [u8; 7920], key: &[u8])
+    requires { ⌜ (tableIn (now table) .keys < 128) × (length (now key) ≤ 32) ⌝ }
+    ensures { λ _. ⌜ tableIn (now (table .exit)) ≡ withKey (tableIn (now (table .entry))) (now (key .entry)) ⌝ }
 {
-    let at = t.keys;
-    let mut n = t;
-    write_key(&mut n.key_bytes, 32 * at, key);
-    n.key_len[at] = (key.len() % 256) as u8;
-    n.keys = at + 1;
-    n
+    flat::sized(table);
+    let at = flat::keys(table);
+    write_key(table, flat::KEY_BYTES + 32 * at, key);
+    table[flat::KEY_LEN + at] = (key.len() % 256) as u8;
+    table[2] = (at + 1) as u8;
 }
 
 // A key of n bytes with number k is new behind m keys.
@@ -189,31 +182,24 @@ fn is_new(n: usize, k: usize, m: usize) -> bool
 
 // ---- end states
 
-fn bit_at(s: &[u8; 64], i: usize) -> bool
+fn bit_at(table: &[u8; 7920], i: usize) -> bool
     requires { ⌜ i < 512 ⌝ }
-    ensures { λ r. ⌜ r ≡ bitAt (now (s .entry)) i ⌝ }
+    ensures { λ r. ⌜ r ≡ bitAt (tableIn (now (table .entry)) .ends) i ⌝ }
 {
-    (s[i / 8] >> (i % 8)) % 2 == 1
+    (flat::end(table, i / 8) >> (i % 8)) % 2 == 1
 }
 
-fn set_bit(s: &mut [u8; 64], i: usize)
-    requires { ⌜ i < 512 ⌝ }
-    ensures { λ _. ⌜ now (s .exit) ≡ setBit (now (s .entry)) i ⌝ }
-{
-    s[i / 8] = s[i / 8] | (1 << (i % 8));
-}
-
-// The table with one end state more.
-fn with_end(t: Table, rule: u8, form: u8, state: u8) -> Table
+// One end state more.
+fn with_end(table: &mut [u8; 7920], rule: u8, form: u8, state: u8)
     requires { ⌜ (rule < 32) × (state < 16) ⌝ }
-    ensures { λ r. ⌜ r ≡ withEnd t rule form state ⌝ }
+    ensures { λ _. ⌜ tableIn (now (table .exit)) ≡ withEnd (tableIn (now (table .entry))) rule form state ⌝ }
 {
     let r = rule as usize;
     let q = state as usize;
-    let mut n = t;
-    set_bit(&mut n.ends, 16 * r + q);
-    n.forms[r] = form;
-    n
+    let i = 16 * r + q;
+    let old = flat::end(table, i / 8);
+    table[flat::END + i / 8] = old | (1 << (i % 8));
+    table[flat::FORM + r] = form;
 }
 
 // ---- entries
@@ -233,65 +219,58 @@ fn form_changes(old: u8, new: u8) -> bool
     old != new
 }
 
-fn take_end(t: Table, rule: u8, form: u8, state: u8) -> Taken
+// An end state; or the fault of it, and the table as it was.
+fn take_end(table: &mut [u8; 7920], rule: u8, form: u8, state: u8) -> u8
     requires { ⌜ (rule < 32) × (state < 16) ⌝ }
-    ensures { λ r. ⌜ r ≡ takeEnd t rule form state ⌝ }
+    ensures { λ r. ⌜ taken r (tableIn (now (table .exit))) ≡ takeEnd (tableIn (now (table .entry))) rule form state ⌝ }
 {
     let r = rule as usize;
     let q = state as usize;
-    if bit_at(&t.ends, 16 * r + q) {
-        return Taken { fault: 7, table: t };
+    if bit_at(table, 16 * r + q) {
+        return 7;
     }
-    let n = with_end(t, rule, form, state);
-    Taken { fault: 0, table: n }
+    with_end(table, rule, form, state);
+    0
 }
 
-// An edge whose key has the number in its cell.
-fn take_edge(t: Table, line: u16, form: u8, c: Cell, key: &[u8]) -> Taken
-    requires { ⌜ WithinLimits t × (c .rule < 32) × (length (now key) ≤ 32) ⌝ }
-    ensures { λ r. ⌜ r ≡ takeEdge line t form c (now (key .entry)) ⌝ }
+// An edge whose key has the number in its cell; or the fault of it, and the table as it was.
+fn take_edge(table: &mut [u8; 7920], line: u16, form: u8, c: Cell, key: &[u8]) -> u8
+    requires { ⌜ WithinLimits (tableIn (now table)) × (c .rule < 32) × (length (now key) ≤ 32) ⌝ }
+    ensures { λ r. ⌜ taken r (tableIn (now (table .exit))) ≡ takeEdge line (tableIn (now (table .entry))) form c (now (key .entry)) ⌝ }
 {
-    let edges = t.edges;
-    let keys = t.keys;
-    if has_cell(
-        &t.edge_rule,
-        &t.edge_state,
-        &t.edge_key,
-        &t.edge_kind,
-        &t.edge_next,
-        c,
-        edges,
-    ) {
-        return Taken { fault: 7, table: t };
+    let edges = flat::edges(table);
+    let keys = flat::keys(table);
+    if has_cell(table, c) {
+        return 7;
     }
     if 512 <= edges {
-        return Taken { fault: 5, table: t };
+        return 5;
     }
     if is_new(key.len(), wide(c.key), keys) {
         if 128 <= keys {
-            return Taken { fault: 5, table: t };
+            return 5;
         }
-        let u = with_key(t, key);
-        let n = with_edge(u, form, c, line);
-        return Taken { fault: 0, table: n };
+        with_key(table, key);
+        with_edge(table, form, c, line);
+        return 0;
     }
-    let n = with_edge(t, form, c, line);
-    Taken { fault: 0, table: n }
+    with_edge(table, form, c, line);
+    0
 }
 
-// The entry of a line whose key is given.
-pub fn take_entry(t: Table, line: u16, l: Line, key: &[u8]) -> Taken
-    requires { ⌜ WithinLimits t × Proper (entryWith l (now key)) ⌝ }
-    ensures { λ r. ⌜ r ≡ takeEntry line t (entryWith l (now (key .entry))) ⌝ }
+// The entry of a line whose key is given; or the fault of it, and the table as it was.
+pub fn take_entry(table: &mut [u8; 7920], line: u16, l: Line, key: &[u8]) -> u8
+    requires { ⌜ WithinLimits (tableIn (now table)) × Proper (entryWith l (now key)) ⌝ }
+    ensures { λ r. ⌜ taken r (tableIn (now (table .exit))) ≡ takeEntry line (tableIn (now (table .entry))) (entryWith l (now (key .entry))) ⌝ }
 {
     let form = form_code(l.obj);
     let at = l.rule as usize;
-    if form_changes(t.forms[at], form) {
-        return Taken { fault: 6, table: t };
+    if form_changes(flat::form(table, at), form) {
+        return 6;
     }
     if l.kind < 38 {
-        let keys = t.keys;
-        let k = key_number(&t.key_bytes, &t.key_len, keys, key);
+        let keys = flat::keys(table);
+        let k = key_number(table, keys, key);
         let c = Cell {
             rule: l.rule,
             state: l.state,
@@ -299,7 +278,7 @@ pub fn take_entry(t: Table, line: u16, l: Line, key: &[u8]) -> Taken
             kind: l.kind,
             next: l.next,
         };
-        return take_edge(t, line, form, c, key);
+        return take_edge(table, line, form, c, key);
     }
-    take_end(t, l.rule, form, l.state)
+    take_end(table, l.rule, form, l.state)
 }

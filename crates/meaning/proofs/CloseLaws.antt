@@ -12,7 +12,7 @@ use borrow.Author.Tests.{not-true}
 use Rattle.laws.specs.Bits.{bitAt}
 use Rattle.laws.proofs.TestLaws.{true-of-T, T-and, T-and-left, T-and-right}
 use Rattle.table.specs.Kind.{codeOf, ruleFits}
-use Rattle.table.specs.declared.Table.{Table}
+use Rattle.table.specs.Table.{Table}
 use Rattle.table.specs.declared.kind.Scalar.{Scalar}
 use Rattle.table.specs.declared.kind.ValueKind.the-variants.{Plain, Rule}
 use Rattle.table.specs.declared.kind.Finished.the-variants as Done

@@ -12,7 +12,7 @@ use borrow.Author.Tests.{eq-eqb}
 use Rattle.laws.proofs.TabLaws.{length-tab, getD-tab}
 use Rattle.laws.proofs.TestLaws.{T-of-true}
 use Rattle.table.specs.Kind.{codeOf, kindOf, fitsKind}
-use Rattle.table.specs.declared.Table.{Table}
+use Rattle.table.specs.Table.{Table}
 use Rattle.table.specs.declared.kind.Finished.{Finished}
 use Rattle.table.specs.declared.kind.ValueKind.{ValueKind}
 use Rattle.table.proofs.KindLaws.{kindOf-codeOf}

@@ -12,7 +12,7 @@ use Rattle.laws.specs.Tab.{every}
 use Rattle.laws.proofs.TabLaws.{T-of-every, eq-of-every}
 use Rattle.laws.proofs.TestLaws.{eq-of-beq, T-and-left, T-and-right}
 use Rattle.table.specs.Kind.{codeOf}
-use Rattle.table.specs.declared.Table.{Table}
+use Rattle.table.specs.Table.{Table}
 use Rattle.table.specs.declared.kind.ValueKind.{ValueKind}
 use Rattle.book.specs.Entry.{Form, obj, arr, sameForm, Entry, edge, end-state, withKey, keysFrom, keysOf, numberOf}
 use Rattle.book.specs.Load.{ruleOf, formIn, changesForm}
@@ -99,6 +99,7 @@ abbrev tableB : Table
 tableB = record {
   edges = 5;
   keys = 2;
+  spare = [];
   «edge_rule» = 0 ∷ 0 ∷ 1 ∷ 2 ∷ 2 ∷ [];
   «edge_state» = 0 ∷ 1 ∷ 0 ∷ 0 ∷ 1 ∷ [];
   «edge_key» = 0 ∷ 1 ∷ 128 ∷ 128 ∷ 128 ∷ [];

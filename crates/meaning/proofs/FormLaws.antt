@@ -10,7 +10,7 @@ use lib.ListN.{getD}
 use borrow.Author.Tests.{eqb-true, eqb-false}
 use Rattle.laws.specs.Lists.{any}
 use Rattle.laws.proofs.TestLaws.{T-and-right}
-use Rattle.table.specs.declared.Table.{Table}
+use Rattle.table.specs.Table.{Table}
 use Rattle.book.specs.Entry.{Form, obj, arr, sameForm, Entry, edge, end-state}
 use Rattle.book.specs.Load.{ruleOf, formIn}
 use Rattle.book.specs.Holds.{formCode, ruleForm}

@@ -8,7 +8,7 @@ use native.Mathlib.Omega.{arith}
 use lib.Dec.{T, eqb, eqb→eq, ltb, ltb→lt, lt→ltb}
 use borrow.Author.Tests.{lt-ltb, le-ltb, eq-eqb}
 use Rattle.laws.proofs.TestLaws.{T-of-true, T-and, T-and-left, T-and-right}
-use Rattle.table.specs.declared.Table.{Table}
+use Rattle.table.specs.Table.{Table}
 use Rattle.book.specs.Entry.{arr, Entry}
 use Rattle.book.specs.Holds.{formCode}
 use Rattle.runs.specs.Walk.{OpenObject, startOf, keyCount, numberIn, atOpening, afterKey}

@@ -10,7 +10,7 @@ use lib.Dec.{T, ltb, ltb→lt, lt→ltb}
 use lib.ListN.{getD}
 use borrow.Author.Tests.{lt-ltb, le-ltb}
 use Rattle.laws.proofs.TestLaws.{T-and, T-and-left, T-and-right, T-or-elim, T-or-left, T-or-right}
-use Rattle.table.specs.declared.Table.{Table}
+use Rattle.table.specs.Table.{Table}
 use Rattle.table.specs.declared.kind.Finished.{Finished}
 use Rattle.table.specs.declared.kind.ValueKind.{ValueKind}
 use Rattle.book.specs.Entry.{Entry}

@@ -1,36 +1,38 @@
 -- Laws of the run over a piece and of calls by what their tests tell, in the form of the code's needs. Assumes nothing.
 use mathlib.Core.Bool.{Bool, true, false, cond, _&&_}
-use mathlib.Core.List.{List, [], _∷_}
+use mathlib.Core.List.{List}
 use mathlib.Core.Path.{_≡_, refl, sym, ap, _∙_}
 use Prim.Native.Nat.{ℕ, _+_, _*_, _<_, _≤_}
 use native.Mathlib.Numerals.{add-one}
 use native.Mathlib.Omega.{arith}
-use lib.Dec.{leb, eqb, ltb}
+use lib.Dec.{leb, ltb}
 use lib.ListN.{length, getD, drop, drop-of-length-le}
 use lib.Seq.{drop-cons}
-use borrow.Author.Tests.{eq-eqb, ne-eqb, lt-ltb, le-ltb, le-leb, lt-leb, leb-true, leb-false}
+use borrow.Author.Tests.{eq-eqb, ne-eqb, lt-ltb, le-ltb, le-leb, lt-leb, leb-true, ltb-false}
 use Rattle.json.specs.Lexer.{stepOf}
 use Rattle.json.specs.declared.lexer.Top.{Top}
 use Rattle.json.specs.declared.lexer.Step.{Step}
-use Rattle.table.specs.declared.Table.{Table}
-use Rattle.table.specs.Limits.{withinLimits, fitLimits, WithinLimits}
+use Rattle.table.specs.Table.{Table}
+use Rattle.table.specs.Limits.{withinLimits}
 use Rattle.table.proofs.LimitLaws.{withinLimits-sound}
 use Rattle.laws.proofs.TestLaws.{T-of-true}
 use Rattle.load.specs.Step.{Lens}
 use Rattle.frame.specs.Frame.{frameCount}
 use Rattle.progress.specs.declared.Lex.{Lex}
-use Rattle.progress.specs.declared.Task.{Task}
 use Rattle.progress.specs.declared.Task.the-variants as To
 use Rattle.progress.specs.Lex.{advanced}
-use Rattle.progress.specs.Memory.{Mem, mem, Ran, topAt, keyFound, valueAt, rulesAt, closeAt, perform, stepMem, runMem, endsRecord}
-use Rattle.book.specs.Holds.{tableKeys}
-use Rattle.turn.specs.Turn.{lent, turned}
+use Rattle.progress.specs.Memory.{Mem, mem, Ran, topAt, stepMem, runMem, endsRecord}
+use Rattle.turn.specs.Turn.{turned}
 use Rattle.pass.specs.Pass.{KeptTo, PassedTo}
 use Rattle.turn.proofs.TurnLaws.{turned-stepMem}
 use Rattle.reader.specs.declared.Reader.{Reader}
+use Rattle.reader.specs.declared.Refusal.{Refusal}
 use Rattle.reader.specs.declared.Refusal.the-variants as No
+use Rattle.reader.specs.declared.Gate.{Gate}
+use Rattle.reader.specs.declared.Gate.the-variants as G
 use Rattle.reader.specs.declared.Answer.the-variants as Says
-use Rattle.reader.specs.Machine.{Start, Outcome, freshReader, zeroTally, fitReader, withinReader, startOf, refusing, memoryOf, ending, going, outcome, feedOf, closeOf}
+use Rattle.reader.specs.Machine.{Outcome, freshReader, zeroTally, fitReader, withinReader, startOf, refusing, orRefused, memoryOf, ending, going, outcome, feedOf, closeOf, admitted}
+use Rattle.reader.specs.Went.{WentTo}
 
 -- ---- small tests
 
@@ -105,13 +107,29 @@ module _ (s : List ℕ) (i at end : ℕ) (x y z : Lex) (top : Top) (st : Step) (
       b .step n h
       ∙ ap (λ (k : Top). advanced z n (getD s end 0) (stepOf (z .mode) k (getD s end 0))) (e ∙ ap (λ (l : ℕ). topAt w l) (sym (b .runs .level)))
 
--- ---- the test of a table
+  -- the three ways out of a turn of the loop
+  module _ (t : Table) (n : ℕ) (root : Bool) (h : i < length s) where
+    pub went-read : length s ≤ end → WentTo t n (mem x root key w) s i (mem z root kept w) end false
+    went-read l = record { low = omega arith; high = b .runs .high; run = sym (run-passed t n root _ refl) }
 
-pub limits-told : (t : Table) (b v : Bool)
-    → b ≡ fitLimits (t .edges) (t .keys) (t .«edge_rule») (t .«edge_state») (t .«edge_key») (t .«edge_kind») (t .«edge_next») (t .«key_len») (t .forms) → b ≡ v
-    → withinLimits t ≡ v
-unfolding withinLimits
-limits-told t b v e f = sym e ∙ f
+    pub went-ended : (v : Bool) → end < length s → v ≡ endsRecord z (getD s end 0) → v ≡ true → WentTo t n (mem x root key w) s i (mem z root kept w) (end + 1) true
+    went-ended v l e′ f =
+        record {
+          low = omega (arith, a .low, b .runs .low);
+          high = omega arith;
+          run = sym (run-passed t n root _ refl) ∙ run-end t n (mem z root kept w) s end l (sym e′ ∙ f);
+        }
+
+    pub went-turned : (v : Bool) (k : Mem) → end < length s → v ≡ endsRecord z (getD s end 0) → v ≡ false → k ≡ turned t n (mem z root kept w) (getD s end 0) st
+        → WentTo t n (mem x root key w) s i k (end + 1) false
+    went-turned v k l e′ f g =
+        record {
+          low = omega (arith, a .low, b .runs .low);
+          high = omega arith;
+          run = sym (run-turn t n (mem z root kept w) s end k st l (sym e′ ∙ f) (step-passed n l) g ∙ run-passed t n root _ refl);
+        }
+
+-- ---- the test of a table
 
 pub keys-le : (t : Table) → withinLimits t ≡ true → t .keys ≤ 128
 keys-le t e = withinLimits-sound t (T-of-true (withinLimits t) e) .keys
@@ -138,34 +156,10 @@ module _ (t : Table) (w : List ℕ) where
 -- ---- feed and close, by their tests
 
 module _ (r : Reader) (t : Table) (w : List ℕ) where
-  pub feed-table : (s : List ℕ) → withinLimits t ≡ false → refusing r w No.AboveLimit ≡ feedOf r t w s
-  unfolding feedOf
-  feed-table s e = rw e
-
-  pub feed-reader : (s : List ℕ) → withinLimits t ≡ true → withinReader r ≡ false → refusing r w No.AboveLimit ≡ feedOf r t w s
-  unfolding feedOf
-  feed-reader s e q = rw (e, q)
-
-  pub feed-short : (s : List ℕ) → withinLimits t ≡ true → withinReader r ≡ true → length w < 96 * r .frames → refusing r w No.ShortBuffer ≡ feedOf r t w s
-  unfolding feedOf
-  feed-short s e q h = rw (e, q, lt-ltb (length w) (96 * r .frames) h)
-
   feed-ran : (s : List ℕ) → withinLimits t ≡ true → withinReader r ≡ true → 96 * r .frames ≤ length w
       → outcome r (runMem t (r .frames) (memoryOf r w) 0 s) ≡ feedOf r t w s
   unfolding feedOf
   feed-ran s e q h = rw (e, q, le-ltb (length w) (96 * r .frames) h)
-
-  pub close-table : withinLimits t ≡ false → refusing r w No.AboveLimit ≡ closeOf r t w
-  unfolding closeOf
-  close-table e = rw e
-
-  pub close-reader : withinLimits t ≡ true → withinReader r ≡ false → refusing r w No.AboveLimit ≡ closeOf r t w
-  unfolding closeOf
-  close-reader e q = rw (e, q)
-
-  pub close-short : withinLimits t ≡ true → withinReader r ≡ true → length w < 96 * r .frames → refusing r w No.ShortBuffer ≡ closeOf r t w
-  unfolding closeOf
-  close-short e q h = rw (e, q, lt-ltb (length w) (96 * r .frames) h)
 
   pub close-ended : withinLimits t ≡ true → withinReader r ≡ true → 96 * r .frames ≤ length w → 0 < r .lex .pos → ending r (memoryOf r w) 0 true ≡ closeOf r t w
   unfolding closeOf
@@ -179,30 +173,97 @@ module _ (r : Reader) (t : Table) (w : List ℕ) where
   -- ---- the ways out of the loop, where what is left to do gives what the whole gives
   module _ (s : List ℕ) (m : Mem) (i : ℕ) (e : withinLimits t ≡ true) (q : withinReader r ≡ true) (h : 96 * r .frames ≤ length w)
       (inv : runMem t (r .frames) m i (drop i s) ≡ runMem t (r .frames) (memoryOf r w) 0 s) where
-    pub out-ended : i < length s → endsRecord (m .lex) (getD s i 0) ≡ true → ending r m (i + 1) false ≡ feedOf r t w s
-    out-ended l x = ap (outcome r) (sym (run-end t (r .frames) m s i l x) ∙ inv) ∙ feed-ran s e q h
-
     pub out-done : length s ≤ i → going r m i ≡ feedOf r t w s
     out-done l = ap (outcome r) (sym (run-done t (r .frames) m s i l) ∙ inv) ∙ feed-ran s e q h
 
--- ---- the arrays of a table, lent one by one
+-- ---- who is let in
+module _ (t : Table) (f l k n : ℕ) (b : Bool) (p : b ≡ withinLimits t) where
+  pub admit-table : b ≡ false → G.Shut No.AboveLimit ≡ admitted t f l k n
+  unfolding admitted
+  admit-table e = rw (sym p ∙ e)
 
--- the lent arrays of a table serve as the table
-lent-serves : (z : Task) (t : Table) (m : Mem) (x : Lex)
-    → perform z (lent (t .edges) (t .keys) (t .«edge_rule») (t .«edge_state») (t .«edge_key») (t .«edge_kind») (t .«edge_next») (t .«key_bytes») (t .«key_len») (t .ends) (t .forms)) m x
-    ≡ perform z t m x
-unfolding keyFound tableKeys valueAt rulesAt closeAt
-lent-serves To.Idle t m x = refl
-lent-serves (To.Put c) t m x = refl
-lent-serves To.Named t m x = refl
-lent-serves To.OpenArray t m x = refl
-lent-serves To.OpenObject t m x = refl
-lent-serves (To.Finish s) t m x = refl
-lent-serves (To.Number s) t m x = refl
-lent-serves To.Close t m x = refl
-lent-serves (To.NumberClose s) t m x = refl
+  module _ (e : b ≡ true) (v : Bool) (q : v ≡ fitReader f l k) where
+    pub admit-reader : v ≡ false → G.Shut No.AboveLimit ≡ admitted t f l k n
+    unfolding admitted
+    admit-reader z = rw (sym p ∙ e, sym q ∙ z)
 
-pub turned-of-lent : (t : Table) (n : ℕ) (m : Mem) (b : ℕ) (st : Step) (k : Mem)
-    → k ≡ turned (lent (t .edges) (t .keys) (t .«edge_rule») (t .«edge_state») (t .«edge_key») (t .«edge_kind») (t .«edge_next») (t .«key_bytes») (t .«key_len») (t .ends) (t .forms)) n m b st
-    → k ≡ turned t n m b st
-turned-of-lent t n m b st k h = h ∙ lent-serves (advanced (m .lex) n b st .task) t m (advanced (m .lex) n b st .lex)
+    pub admit-short : v ≡ true → n < 96 * f → G.Shut No.ShortBuffer ≡ admitted t f l k n
+    unfolding admitted
+    admit-short z h = rw (sym p ∙ e, sym q ∙ z, lt-ltb n (96 * f) h)
+
+    pub admit-open : v ≡ true → 96 * f ≤ n → G.Open ≡ admitted t f l k n
+    unfolding admitted
+    admit-open z h = rw (sym p ∙ e, sym q ∙ z, le-ltb n (96 * f) h)
+
+-- what is known of a call that is let in
+pub record LetIn (t : Table) (f l k n : ℕ) : Type 0 where
+  pub table : withinLimits t ≡ true
+  pub reader : fitReader f l k ≡ true
+  pub buffer : 96 * f ≤ n
+
+pub let-in : (t : Table) (f l k n : ℕ) (a : Gate) → a ≡ admitted t f l k n → a ≡ G.Open → LetIn t f l k n
+unfolding admitted
+let-in t f l k n a p q = go (withinLimits t) (fitReader f l k) (ltb n (96 * f)) refl refl refl (sym p ∙ q)
+  where
+    no : {X : Type 0} {r : Refusal} → G.Shut r ≡ G.Open → X
+    no e = let z : _≡_ {A = ℕ} 0 1 = cc in absurd (omega arith)
+
+    go : (x y z : Bool) → withinLimits t ≡ x → fitReader f l k ≡ y → ltb n (96 * f) ≡ z
+        → cond x (cond y (cond z (G.Shut No.ShortBuffer) G.Open) (G.Shut No.AboveLimit)) (G.Shut No.AboveLimit) ≡ G.Open → LetIn t f l k n
+    go true true false a b c e = record { table = a; reader = b; buffer = ltb-false n (96 * f) c }
+    go true true true a b c e = no e
+    go true false z a b c e = no e
+    go false y z a b c e = no e
+
+-- a call that is not let in
+shut : (r : Reader) (t : Table) (w : List ℕ) (o : Outcome) (n : Refusal) → G.Shut n ≡ admitted t (r .frames) (r .lex .level) (r .lex .len) (length w)
+    → refusing r w n ≡ orRefused r t w o
+unfolding admitted
+shut r t w o n p = go (withinLimits t) (withinReader r) (ltb (length w) (96 * r .frames)) p
+  where
+    no : {X : Type 0} → G.Shut n ≡ G.Open → X
+    no e = let z : _≡_ {A = ℕ} 0 1 = cc in absurd (omega arith)
+
+    same : (k : Refusal) → G.Shut n ≡ G.Shut k → refusing r w n ≡ refusing r w k
+    same k e = let z : n ≡ k = cc in ap (refusing r w) z
+
+    go : (x y z : Bool) → G.Shut n ≡ cond x (cond y (cond z (G.Shut No.ShortBuffer) G.Open) (G.Shut No.AboveLimit)) (G.Shut No.AboveLimit)
+        → refusing r w n ≡ cond x (cond y (cond z (refusing r w No.ShortBuffer) o) (refusing r w No.AboveLimit)) (refusing r w No.AboveLimit)
+    go true true false e = no e
+    go true true true e = same No.ShortBuffer e
+    go true false z e = same No.AboveLimit e
+    go false y z e = same No.AboveLimit e
+
+module _ (r : Reader) (t : Table) (w : List ℕ) (a : Gate) (p : a ≡ admitted t (r .frames) (r .lex .level) (r .lex .len) (length w)) where
+  pub feed-shut : (s : List ℕ) (n : Refusal) → a ≡ G.Shut n → refusing r w n ≡ feedOf r t w s
+  unfolding feedOf
+  feed-shut s n e = shut r t w _ n (sym e ∙ p)
+
+  pub close-shut : (n : Refusal) → a ≡ G.Shut n → refusing r w n ≡ closeOf r t w
+  unfolding closeOf
+  close-shut n e = shut r t w _ n (sym e ∙ p)
+
+  pub close-ended-in : a ≡ G.Open → 0 < r .lex .pos → ending r (memoryOf r w) 0 true ≡ closeOf r t w
+  close-ended-in q h = let i = let-in t _ _ _ _ a p q in close-ended r t w (i .table) (i .reader) (i .buffer) h
+
+  pub close-empty-in : a ≡ G.Open → r .lex .pos ≤ 0 → record { reader = freshReader (r .frames) true (r .tally); count = 0; answer = Says.Quiet; work = w } ≡ closeOf r t w
+  close-empty-in q h = let i = let-in t _ _ _ _ a p q in close-empty r t w (i .table) (i .reader) (i .buffer) h
+
+-- ---- the loop of feed: what is left to do gives what the whole gives
+module _ (t : Table) (n : ℕ) (m k : Mem) (s : List ℕ) (i j : ℕ) (v : Bool) (g : WentTo t n m s i k j v) (whole : Ran) (inv : runMem t n m i (drop i s) ≡ whole) where
+  pub loop-on : v ≡ false → runMem t n k j (drop j s) ≡ whole
+  loop-on e = sym (rw e at (g .run)) ∙ inv
+
+  pub loop-ended : v ≡ true → record { memory = k; count = j; ended = true } ≡ whole
+  loop-ended e = sym (rw e at (g .run)) ∙ inv
+
+module _ (r : Reader) (t : Table) (w s key : List ℕ) (a : Gate) (p : a ≡ admitted t (r .frames) (r .lex .level) (r .lex .len) (length w)) (q : a ≡ G.Open)
+    (e : key ≡ r .key) (m : Mem) (i : ℕ) where
+  start : runMem t (r .frames) (mem (r .lex) (r .root) key w) 0 s ≡ runMem t (r .frames) (memoryOf r w) 0 s
+  start = ap (λ (k : List ℕ). runMem t (r .frames) (mem (r .lex) (r .root) k w) 0 s) e
+
+  pub feed-ended : record { memory = m; count = i; ended = true } ≡ runMem t (r .frames) (mem (r .lex) (r .root) key w) 0 s → ending r m i false ≡ feedOf r t w s
+  feed-ended h = let l = let-in t _ _ _ _ a p q in ap (outcome r) (h ∙ start) ∙ feed-ran r t w s (l .table) (l .reader) (l .buffer)
+
+  pub feed-read : runMem t (r .frames) m i (drop i s) ≡ runMem t (r .frames) (mem (r .lex) (r .root) key w) 0 s → length s ≤ i → going r m i ≡ feedOf r t w s
+  feed-read h l = let z = let-in t _ _ _ _ a p q in out-done r t w s m i (z .table) (z .reader) (z .buffer) (h ∙ start) l

@@ -7,7 +7,7 @@ use lib.Dec.{leb, ltb}
 use lib.ListN.{length, replicate}
 use Rattle.json.specs.declared.lexer.Place.the-variants as P
 use Rattle.json.specs.declared.lexer.Mode.the-variants as M
-use Rattle.table.specs.declared.Table.{Table}
+use Rattle.table.specs.Table.{Table}
 use Rattle.table.specs.Limits.{withinLimits}
 use Rattle.frame.specs.Frame.{frameCount}
 use Rattle.verdict.specs.declared.Verdict.{Verdict}
@@ -20,6 +20,8 @@ use Rattle.reader.specs.declared.Tally.{Tally}
 use Rattle.reader.specs.declared.Reader.{Reader}
 use Rattle.reader.specs.declared.Refusal.{Refusal}
 use Rattle.reader.specs.declared.Refusal.the-variants as No
+use Rattle.reader.specs.declared.Gate.{Gate}
+use Rattle.reader.specs.declared.Gate.the-variants as Is-let
 use Rattle.reader.specs.declared.Answer.{Answer}
 use Rattle.reader.specs.declared.Answer.the-variants as Says
 
@@ -100,6 +102,13 @@ orRefused r t w o =
     cond (withinLimits t)
     (cond (withinReader r) (cond (ltb (length w) (96 * r .frames)) (refusing r w No.ShortBuffer) o) (refusing r w No.AboveLimit))
     (refusing r w No.AboveLimit)
+
+-- the same as a test
+unfoldable pub admitted : Table → ℕ → ℕ → ℕ → ℕ → Gate
+admitted t frames level len n =
+    cond (withinLimits t)
+    (cond (fitReader frames level len) (cond (ltb n (96 * frames)) (Is-let.Shut No.ShortBuffer) Is-let.Open) (Is-let.Shut No.AboveLimit))
+    (Is-let.Shut No.AboveLimit)
 
 abbrev pub memoryOf : Reader → List ℕ → Mem
 memoryOf r w = mem (r .lex) (r .root) (r .key) w

@@ -1,14 +1,20 @@
 // The reader: start, feed and close.
 ghost use mathlib.Core.Path.{_≡_};
 ghost use lib.ListN.{length};
+ghost use mathlib.Core.Bool.{true};
+ghost use Prim.Native.Nat.{_<_, _≤_};
+ghost use Rattle.lexer.specs.Table.{classTable};
+ghost use Rattle.table.specs.Flat.{tableIn};
+ghost use Rattle.table.specs.Limits.{withinLimits};
 ghost use Rattle.progress.specs.Lex.{judged};
-ghost use Rattle.progress.specs.Memory.{endsRecord};
-ghost use Rattle.reader.specs.Machine.{refusalNumber, freshLex, freshReader, zeroTally, countValid, countInvalid, countRefused, tallied, fitReader, startOf, feedOf, closeOf};
+ghost use Rattle.progress.specs.Memory.{mem, endsRecord};
+ghost use Rattle.reader.specs.Machine.{refusalNumber, freshLex, freshReader, zeroTally, countValid, countInvalid, countRefused, tallied, fitReader, startOf, admitted, feedOf, closeOf};
+ghost use Rattle.reader.specs.Went.{WentTo};
 use json::lexer::Mode;
 use json::lexer::Place;
 use progress::Fault;
 use progress::Lex;
-use table::Table;
+use table::limits;
 use verdict::Verdict;
 
 // How many records of each verdict there were. Each count stops at the largest number.
@@ -224,25 +230,15 @@ impl Reader {
 
     // A fresh reader for a table and a buffer, which it leaves. Ruled out: a start that counts the frames of a longer buffer past 64, and
     // one that hands out frames with a refusal.
-    pub fn start(t: Table, work: &[u8]) -> Started
-        ensures { λ r. ⌜ record { reader = r .reader; answer = r .answer } ≡ startOf t (now (work .entry)) ⌝ }
+    pub fn start<'a>(table: &'a [u8; 7920], work: &'a [u8]) -> Started
+        ensures { λ r. ⌜ record { reader = r .reader; answer = r .answer } ≡ startOf (tableIn (now (table .entry))) (now (work .entry)) ⌝ }
     {
         let y = Tally {
             valid: 0,
             invalid: 0,
             refused: 0,
         };
-        if table::limits::fit_limits(
-            t.edges,
-            t.keys,
-            &t.edge_rule,
-            &t.edge_state,
-            &t.edge_key,
-            &t.edge_kind,
-            &t.edge_next,
-            &t.key_len,
-            &t.forms,
-        ) {
+        if limits::fit_limits(table) {
             if work.len() < Reader::FRAME {
                 let none = fresh_reader(0, true, y);
                 return Started {
@@ -264,42 +260,98 @@ impl Reader {
     }
 }
 
+// Whether a call is let in.
+pub enum Gate {
+    Open,
+    Shut(Refusal),
+}
+
+// Open where a call is let in; else the refusal: 23 for the table, 23 for the reader, 22 for a buffer of n bytes.
+fn admit(table: &[u8; 7920], frames: usize, level: usize, len: u8, n: usize) -> Gate
+    ensures { λ a. ⌜ a ≡ admitted (tableIn (now (table .entry))) frames level len n ⌝ }
+{
+    if limits::fit_limits(table) {
+        if fit_reader(frames, level, len) {
+            if n < 96 * frames {
+                return Gate::Shut(Refusal::ShortBuffer);
+            }
+            return Gate::Open;
+        }
+        return Gate::Shut(Refusal::AboveLimit);
+    }
+    Gate::Shut(Refusal::AboveLimit)
+}
+
+// How far a record was read: up to the end of the piece, over a byte that ends no record, or over the RS that ended it.
+pub struct Went {
+    pub lex: Lex,
+    pub root: bool,
+    pub at: usize,
+    pub ended: bool,
+}
+
+// Reads on from place i: the bytes that are passed over, and one byte more.
+fn read_on<'a>(
+    table: &'a [u8; 7920],
+    classes: &'a [u8; 256],
+    work: &mut [u8],
+    key: &mut [u8],
+    piece: &'a [u8],
+    frames: usize,
+    x: Lex,
+    root: bool,
+    i: usize,
+) -> Went
+    requires { ⌜ (withinLimits (tableIn (now table)) ≡ true) × (now classes ≡ classTable) × (length (now key) ≡ 32) × (i < length (now piece)) ⌝ }
+    ensures { λ r. ⌜ WentTo (tableIn (now (table .entry))) frames (mem x root (now (key .entry)) (now (work .entry))) (now (piece .entry)) i (mem (r .lex) (r .root) (now (key .exit)) (now (work .exit))) (r .at) (r .ended) ⌝ }
+{
+    let k = pass::keep(classes, x, key, piece, i);
+    let named = k.lex;
+    let top = turn::top_of(work, named.level);
+    let p = pass::pass(classes, named, top, piece, k.at);
+    let st = p.step;
+    let passed = p.lex;
+    let at = p.at;
+    if piece.len() <= at {
+        return Went {
+            lex: passed,
+            root: root,
+            at: at,
+            ended: false,
+        };
+    }
+    let b = piece[at];
+    if ends_record(passed, b) {
+        return Went {
+            lex: passed,
+            root: root,
+            at: at + 1,
+            ended: true,
+        };
+    }
+    let s = turn::turn(st, passed, root, key, work, frames, table, b);
+    let l = s.lex;
+    Went {
+        lex: l,
+        root: s.root,
+        at: at + 1,
+        ended: false,
+    }
+}
+
 // Reads a piece up to and with the first RS that ends a record. Ruled out: a feed that keeps levels of a record over its RS, and one that reads
 // on past a verdict.
-pub fn feed(r: Reader, t: Table, work: &mut [u8], piece: &[u8]) -> Fed
-    ensures { λ x. ⌜ record { reader = x .reader; count = x .count; answer = x .answer; work = now (work .exit) } ≡ feedOf r t (now (work .entry)) (now (piece .entry)) ⌝ }
+pub fn feed<'a>(r: Reader, table: &'a [u8; 7920], work: &mut [u8], piece: &'a [u8]) -> Fed
+    ensures { λ x. ⌜ record { reader = x .reader; count = x .count; answer = x .answer; work = now (work .exit) } ≡ feedOf r (tableIn (now (table .entry))) (now (work .entry)) (now (piece .entry)) ⌝ }
 {
     let frames = r.frames;
     let x = r.lex;
-    if table::limits::fit_limits(
-        t.edges,
-        t.keys,
-        &t.edge_rule,
-        &t.edge_state,
-        &t.edge_key,
-        &t.edge_kind,
-        &t.edge_next,
-        &t.key_len,
-        &t.forms,
-    ) {} else {
+    let gate = admit(table, frames, x.level, x.len, work.len());
+    if let Gate::Shut(n) = gate {
         return Fed {
             reader: r,
             count: 0,
-            answer: Answer::Refused(Refusal::AboveLimit),
-        };
-    }
-    if fit_reader(frames, x.level, x.len) {} else {
-        return Fed {
-            reader: r,
-            count: 0,
-            answer: Answer::Refused(Refusal::AboveLimit),
-        };
-    }
-    if work.len() < 96 * frames {
-        return Fed {
-            reader: r,
-            count: 0,
-            answer: Answer::Refused(Refusal::ShortBuffer),
+            answer: Answer::Refused(n),
         };
     }
     let classes = lexer::class::classes();
@@ -310,96 +362,45 @@ pub fn feed(r: Reader, t: Table, work: &mut [u8], piece: &[u8]) -> Fed
     let mut key = whole_key(kept);
     let mut i = 0;
     while i < piece.len() {
-        let k = pass::keep(&classes, lex, &mut key, piece, i);
-        let named = k.lex;
-        let top = turn::top_of(work, named.level);
-        let p = pass::pass(&classes, named, top, piece, k.at);
-        let st = p.step;
-        let passed = p.lex;
-        lex = passed;
-        i = p.at;
-        if piece.len() <= i {
-            return read_all(frames, tally, lex, root, key, i);
-        }
-        let b = piece[i];
-        i += 1;
-        if ends_record(lex, b) {
+        let w = read_on(table, &classes, work, &mut key, piece, frames, lex, root, i);
+        let l = w.lex;
+        lex = l;
+        root = w.root;
+        i = w.at;
+        if w.ended {
             return ended(frames, tally, lex, root, i, false);
         }
-        let s = turn::turn(
-            st,
-            lex,
-            root,
-            &mut key,
-            work,
-            frames,
-            t.edges,
-            t.keys,
-            &t.edge_rule,
-            &t.edge_state,
-            &t.edge_key,
-            &t.edge_kind,
-            &t.edge_next,
-            &t.key_bytes,
-            &t.key_len,
-            &t.ends,
-            &t.forms,
-            b,
-        );
-        lex = s.lex;
-        root = s.root;
     }
     read_all(frames, tally, lex, root, key, i)
 }
 
 // Ends the last record like an RS, and is in the head again. Ruled out: a close that forgets the tally, and one that gives a verdict where
 // nothing was read.
-pub fn close(r: Reader, t: Table, work: &[u8]) -> Closed
-    ensures { λ x. ⌜ record { reader = x .reader; count = 0; answer = x .answer; work = now (work .entry) } ≡ closeOf r t (now (work .entry)) ⌝ }
+pub fn close<'a>(r: Reader, table: &'a [u8; 7920], work: &'a [u8]) -> Closed
+    ensures { λ x. ⌜ record { reader = x .reader; count = 0; answer = x .answer; work = now (work .entry) } ≡ closeOf r (tableIn (now (table .entry))) (now (work .entry)) ⌝ }
 {
     let frames = r.frames;
     let x = r.lex;
     let tally = r.tally;
-    if table::limits::fit_limits(
-        t.edges,
-        t.keys,
-        &t.edge_rule,
-        &t.edge_state,
-        &t.edge_key,
-        &t.edge_kind,
-        &t.edge_next,
-        &t.key_len,
-        &t.forms,
-    ) {
-        if fit_reader(frames, x.level, x.len) {
-            if work.len() < 96 * frames {
-                return Closed {
-                    reader: r,
-                    answer: Answer::Refused(Refusal::ShortBuffer),
-                };
-            }
-            if 0 < x.pos {
-                let e = ended(frames, tally, x, r.root, 0, true);
-                let n = e.reader;
-                let v = e.answer;
-                return Closed {
-                    reader: n,
-                    answer: v,
-                };
-            }
-            let n = fresh_reader(frames, true, tally);
-            return Closed {
-                reader: n,
-                answer: Answer::Quiet,
-            };
-        }
+    let gate = admit(table, frames, x.level, x.len, work.len());
+    if let Gate::Shut(n) = gate {
         return Closed {
             reader: r,
-            answer: Answer::Refused(Refusal::AboveLimit),
+            answer: Answer::Refused(n),
         };
     }
+    if 0 < x.pos {
+        let e = ended(frames, tally, x, r.root, 0, true);
+        let n = e.reader;
+        let v = e.answer;
+        return Closed {
+            reader: n,
+            answer: v,
+        };
+    }
+    let n = fresh_reader(frames, true, tally);
     Closed {
-        reader: r,
-        answer: Answer::Refused(Refusal::AboveLimit),
+        reader: n,
+        answer: Answer::Quiet,
     }
 }

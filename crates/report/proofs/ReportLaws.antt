@@ -8,7 +8,7 @@ use lib.ListN.{length, take, drop, length-drop}
 use lib.Seq.{take-all, drop-drop}
 use lib.Dec.{ltb}
 use Rattle.laws.proofs.TestLaws.{cond-elim}
-use Rattle.table.specs.declared.Table.{Table}
+use Rattle.table.specs.Table.{Table}
 use Rattle.table.specs.Limits.{withinLimits}
 use Rattle.verdict.specs.declared.Verdict.{Verdict}
 use Rattle.text.specs.Text.{lineOf}

@@ -3,7 +3,7 @@
 use mathlib.Core.List.{List, [], _++_}
 use Prim.Native.Nat.{ℕ}
 use lib.ListN.{drop}
-use Rattle.table.specs.declared.Table.{Table}
+use Rattle.table.specs.Table.{Table}
 use Rattle.reader.specs.declared.Reader.{Reader}
 use Rattle.reader.specs.Machine.{closeOf}
 use Rattle.report.specs.Report.{reports, closing}

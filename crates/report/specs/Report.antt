@@ -7,7 +7,7 @@ use Prim.Native.Nat.{ℕ, zero, suc, _+_, _/_}
 use lib.Dec.{eqb}
 use lib.ListN.{length, drop}
 use lib.Seq.{sets}
-use Rattle.table.specs.declared.Table.{Table}
+use Rattle.table.specs.Table.{Table}
 use Rattle.book.specs.Load.{loads}
 use Rattle.load.specs.Step.{tableOf}
 use Rattle.verdict.specs.declared.Verdict.{Verdict}

@@ -1,9 +1,9 @@
 // The judging program's work, on slices.
 ghost use mathlib.Core.Path.{_≡_};
+ghost use Rattle.table.specs.Flat.{tableIn};
 ghost use Rattle.report.specs.Report.{reportOf, written, finishOf, Begins};
 use reader::Answer;
 use reader::Reader;
-use table::Table;
 
 // What a report gives: the reader, the bytes read of the piece, the bytes written to the output, and what the last feed answered.
 pub struct Reported {
@@ -15,8 +15,14 @@ pub struct Reported {
 
 // Feeds what is unread of a piece until a feed gives no verdict, and writes a line for each verdict, as many as the output has room for. Ruled out:
 // a report that drops the line of a verdict where the output ends, and one that feeds the same bytes again.
-pub fn report(r: Reader, t: Table, work: &mut [u8], piece: &[u8], out: &mut [u8]) -> Reported
-    ensures { λ x. ⌜ record { reader = x .reader; work = now (work .exit); read = x .read; out = now (out .exit); used = x .used; answer = x .answer } ≡ reportOf r t (now (work .entry)) (now (piece .entry)) (now (out .entry)) ⌝ }
+pub fn report<'a>(
+    r: Reader,
+    table: &'a [u8; 7920],
+    work: &mut [u8],
+    piece: &'a [u8],
+    out: &mut [u8],
+) -> Reported
+    ensures { λ x. ⌜ record { reader = x .reader; work = now (work .exit); read = x .read; out = now (out .exit); used = x .used; answer = x .answer } ≡ reportOf r (tableIn (now (table .entry))) (now (work .entry)) (now (piece .entry)) (now (out .entry)) ⌝ }
 {
     let lines = out.len() / 64;
     let mut next = r;
@@ -25,7 +31,7 @@ pub fn report(r: Reader, t: Table, work: &mut [u8], piece: &[u8], out: &mut [u8]
     let mut i = 0;
     while i < lines {
         i += 1;
-        let x = reader::feed(next, t, work, &piece[read..]);
+        let x = reader::feed(next, table, work, &piece[read..]);
         let a = x.answer;
         next = x.reader;
         read += x.count;
@@ -72,8 +78,8 @@ fn write_answer(out: &mut [u8], a: Answer) -> usize
 
 // Closes, and writes the line of the last verdict. Ruled out: a finish that closes where its line has no room, and one that forgets the verdict of a
 // record that no RS ended.
-pub fn finish(r: Reader, t: Table, work: &[u8], out: &mut [u8]) -> Reported
-    ensures { λ x. ⌜ record { reader = x .reader; work = now (work .entry); read = x .read; out = now (out .exit); used = x .used; answer = x .answer } ≡ finishOf r t (now (work .entry)) (now (out .entry)) ⌝ }
+pub fn finish<'a>(r: Reader, table: &'a [u8; 7920], work: &'a [u8], out: &mut [u8]) -> Reported
+    ensures { λ x. ⌜ record { reader = x .reader; work = now (work .entry); read = x .read; out = now (out .exit); used = x .used; answer = x .answer } ≡ finishOf r (tableIn (now (table .entry))) (now (work .entry)) (now (out .entry)) ⌝ }
 {
     if out.len() < 64 {
         return Reported {
@@ -83,7 +89,7 @@ pub fn finish(r: Reader, t: Table, work: &[u8], out: &mut [u8]) -> Reported
             answer: Answer::Quiet,
         };
     }
-    let x = reader::close(r, t, work);
+    let x = reader::close(r, table, work);
     let next = x.reader;
     let a = x.answer;
     let used = write_answer(out, a);
@@ -95,34 +101,29 @@ pub fn finish(r: Reader, t: Table, work: &[u8], out: &mut [u8]) -> Reported
     }
 }
 
-// What a book begins with: whether it is accepted, its table, and the bytes written to the output.
+// What a book begins with: whether it is accepted, and the bytes written to the output.
 pub struct Begun {
     pub accepted: bool,
-    pub table: Table,
     pub used: usize,
 }
 
 // Loads a book, and writes the names of a stream's fields, or the lines of its refusal. Ruled out: a program that judges by a refused book, and one
 // that gives the line of a refusal before its number.
-pub fn begin(book: &[u8], out: &mut [u8]) -> Begun
-    ensures { λ x. ⌜ Begins (now (book .entry)) (now (out .entry)) (x .accepted) (x .table) (now (out .exit)) (x .used) ⌝ }
+pub fn begin(book: &[u8], table: &mut [u8; 7920], out: &mut [u8]) -> Begun
+    ensures { λ x. ⌜ Begins (now (book .entry)) (now (out .entry)) (x .accepted) (tableIn (now (table .exit))) (now (out .exit)) (x .used) ⌝ }
 {
-    let x = load::load(book);
-    let a = x.answer;
-    let t = x.table;
+    let a = load::load(book, table);
     let number = load::number_of(a) as usize;
     if number == 0 {
         let used = text::write_names(out, 0);
         return Begun {
             accepted: true,
-            table: t,
             used: used,
         };
     }
     let used = text::write_book(out, 0, number, load::line_of(a));
     Begun {
         accepted: false,
-        table: t,
         used: used,
     }
 }

@@ -8,7 +8,7 @@ use native.Mathlib.Omega.{arith}
 use lib.Dec.{ltb, nltb→le}
 use lib.ListN.{length}
 use borrow.Author.Tests.{le-leb, ltb-false}
-use Rattle.table.specs.declared.Table.{Table}
+use Rattle.table.specs.Table.{Table}
 use Rattle.table.specs.Limits.{withinLimits}
 use Rattle.frame.specs.Frame.{frameCount}
 use Rattle.progress.specs.Memory.{Ran, runMem}

@@ -7,7 +7,7 @@ use Prim.Native.Nat.{ℕ}
 use lib.Dec.{eqb}
 use lib.ListN.{drop, replicate}
 use Rattle.laws.specs.Lists.{all}
-use Rattle.table.specs.declared.Table.{Table}
+use Rattle.table.specs.Table.{Table}
 use Rattle.book.specs.Entry.{Entry}
 use Rattle.verdict.specs.declared.Verdict.{Verdict}
 use Rattle.reader.specs.declared.Tally.{Tally}

@@ -1,2 +1,4 @@
+pub mod FlatLaws
 pub mod KindLaws
 pub mod LimitLaws
+pub mod SlotLaws

@@ -10,7 +10,7 @@ use lib.ListN.{length, getD, drop, drop-of-length-le}
 use lib.Seq.{drop-cons}
 use borrow.Author.Tests.{le-leb, leb-true}
 use Rattle.laws.proofs.TestLaws.{true-of-T, T-and-left, T-and-right}
-use Rattle.table.specs.declared.Table.{Table}
+use Rattle.table.specs.Table.{Table}
 use Rattle.table.specs.Limits.{WithinLimits, largest, fitLimits, withinLimits}
 
 -- ---- the largest number

@@ -4,7 +4,7 @@ use mathlib.Core.List.{List, [], _∷_}
 use Prim.Native.Nat.{ℕ, _≤_, max}
 use lib.Dec.{leb}
 use lib.ListN.{getD}
-use Rattle.table.specs.declared.Table.{Table}
+use Rattle.table.specs.Table.{Table}
 
 -- every number of a table is within its limit, in the entries that no edge or key uses too
 pub record WithinLimits (t : Table) : Type 0 where

@@ -1,9 +1,11 @@
 // The limits of a table's numbers: docs/LIMITS.md.
 ghost use mathlib.Core.Bool.{_&&_};
 ghost use mathlib.Core.Path.{_≡_};
-ghost use Prim.Native.Nat.{max};
+ghost use Prim.Native.Nat.{_+_, _≤_, max};
 ghost use lib.Dec.{leb};
-ghost use Rattle.table.specs.Limits.{largest as largestOf, fitLimits};
+ghost use Rattle.table.specs.Flat.{part, tableIn};
+ghost use Rattle.table.specs.Limits.{largest as largestOf, withinLimits};
+use crate::flat;
 
 fn larger(a: u8, b: u8) -> u8
     ensures { λ r. ⌜ r ≡ max a b ⌝ }
@@ -24,11 +26,14 @@ fn largest(xs: &[u8]) -> u8
     top
 }
 
-// No number is above the limit.
-fn within(xs: &[u8], limit: u8) -> bool
-    ensures { λ r. ⌜ r ≡ leb (largestOf (now (xs .entry))) limit ⌝ }
+// No number of a part is above the limit.
+fn within(t: &[u8; 7920], a: usize, n: usize, limit: u8) -> bool
+    requires { ⌜ a + n ≤ 7920 ⌝ }
+    ensures { λ r. ⌜ r ≡ leb (largestOf (part (now (t .entry)) a n)) limit ⌝ }
 {
-    largest(xs) <= limit
+    let s: &[u8] = t;
+    let e = a + n;
+    largest(&s[a..e]) <= limit
 }
 
 fn both(a: bool, b: bool) -> bool
@@ -37,27 +42,16 @@ fn both(a: bool, b: bool) -> bool
     if a { b } else { false }
 }
 
-// Every number of a table is within its limit. The arrays are the table's, lent one by one, so that no table is copied: of edges the
-// rules, states, key numbers, kinds and nexts, the lengths of keys, and the forms of rules.
-pub fn fit_limits<'a>(
-    edges: usize,
-    keys: usize,
-    rules: &'a [u8; 512],
-    states: &'a [u8; 512],
-    numbers: &'a [u8; 512],
-    kinds: &'a [u8; 512],
-    nexts: &'a [u8; 512],
-    lens: &'a [u8; 128],
-    forms: &'a [u8; 32],
-) -> bool
-    ensures { λ r. ⌜ r ≡ fitLimits edges keys (now (rules .entry)) (now (states .entry)) (now (numbers .entry)) (now (kinds .entry)) (now (nexts .entry)) (now (lens .entry)) (now (forms .entry)) ⌝ }
+// Every number of a table is within its limit.
+pub fn fit_limits(t: &[u8; 7920]) -> bool
+    ensures { λ r. ⌜ r ≡ withinLimits (tableIn (now (t .entry))) ⌝ }
 {
-    let f = within(forms, 2);
-    let l = both(within(lens, 32), f);
-    let n = both(within(nexts, 15), l);
-    let v = both(within(kinds, 37), n);
-    let k = both(within(numbers, 128), v);
-    let q = both(within(states, 15), k);
-    let r = both(within(rules, 31), q);
-    both(edges <= 512, both(keys <= 128, r))
+    let f = within(t, flat::FORM, 32, 2);
+    let l = both(within(t, flat::KEY_LEN, 128, 32), f);
+    let n = both(within(t, flat::NEXT, 512, 15), l);
+    let v = both(within(t, flat::KIND, 512, 37), n);
+    let k = both(within(t, flat::KEY, 512, 128), v);
+    let q = both(within(t, flat::STATE, 512, 15), k);
+    let r = both(within(t, flat::RULE, 512, 31), q);
+    both(flat::edges(t) <= 512, both(flat::keys(t) <= 128, r))
 }

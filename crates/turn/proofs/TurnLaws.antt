@@ -12,7 +12,7 @@ use Rattle.laws.specs.Tab.{tab}
 use Rattle.json.specs.Lexer.{stepOf}
 use Rattle.json.specs.declared.lexer.Top.the-variants as Is
 use Rattle.json.specs.declared.lexer.Step.{Step}
-use Rattle.table.specs.declared.Table.{Table}
+use Rattle.table.specs.Table.{Table}
 use Rattle.table.specs.declared.kind.Scalar.{Scalar}
 use Rattle.table.specs.declared.kind.Finished.the-variants as Done
 use Rattle.table.specs.Kind.{ruleFits}
@@ -27,7 +27,7 @@ use Rattle.progress.specs.declared.Task.the-variants as To
 use Rattle.progress.specs.declared.Advanced.{Advanced}
 use Rattle.progress.specs.Lex.{advanced}
 use Rattle.progress.specs.Memory.{Mem, mem, topAt, orUnknown, keyFound, valueAt, rulesAt, closeAt, perform, stepMem}
-use Rattle.turn.specs.Turn.{lent, keyIn, ClosedTo, turned}
+use Rattle.turn.specs.Turn.{ClosedTo, turned}
 
 -- ---- the innermost open value
 
@@ -56,25 +56,26 @@ top-array w l k n e f = simp (ne-eqb l 0 n, array-of-kind (isObject (frameAt w l
 pub put-past : (key : List ℕ) (len c : ℕ) → length key ≤ len → key ≡ set key len c
 put-past key len c h = sym (set-out key len c h)
 
-module _ (bytes lens : List ℕ) (keys : ℕ) (key : List ℕ) (len : ℕ) where
-  pub found-long : 32 < len → 255 ≡ keyIn bytes lens keys key len
-  unfolding keyIn
+module _ (t : Table) (key : List ℕ) (len : ℕ) where
+  pub found-long : 32 < len → 255 ≡ keyFound t key len
+  unfolding keyFound
   found-long h = rw (lt-ltb 32 len h)
 
-  pub found-known : (k : ℕ) → len ≤ 32 → keys ≤ 128 → k ≡ numberOf (tab (keyAt bytes lens) 0 keys) (take len key) → k < keys → k % 256 ≡ keyIn bytes lens keys key len
-  unfolding keyIn orUnknown
-  found-known k h m e l =
-      let small : k % 256 ≡ k = omega arith in
-      rw small (simp (le-ltb 32 len h, sym e, lt-ltb k keys l))
+  -- n: the count of keys as it was read
+  module _ (n k : ℕ) (h : len ≤ 32) (e : n ≡ t .keys) (f : k ≡ numberOf (tab (keyAt (t .«key_bytes») (t .«key_len»)) 0 n) (take len key)) where
+    found : k ≡ numberOf (tableKeys t) (take len key)
+    unfolding tableKeys
+    found = f ∙ ap (λ (i : ℕ). numberOf (tab (keyAt (t .«key_bytes») (t .«key_len»)) 0 i) (take len key)) e
 
-  pub found-unknown : (k : ℕ) → len ≤ 32 → k ≡ numberOf (tab (keyAt bytes lens) 0 keys) (take len key) → keys ≤ k → 255 ≡ keyIn bytes lens keys key len
-  unfolding keyIn orUnknown
-  found-unknown k h e l = simp (le-ltb 32 len h, sym e, le-ltb k keys l)
+    pub found-known : t .keys ≤ 128 → k < n → k % 256 ≡ keyFound t key len
+    unfolding keyFound orUnknown
+    found-known m l =
+        let small : k % 256 ≡ k = omega arith in
+        rw small (simp (le-ltb 32 len h, sym found, lt-ltb k (t .keys) (omega arith)))
 
--- of a table's keys it is the number that the memory asks for
-keyIn-keyFound : (t : Table) (key : List ℕ) (len : ℕ) → keyIn (t .«key_bytes») (t .«key_len») (t .keys) key len ≡ keyFound t key len
-unfolding keyIn keyFound tableKeys
-keyIn-keyFound t key len = refl
+    pub found-unknown : n ≤ k → 255 ≡ keyFound t key len
+    unfolding keyFound orUnknown
+    found-unknown l = simp (le-ltb 32 len h, sym found, le-ltb k (t .keys) (omega arith))
 
 -- ---- closing
 
@@ -105,9 +106,9 @@ module _ (t : Table) (m : Mem) (x : Lex) where
   pub put-done : (c : ℕ) (key : List ℕ) → key ≡ set (m .key) (m .lex .len) c → mem x (m .root) key (m .work) ≡ perform (To.Put c) t m x
   put-done c key e = rw e
 
-  pub named-done : (k : ℕ) (w : List ℕ) → k ≡ keyIn (t .«key_bytes») (t .«key_len») (t .keys) (m .key) (m .lex .len) → w ≡ putFrame (m .work) (m .lex .level) (keyed k (frameAt (m .work) (m .lex .level)))
+  pub named-done : (k : ℕ) (w : List ℕ) → k ≡ keyFound t (m .key) (m .lex .len) → w ≡ putFrame (m .work) (m .lex .level) (keyed k (frameAt (m .work) (m .lex .level)))
       → mem x (m .root) (m .key) w ≡ perform To.Named t m x
-  named-done k w e f = rw (f, e ∙ keyIn-keyFound t (m .key) (m .lex .len))
+  named-done k w e f = rw (f, e)
 
   pub array-done : (w : List ℕ) → w ≡ putFrame (m .work) (x .level) (opened (t .forms) false) → mem x (m .root) (m .key) w ≡ perform To.OpenArray t m x
   array-done w e = rw e
@@ -127,14 +128,14 @@ module _ (t : Table) (m : Mem) (x : Lex) where
   finish-done s w e = rw (valued-done s w e)
 
   pub close-done : (root : Bool) (w : List ℕ)
-      → ClosedTo (lent (t .edges) 0 (t .«edge_rule») (t .«edge_state») (t .«edge_key») (t .«edge_kind») (t .«edge_next») (t .«edge_rule») (t .«edge_rule») (t .ends) (t .forms)) (m .work) (m .lex .level) (m .root) root w
+      → ClosedTo t (m .work) (m .lex .level) (m .root) root w
       → mem x root (m .key) w ≡ perform To.Close t m x
   unfolding closeAt rulesAt valueAt
   close-done root w e = rw (e .root, e .work)
 
   pub number-close-done : (s : Scalar) (u : List ℕ) (root : Bool) (w : List ℕ)
       → u ≡ putFrame (m .work) (m .lex .level) (valued (edgesOf (t .edges) (t .«edge_rule») (t .«edge_state») (t .«edge_key») (t .«edge_next»)) (t .«edge_kind») (t .forms) (Done.Scalar s) (frameAt (m .work) (m .lex .level)))
-      → ClosedTo (lent (t .edges) 0 (t .«edge_rule») (t .«edge_state») (t .«edge_key») (t .«edge_kind») (t .«edge_next») (t .«edge_rule») (t .«edge_rule») (t .ends) (t .forms)) u (m .lex .level) (m .root) root w
+      → ClosedTo t u (m .lex .level) (m .root) root w
       → mem x root (m .key) w ≡ perform (To.NumberClose s) t m x
   unfolding closeAt rulesAt valueAt
   number-close-done s u root w g e = rw (e .root, e .work, g)

@@ -1,14 +1,17 @@
-// One byte that ends no record: what it does to the record, its key and its frames. The arrays of the table are lent one by one.
+// One byte that ends no record: what it does to the record, its key and its frames.
 ghost use mathlib.Core.Path.{_≡_};
 ghost use Prim.Native.Nat.{_-_, _≤_};
 ghost use lib.ListN.{length, set};
+ghost use Rattle.table.specs.Flat.{tableIn};
 ghost use Rattle.load.specs.Step.{Lens};
-ghost use Rattle.progress.specs.Memory.{mem, topAt};
-ghost use Rattle.turn.specs.Turn.{lent, keyIn, ClosedTo, turned};
+ghost use Rattle.progress.specs.Memory.{mem, topAt, keyFound};
+ghost use Rattle.turn.specs.Turn.{ClosedTo, turned};
 use json::lexer::Step;
 use json::lexer::Top;
 use progress::Lex;
 use progress::Task;
+use table::flat;
+use table::kind;
 use table::kind::Finished;
 
 // What is known of the record behind the byte, and whether its root fits rule 0.
@@ -41,15 +44,16 @@ pub fn put_char(key: &mut [u8], len: u8, c: u8)
 }
 
 // The number of the key in the book, or 255.
-fn key_found<'a>(key: &'a [u8], len: u8, bytes: &'a [u8], lens: &'a [u8; 128], keys: usize) -> u8
-    requires { ⌜ (keys ≤ 128) × Lens (now lens) × (length (now bytes) ≡ 4096) × (length (now key) ≡ 32) ⌝ }
-    ensures { λ r. ⌜ r ≡ keyIn (now (bytes .entry)) (now (lens .entry)) keys (now (key .entry)) len ⌝ }
+fn key_found<'a>(table: &'a [u8; 7920], key: &'a [u8], len: u8) -> u8
+    requires { ⌜ (tableIn (now table) .keys ≤ 128) × Lens (tableIn (now table) .«key_len») × (length (now key) ≡ 32) ⌝ }
+    ensures { λ r. ⌜ r ≡ keyFound (tableIn (now (table .entry))) (now (key .entry)) len ⌝ }
 {
     let n = len as usize;
     if 32 < n {
         return 255;
     }
-    let k = load::store::find_key(bytes, lens, keys, &key[..n]);
+    let keys = flat::keys(table);
+    let k = load::store::find_key(table, keys, &key[..n]);
     if k < keys {
         return (k % 256) as u8;
     }
@@ -67,73 +71,30 @@ fn down(level: usize) -> usize
 }
 
 // The value of a level is closed: it joins the level below; the root tells whether it fits rule 0.
-fn close_value<'a>(
-    work: &mut [u8],
-    level: usize,
-    root: bool,
-    edges: usize,
-    rules: &'a [u8; 512],
-    states: &'a [u8; 512],
-    edge_keys: &'a [u8; 512],
-    kinds: &'a [u8; 512],
-    nexts: &'a [u8; 512],
-    ends: &'a [u8; 64],
-    forms: &'a [u8; 32],
-) -> bool
-    ensures { λ r. ⌜ ClosedTo (lent edges 0 (now (rules .entry)) (now (states .entry)) (now («edge_keys» .entry)) (now (kinds .entry)) (now (nexts .entry)) (now (rules .entry)) (now (rules .entry)) (now (ends .entry)) (now (forms .entry))) (now (work .entry)) level root r (now (work .exit)) ⌝ }
+fn close_value(work: &mut [u8], level: usize, root: bool, table: &[u8; 7920]) -> bool
+    ensures { λ r. ⌜ ClosedTo (tableIn (now (table .entry))) (now (work .entry)) level root r (now (work .exit)) ⌝ }
 {
-    let set = frame::close_level(
-        work,
-        level,
-        edges,
-        rules,
-        states,
-        edge_keys,
-        nexts,
-        forms,
-        ends,
-    );
-    frame::value_level(
-        work,
-        down(level),
-        edges,
-        rules,
-        states,
-        edge_keys,
-        kinds,
-        nexts,
-        forms,
-        Finished::Rules(set),
-    );
+    let set = frame::close_level(work, level, table);
+    frame::value_level(work, down(level), table, Finished::Rules(set));
     if level == 1 {
-        return table::kind::rule_fits(set, 0);
+        return kind::rule_fits(set, 0);
     }
     root
 }
 
 // The byte b, of which the lexer makes the step st: the record behind it, its key and its frames.
-pub fn turn<'a>(
+pub fn turn(
     st: Step,
     x: Lex,
     root: bool,
     key: &mut [u8],
     work: &mut [u8],
     frames: usize,
-    edges: usize,
-    keys: usize,
-    rules: &'a [u8; 512],
-    states: &'a [u8; 512],
-    edge_keys: &'a [u8; 512],
-    kinds: &'a [u8; 512],
-    nexts: &'a [u8; 512],
-    bytes: &'a [u8; 4096],
-    lens: &'a [u8; 128],
-    ends: &'a [u8; 64],
-    forms: &'a [u8; 32],
+    table: &[u8; 7920],
     b: u8,
 ) -> Turned
-    requires { ⌜ (keys ≤ 128) × Lens (now lens) × (length (now key) ≡ 32) ⌝ }
-    ensures { λ r. ⌜ mem (r .lex) (r .root) (now (key .exit)) (now (work .exit)) ≡ turned (lent edges keys (now (rules .entry)) (now (states .entry)) (now («edge_keys» .entry)) (now (kinds .entry)) (now (nexts .entry)) (now (bytes .entry)) (now (lens .entry)) (now (ends .entry)) (now (forms .entry))) frames (mem x root (now (key .entry)) (now (work .entry))) b st ⌝ }
+    requires { ⌜ (tableIn (now table) .keys ≤ 128) × Lens (tableIn (now table) .«key_len») × (length (now key) ≡ 32) ⌝ }
+    ensures { λ r. ⌜ mem (r .lex) (r .root) (now (key .exit)) (now (work .exit)) ≡ turned (tableIn (now (table .entry))) frames (mem x root (now (key .entry)) (now (work .entry))) b st ⌝ }
 {
     let level = x.level;
     let len = x.len;
@@ -154,7 +115,7 @@ pub fn turn<'a>(
             }
         }
         Task::Named => {
-            let k = key_found(key, len, bytes, lens, keys);
+            let k = key_found(table, key, len);
             frame::key_level(work, level, k);
             Turned {
                 lex: next,
@@ -162,100 +123,43 @@ pub fn turn<'a>(
             }
         }
         Task::OpenArray => {
-            frame::open_level(work, up, false, forms);
+            frame::open_level(work, up, false, table);
             Turned {
                 lex: next,
                 root: root,
             }
         }
         Task::OpenObject => {
-            frame::open_level(work, up, true, forms);
+            frame::open_level(work, up, true, table);
             Turned {
                 lex: next,
                 root: root,
             }
         }
         Task::Finish(s) => {
-            frame::value_level(
-                work,
-                level,
-                edges,
-                rules,
-                states,
-                edge_keys,
-                kinds,
-                nexts,
-                forms,
-                Finished::Scalar(s),
-            );
+            frame::value_level(work, level, table, Finished::Scalar(s));
             Turned {
                 lex: next,
                 root: root,
             }
         }
         Task::Number(s) => {
-            frame::value_level(
-                work,
-                level,
-                edges,
-                rules,
-                states,
-                edge_keys,
-                kinds,
-                nexts,
-                forms,
-                Finished::Scalar(s),
-            );
+            frame::value_level(work, level, table, Finished::Scalar(s));
             Turned {
                 lex: next,
                 root: root,
             }
         }
         Task::Close => {
-            let fit = close_value(
-                work,
-                level,
-                root,
-                edges,
-                rules,
-                states,
-                edge_keys,
-                kinds,
-                nexts,
-                ends,
-                forms,
-            );
+            let fit = close_value(work, level, root, table);
             Turned {
                 lex: next,
                 root: fit,
             }
         }
         Task::NumberClose(s) => {
-            frame::value_level(
-                work,
-                level,
-                edges,
-                rules,
-                states,
-                edge_keys,
-                kinds,
-                nexts,
-                forms,
-                Finished::Scalar(s),
-            );
-            let fit = close_value(
-                work,
-                level,
-                root,
-                edges,
-                rules,
-                states,
-                edge_keys,
-                kinds,
-                nexts,
-                ends,
-                forms,
-            );
+            frame::value_level(work, level, table, Finished::Scalar(s));
+            let fit = close_value(work, level, root, table);
             Turned {
                 lex: next,
                 root: fit,

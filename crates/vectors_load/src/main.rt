@@ -5,8 +5,8 @@ const BOOKS: usize = 71;
 
 // The answer for a book, on a line.
 fn tell(book: &[u8]) {
-    let r = load::load(book);
-    let a = r.answer;
+    let mut table = [0u8; 7920];
+    let a = load::load(book, &mut table);
     io::print_decimal(STDOUT_FILENO, load::number_of(a) as u64);
     io::write_all(STDOUT_FILENO, b" ");
     io::print_decimal(STDOUT_FILENO, load::line_of(a) as u64);

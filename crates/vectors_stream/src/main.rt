@@ -1,15 +1,12 @@
 // Makes the calls of data/calls, one after the other, and writes what each answers: CALLS.md says how a call is written.
 use libc::STDOUT_FILENO;
-use load::Loaded;
 use reader::Answer;
 use reader::Reader;
 use reader::Refusal;
-use table::Table;
 use verdict::Verdict;
 
 // What the calls share.
 struct State {
-    table: Table,
     reader: Reader,
     // the bytes lent as work buffer
     size: usize,
@@ -78,8 +75,7 @@ fn fill(work: &mut [u8], b: u8) {
 }
 
 // Calls on the first bytes of the buffer.
-fn on_buffer(s: State, op: u8, work: &mut [u8], piece: &[u8]) -> State {
-    let t = s.table;
+fn on_buffer<'a>(s: State, op: u8, t: &'a [u8; 7920], work: &mut [u8], piece: &'a [u8]) -> State {
     let r = s.reader;
     if op == 115 {
         let x = Reader::start(t, work);
@@ -87,7 +83,6 @@ fn on_buffer(s: State, op: u8, work: &mut [u8], piece: &[u8]) -> State {
         let next = x.reader;
         say_answer(0, a);
         return State {
-            table: t,
             reader: next,
             size: s.size,
         };
@@ -98,7 +93,6 @@ fn on_buffer(s: State, op: u8, work: &mut [u8], piece: &[u8]) -> State {
         let next = x.reader;
         say_answer(x.count, a);
         return State {
-            table: t,
             reader: next,
             size: s.size,
         };
@@ -109,7 +103,6 @@ fn on_buffer(s: State, op: u8, work: &mut [u8], piece: &[u8]) -> State {
     say_answer(0, a);
     say_tally(next);
     State {
-        table: t,
         reader: next,
         size: s.size,
     }
@@ -117,51 +110,29 @@ fn on_buffer(s: State, op: u8, work: &mut [u8], piece: &[u8]) -> State {
 
 // One call: s start, f feed, c close; b loads a book, e gives its table a count of edges, n gives the buffer's size, w fills the
 // buffer with a byte.
-fn call(s: State, op: u8, n: usize, work: &mut [u8], piece: &[u8]) -> State {
-    let t = s.table;
-    let r = s.reader;
+fn call(s: State, op: u8, n: usize, t: &mut [u8; 7920], work: &mut [u8], piece: &[u8]) -> State {
     let size = s.size;
     if op == 98 {
-        let x = load::load(piece);
-        let u = x.table;
-        return State {
-            table: u,
-            reader: r,
-            size: size,
-        };
+        load::load(piece, t);
+        return s;
     }
     if op == 110 {
-        return State {
-            table: t,
-            reader: r,
-            size: n,
-        };
+        let r = s.reader;
+        return State { reader: r, size: n };
     }
     if op == 101 {
-        let mut u = t;
-        u.edges = n;
-        return State {
-            table: u,
-            reader: r,
-            size: size,
-        };
+        t[0] = (n % 256) as u8;
+        t[1] = (n / 256 % 256) as u8;
+        return s;
     }
     if op == 119 {
         fill(work, (n % 256) as u8);
-        return State {
-            table: t,
-            reader: r,
-            size: size,
-        };
+        return s;
     }
     if size <= work.len() {
-        return on_buffer(s, op, &mut work[..size], piece);
+        return on_buffer(s, op, t, &mut work[..size], piece);
     }
-    State {
-        table: t,
-        reader: r,
-        size: size,
-    }
+    s
 }
 
 fn two(low: u8, high: u8) -> usize {
@@ -182,15 +153,10 @@ fn pair(calls: &[u8], i: usize) -> usize {
 // The calls, each behind five bytes: which, a number, and the length of its bytes.
 fn run(calls: &[u8], work: &mut [u8]) {
     let n = calls.len();
-    let none = load::load(b"");
-    let t = none.table;
-    let began = Reader::start(t, work);
+    let mut table = [0u8; 7920];
+    let began = Reader::start(&table, work);
     let r = began.reader;
-    let mut s = State {
-        table: t,
-        reader: r,
-        size: 0,
-    };
+    let mut s = State { reader: r, size: 0 };
     let mut i: usize = 0;
     while 5 <= n - i {
         let op = calls[i];
@@ -200,7 +166,7 @@ fn run(calls: &[u8], work: &mut [u8]) {
         if n - i < m {
             return;
         }
-        s = call(s, op, k, work, &calls[i..i + m]);
+        s = call(s, op, k, &mut table, work, &calls[i..i + m]);
         i += m;
     }
 }

@@ -8,10 +8,15 @@ use crate::verdicts;
 use crate::verdicts::Stream;
 use crate::verdicts::Verdicts;
 use libc::STDOUT_FILENO;
-use table::Table;
 
 // The bytes, in pieces of the given size.
-fn feed_cut(t: Table, s: Stream, work: &mut [u8], bytes: &[u8], size: usize) -> Stream
+fn feed_cut<'a>(
+    t: &'a [u8; 7920],
+    s: Stream,
+    work: &mut [u8],
+    bytes: &'a [u8],
+    size: usize,
+) -> Stream
     requires { ⌜ 0 < size ⌝ }
 {
     let mut now = s;
@@ -28,7 +33,14 @@ fn feed_cut(t: Table, s: Stream, work: &mut [u8], bytes: &[u8], size: usize) -> 
 }
 
 // The content of an open file, of at most 1,024 buffers.
-fn feed_file(t: Table, s: Stream, work: &mut [u8], space: &mut [u8], fd: i32, size: usize) -> Stream
+fn feed_file(
+    t: &[u8; 7920],
+    s: Stream,
+    work: &mut [u8],
+    space: &mut [u8],
+    fd: i32,
+    size: usize,
+) -> Stream
     requires { ⌜ 0 < size ⌝ }
 {
     let mut now = s;
@@ -45,7 +57,7 @@ fn feed_file(t: Table, s: Stream, work: &mut [u8], space: &mut [u8], fd: i32, si
 }
 
 // The verdicts of a file in pieces of the given size. One that cannot be read counts as empty, and says so.
-fn judge(t: Table, name: &[u8], size: usize, work: &mut [u8], space: &mut [u8]) -> Verdicts
+fn judge(t: &[u8; 7920], name: &[u8], size: usize, work: &mut [u8], space: &mut [u8]) -> Verdicts
     requires { ⌜ 0 < size ⌝ }
 {
     let began = verdicts::begin(t, work);
@@ -61,7 +73,14 @@ fn judge(t: Table, name: &[u8], size: usize, work: &mut [u8], space: &mut [u8]) 
 }
 
 // Says where pieces of the given size lead to other verdicts.
-fn compare(t: Table, name: &[u8], size: usize, whole: Verdicts, work: &mut [u8], space: &mut [u8])
+fn compare(
+    t: &[u8; 7920],
+    name: &[u8],
+    size: usize,
+    whole: Verdicts,
+    work: &mut [u8],
+    space: &mut [u8],
+)
     requires { ⌜ 0 < size ⌝ }
 {
     let cut = judge(t, name, size, work, space);
@@ -75,7 +94,7 @@ fn compare(t: Table, name: &[u8], size: usize, whole: Verdicts, work: &mut [u8],
 }
 
 // One file in small pieces.
-fn compare_all(t: Table, name: &[u8], whole: Verdicts, work: &mut [u8], space: &mut [u8]) {
+fn compare_all(t: &[u8; 7920], name: &[u8], whole: Verdicts, work: &mut [u8], space: &mut [u8]) {
     compare(t, name, 1, whole, work, space);
     compare(t, name, 2, whole, work, space);
     compare(t, name, 3, whole, work, space);
@@ -83,7 +102,7 @@ fn compare_all(t: Table, name: &[u8], whole: Verdicts, work: &mut [u8], space: &
 }
 
 // One file: whether it is JSON.
-fn run_file(t: Table, name: &[u8], work: &mut [u8], space: &mut [u8]) -> bool {
+fn run_file(t: &[u8; 7920], name: &[u8], work: &mut [u8], space: &mut [u8]) -> bool {
     let whole = judge(t, name, 65536, work, space);
     verdicts::say_all(name, whole);
     compare_all(t, name, whole, work, space);
@@ -133,7 +152,13 @@ fn line_end(names: &[u8], at: usize) -> usize
 }
 
 // Each file that has a line in names.
-fn run_names(t: Table, names: &[u8], work: &mut [u8], space: &mut [u8], counts: &mut [u32; 6]) {
+fn run_names(
+    t: &[u8; 7920],
+    names: &[u8],
+    work: &mut [u8],
+    space: &mut [u8],
+    counts: &mut [u32; 6],
+) {
     let mut at: usize = 0;
     while at < names.len() {
         let e = line_end(names, at);
@@ -187,12 +212,12 @@ fn content(path: &[u8], space: &mut [u8]) -> usize
 pub fn run() {
     let mut space = io::large_buffer();
     let n = content(b"book.txt", &mut space);
-    let loaded = load::load(&space[..n]);
-    let t = loaded.table;
+    let mut t = [0u8; 7920];
+    load::load(&space[..n], &mut t);
     let mut names = io::large_buffer();
     let m = content(b"names", &mut names);
     let mut work = [0u8; 6144];
     let mut counts = [0u32; 6];
-    run_names(t, &names[..m], &mut work, &mut space, &mut counts);
+    run_names(&t, &names[..m], &mut work, &mut space, &mut counts);
     say_summary(&counts);
 }

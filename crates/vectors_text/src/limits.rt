@@ -2,26 +2,25 @@
 // and the bytes of the buffer.
 use crate::long;
 use crate::nest;
-use table::Table;
 
 // Any tree of arrays, and of objects with the key a; strings and numbers in arrays.
-fn array_book() -> Table {
-    let x = load::load(
+fn array_book(t: &mut [u8; 7920]) {
+    load::load(
         b"rule form state key value next\n0 arr 0 - str 0\n0 arr 0 - num 0\n0 arr 0 - r0 0\n0 arr 0 - r1 0\n0 arr 0 - end -\n1 obj 0 a r0 1\n1 obj 0 a r1 1\n1 obj 0 - end -\n1 obj 1 - end -\n",
+        t,
     );
-    x.table
 }
 
 // Any tree of objects with the key a.
-fn object_book() -> Table {
-    let x = load::load(
+fn object_book(t: &mut [u8; 7920]) {
+    load::load(
         b"rule form state key value next\n0 obj 0 a r0 1\n0 obj 0 - end -\n0 obj 1 - end -\n",
+        t,
     );
-    x.table
 }
 
 // Records that are JSON as long as they are not too long.
-fn sound_ones(t: Table, work: &mut [u8; 6144], space: &mut [u8; 65536]) {
+fn sound_ones(t: &[u8; 7920], work: &mut [u8; 6144], space: &mut [u8; 65536]) {
     long::run_three(t, work, space, b"string", b"[\"", b"a", b"\"]");
     long::run_two(t, work, space, b"blanks-before", b"", b" ", b"[]");
     long::run_two(t, work, space, b"blanks-behind", b"[]", b"\n", b"");
@@ -30,7 +29,7 @@ fn sound_ones(t: Table, work: &mut [u8; 6144], space: &mut [u8; 65536]) {
 }
 
 // Records whose last byte is a fault, that break off, or that are lost from the first bytes on.
-fn broken_ones(t: Table, work: &mut [u8; 6144], space: &mut [u8; 65536]) {
+fn broken_ones(t: &[u8; 7920], work: &mut [u8; 6144], space: &mut [u8; 65536]) {
     long::run_two(t, work, space, b"malformed-last", b"[", b" ", b"x");
     long::run_two(t, work, space, b"malformed-first", b"x", b" ", b"");
     long::run_two(
@@ -47,7 +46,7 @@ fn broken_ones(t: Table, work: &mut [u8; 6144], space: &mut [u8; 65536]) {
 }
 
 // Buffers of k frames to the byte, with all but a byte of one more, and beyond 64 frames.
-fn buffers(t: Table, u: Table, work: &mut [u8; 12288]) {
+fn buffers(t: &[u8; 7920], u: &[u8; 7920], work: &mut [u8; 12288]) {
     nest::run_two(t, u, work, 96, 191, 1);
     nest::run_two(t, u, work, 192, 287, 1);
     nest::run_two(t, u, work, 5952, 6047, 61);
@@ -58,16 +57,18 @@ fn buffers(t: Table, u: Table, work: &mut [u8; 12288]) {
 
 // All of them.
 pub fn run() {
-    let t = array_book();
-    let u = object_book();
+    let mut t = [0u8; 7920];
+    array_book(&mut t);
+    let mut u = [0u8; 7920];
+    object_book(&mut u);
     let mut large = [0u8; 12288];
-    buffers(t, u, &mut large);
-    nest::run_texts(t);
-    nest::pairs(t, &mut large);
+    buffers(&t, &u, &mut large);
+    nest::run_texts(&t);
+    nest::pairs(&t, &mut large);
     let mut work = [0u8; 6144];
     let mut space = [0u8; 65536];
-    sound_ones(t, &mut work, &mut space);
-    broken_ones(t, &mut work, &mut space);
-    long::pair(t, &mut work, &mut space);
-    long::head(t, &mut work, &mut space);
+    sound_ones(&t, &mut work, &mut space);
+    broken_ones(&t, &mut work, &mut space);
+    long::pair(&t, &mut work, &mut space);
+    long::head(&t, &mut work, &mut space);
 }

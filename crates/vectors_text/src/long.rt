@@ -2,7 +2,6 @@
 use crate::verdicts;
 use crate::verdicts::Stream;
 use libc::STDOUT_FILENO;
-use table::Table;
 
 const BLOCK: usize = 65536;
 
@@ -19,7 +18,13 @@ fn fill(space: &mut [u8; 65536], unit: &[u8]) {
 }
 
 // As many bytes as asked, of the block over and over.
-fn feed_many(t: Table, s: Stream, work: &mut [u8; 6144], block: &[u8], n: usize) -> Stream {
+fn feed_many<'a>(
+    t: &'a [u8; 7920],
+    s: Stream,
+    work: &mut [u8; 6144],
+    block: &'a [u8],
+    n: usize,
+) -> Stream {
     if block.len() == 0 {
         return s;
     }
@@ -33,14 +38,14 @@ fn feed_many(t: Table, s: Stream, work: &mut [u8; 6144], block: &[u8], n: usize)
 }
 
 // A record of so many bytes; nothing where its first and last bytes are more.
-fn feed_long(
-    t: Table,
+fn feed_long<'a>(
+    t: &'a [u8; 7920],
     s: Stream,
     work: &mut [u8; 6144],
     bytes: usize,
-    first: &[u8],
-    block: &[u8; 65536],
-    last: &[u8],
+    first: &'a [u8],
+    block: &'a [u8; 65536],
+    last: &'a [u8],
 ) -> Stream {
     if bytes < first.len() {
         return s;
@@ -61,15 +66,15 @@ fn say_label(label: &[u8], bytes: usize) {
 }
 
 // A record alone in its stream, with 64 frames.
-fn run(
-    t: Table,
+fn run<'a>(
+    t: &'a [u8; 7920],
     work: &mut [u8; 6144],
     space: &mut [u8; 65536],
     label: &[u8],
     bytes: usize,
-    first: &[u8],
+    first: &'a [u8],
     unit: &[u8],
-    last: &[u8],
+    last: &'a [u8],
 ) {
     fill(space, unit);
     let began = verdicts::begin(t, work);
@@ -81,35 +86,35 @@ fn run(
 }
 
 // A record of as many bytes as a record can have, and one of a byte more.
-pub fn run_two(
-    t: Table,
+pub fn run_two<'a>(
+    t: &'a [u8; 7920],
     work: &mut [u8; 6144],
     space: &mut [u8; 65536],
     label: &[u8],
-    first: &[u8],
+    first: &'a [u8],
     unit: &[u8],
-    last: &[u8],
+    last: &'a [u8],
 ) {
     run(t, work, space, label, 16777216, first, unit, last);
     run(t, work, space, label, 16777217, first, unit, last);
 }
 
 // The same, with one of a byte less before them.
-pub fn run_three(
-    t: Table,
+pub fn run_three<'a>(
+    t: &'a [u8; 7920],
     work: &mut [u8; 6144],
     space: &mut [u8; 65536],
     label: &[u8],
-    first: &[u8],
+    first: &'a [u8],
     unit: &[u8],
-    last: &[u8],
+    last: &'a [u8],
 ) {
     run(t, work, space, label, 16777215, first, unit, last);
     run_two(t, work, space, label, first, unit, last);
 }
 
 // A record that is too long, and one behind it.
-pub fn pair(t: Table, work: &mut [u8; 6144], space: &mut [u8; 65536]) {
+pub fn pair(t: &[u8; 7920], work: &mut [u8; 6144], space: &mut [u8; 65536]) {
     fill(space, b"[\"a\",1],");
     let began = verdicts::begin(t, work);
     let open = verdicts::feed_all(t, began, work, b"\x1e[");
@@ -120,7 +125,7 @@ pub fn pair(t: Table, work: &mut [u8; 6144], space: &mut [u8; 65536]) {
 }
 
 // A head that would be too long for a record, and a record behind it.
-pub fn head(t: Table, work: &mut [u8; 6144], space: &mut [u8; 65536]) {
+pub fn head(t: &[u8; 7920], work: &mut [u8; 6144], space: &mut [u8; 65536]) {
     fill(space, b" ");
     let began = verdicts::begin(t, work);
     let s = feed_many(t, began, work, space, 16777217);

@@ -2,7 +2,6 @@
 use crate::verdicts;
 use crate::verdicts::Stream;
 use libc::STDOUT_FILENO;
-use table::Table;
 
 pub enum Shape {
     Arrays,
@@ -20,7 +19,7 @@ fn is_object(shape: Shape, i: usize) -> bool {
 }
 
 // Opens a level: an object gets a key where another level comes.
-fn open_level(t: Table, s: Stream, work: &mut [u8], object: bool, innermost: bool) -> Stream {
+fn open_level(t: &[u8; 7920], s: Stream, work: &mut [u8], object: bool, innermost: bool) -> Stream {
     if object {
         if innermost {
             return verdicts::feed_all(t, s, work, b"{");
@@ -30,14 +29,14 @@ fn open_level(t: Table, s: Stream, work: &mut [u8], object: bool, innermost: boo
     verdicts::feed_all(t, s, work, b"[")
 }
 
-fn close_level(t: Table, s: Stream, work: &mut [u8], object: bool) -> Stream {
+fn close_level(t: &[u8; 7920], s: Stream, work: &mut [u8], object: bool) -> Stream {
     if object {
         return verdicts::feed_all(t, s, work, b"}");
     }
     verdicts::feed_all(t, s, work, b"]")
 }
 
-fn open_levels(t: Table, s: Stream, work: &mut [u8], shape: Shape, levels: usize) -> Stream {
+fn open_levels(t: &[u8; 7920], s: Stream, work: &mut [u8], shape: Shape, levels: usize) -> Stream {
     let mut now = s;
     let mut i: usize = 0;
     while i < levels {
@@ -47,7 +46,7 @@ fn open_levels(t: Table, s: Stream, work: &mut [u8], shape: Shape, levels: usize
     now
 }
 
-fn close_levels(t: Table, s: Stream, work: &mut [u8], shape: Shape, levels: usize) -> Stream {
+fn close_levels(t: &[u8; 7920], s: Stream, work: &mut [u8], shape: Shape, levels: usize) -> Stream {
     let mut now = s;
     let mut i = levels;
     while 0 < i {
@@ -74,14 +73,21 @@ fn say_label(shape: Shape, levels: usize, end: &[u8], size: usize) {
 }
 
 // A stream that ends here.
-fn say_end(t: Table, s: Stream, work: &[u8], shape: Shape, levels: usize, end: &[u8]) {
+fn say_end<'a>(
+    t: &'a [u8; 7920],
+    s: Stream,
+    work: &'a [u8],
+    shape: Shape,
+    levels: usize,
+    end: &[u8],
+) {
     let vs = verdicts::end(t, s, work);
     say_label(shape, levels, end, work.len());
     verdicts::say_all(b"", vs);
 }
 
 // A record of so many levels, alone in its stream: left open, and closed. A close leaves the buffer, so the second goes on where the first ended.
-fn run_shape(t: Table, work: &mut [u8], shape: Shape, levels: usize) {
+fn run_shape(t: &[u8; 7920], work: &mut [u8], shape: Shape, levels: usize) {
     let began = verdicts::begin(t, work);
     let first = verdicts::feed_all(t, began, work, b"\x1e");
     let open = open_levels(t, first, work, shape, levels);
@@ -91,7 +97,7 @@ fn run_shape(t: Table, work: &mut [u8], shape: Shape, levels: usize) {
 }
 
 // Records of each number of levels from the least to below the other.
-fn run_levels(t: Table, u: Table, work: &mut [u8], least: usize, other: usize) {
+fn run_levels(t: &[u8; 7920], u: &[u8; 7920], work: &mut [u8], least: usize, other: usize) {
     let mut levels = least;
     while levels < other {
         run_shape(t, work, Shape::Arrays, levels);
@@ -102,21 +108,28 @@ fn run_levels(t: Table, u: Table, work: &mut [u8], least: usize, other: usize) {
 }
 
 // The same on the first bytes of the buffer.
-fn run(t: Table, u: Table, work: &mut [u8], size: usize, least: usize, other: usize) {
+fn run(t: &[u8; 7920], u: &[u8; 7920], work: &mut [u8], size: usize, least: usize, other: usize) {
     if size <= work.len() {
         run_levels(t, u, &mut work[..size], least, other);
     }
 }
 
 // Four numbers of levels on buffers of two sizes.
-pub fn run_two(t: Table, u: Table, work: &mut [u8], size: usize, larger: usize, least: u8) {
+pub fn run_two(
+    t: &[u8; 7920],
+    u: &[u8; 7920],
+    work: &mut [u8],
+    size: usize,
+    larger: usize,
+    least: u8,
+) {
     let levels = least as usize;
     run(t, u, work, size, levels, levels + 4);
     run(t, u, work, larger, levels, levels + 4);
 }
 
 // A text on one frame, which is its own label.
-fn run_text(t: Table, work: &mut [u8; 96], text: &[u8]) {
+fn run_text<'a>(t: &'a [u8; 7920], work: &mut [u8; 96], text: &'a [u8]) {
     let began = verdicts::begin(t, work);
     let first = verdicts::feed_all(t, began, work, b"\x1e");
     let last = verdicts::feed_all(t, first, work, text);
@@ -125,7 +138,7 @@ fn run_text(t: Table, work: &mut [u8; 96], text: &[u8]) {
 }
 
 // Second openings on one frame: too deep where a value can stand, malformed where none can.
-pub fn run_texts(t: Table) {
+pub fn run_texts(t: &[u8; 7920]) {
     let mut work = [0u8; 96];
     run_text(t, &mut work, b"[[");
     run_text(t, &mut work, b"[{");
@@ -137,7 +150,7 @@ pub fn run_texts(t: Table) {
 }
 
 // Arrays left open, and behind them 64 that are closed.
-fn pair(t: Table, work: &mut [u8; 12288], label: &[u8], levels: usize) {
+fn pair(t: &[u8; 7920], work: &mut [u8; 12288], label: &[u8], levels: usize) {
     let began = verdicts::begin(t, work);
     let first = verdicts::feed_all(t, began, work, b"\x1e");
     let open = open_levels(t, first, work, Shape::Arrays, levels);
@@ -149,7 +162,7 @@ fn pair(t: Table, work: &mut [u8; 12288], label: &[u8], levels: usize) {
 }
 
 // A record that fails, and one behind it: the second is judged as it is alone.
-pub fn pairs(t: Table, work: &mut [u8; 12288]) {
+pub fn pairs(t: &[u8; 7920], work: &mut [u8; 12288]) {
     pair(t, work, b"alone", 0);
     pair(t, work, b"broken-off-then-sound", 64);
     pair(t, work, b"too-deep-then-sound", 65);

@@ -3,7 +3,6 @@ use crate::say;
 use libc::STDOUT_FILENO;
 use reader::Answer;
 use reader::Reader;
-use table::Table;
 use verdict::Verdict;
 
 // The verdicts that are kept.
@@ -78,7 +77,7 @@ fn noted(r: Reader, vs: Verdicts, a: Answer) -> Stream {
 }
 
 // A fresh reader for the buffer.
-pub fn begin(t: Table, work: &[u8]) -> Stream {
+pub fn begin<'a>(t: &'a [u8; 7920], work: &'a [u8]) -> Stream {
     let x = Reader::start(t, work);
     let r = x.reader;
     let a = x.answer;
@@ -87,7 +86,7 @@ pub fn begin(t: Table, work: &[u8]) -> Stream {
 }
 
 // The whole piece: what feed leaves unread behind a verdict is fed again.
-pub fn feed_all(t: Table, s: Stream, work: &mut [u8], piece: &[u8]) -> Stream {
+pub fn feed_all<'a>(t: &'a [u8; 7920], s: Stream, work: &mut [u8], piece: &'a [u8]) -> Stream {
     let mut now = s;
     let mut at: usize = 0;
     while at < piece.len() {
@@ -110,7 +109,7 @@ pub fn feed_all(t: Table, s: Stream, work: &mut [u8], piece: &[u8]) -> Stream {
 }
 
 // The verdicts of a stream that ends here.
-pub fn end(t: Table, s: Stream, work: &[u8]) -> Verdicts {
+pub fn end<'a>(t: &'a [u8; 7920], s: Stream, work: &'a [u8]) -> Verdicts {
     let r = s.reader;
     let vs = s.verdicts;
     let x = reader::close(r, t, work);

@@ -1,6 +1,7 @@
 -- `open_level` meets its contract: without a frame nothing is written, and the frame that is lent comes back as the operation made it. Assumes nothing.
 use Rattle.frame.proofs.LevelLaws.{fits-of-place, none-of-place, putFrame-none, putFrame-of-lent}
 use Rattle.frame.specs.Ops.{opened}
+use Rattle.table.specs.Flat.{tableIn}
 use borrow.Author.Needs.{needs}
 use native.Mathlib.Omega.{arith}
 use Rattle.frame.proofs.open_level.Statement.{statement}
@@ -16,7 +17,7 @@ open-frame-requires : tie.Need-open-frame-requires
 open-frame-requires c κs = omega (arith, fits-of-place _ _ _ (c .before .before .place .ensures) (c .before .if1 .taken))
 
 returns : tie.Need-returns
-returns c = let a = c .before .before .before .before .before .before .before .args in putFrame-of-lent _ _ _ (c .before .before .before .before .before .place .ensures) (c .before .before .before .before .if1 .taken) (λ f. opened (a .forms .now) (a .object)) _ (c .before .before .open-frame .ensures)
+returns c = let a = c .before .before .before .before .before .before .before .args in putFrame-of-lent _ _ _ (c .before .before .before .before .before .place .ensures) (c .before .before .before .before .if1 .taken) (λ f. opened (tableIn (a .table .now) .forms) (a .object)) _ (c .before .before .open-frame .ensures)
 
 returns-2 : tie.Need-returns-2
 returns-2 c = putFrame-none _ _ _ (none-of-place _ _ _ (c .before .place .ensures) (c .if1 .left))

@@ -1,7 +1,8 @@
 -- `value_level` meets its contract: without a frame nothing is written, and the frame that is lent comes back as the operation made it. Assumes nothing.
 use Rattle.frame.proofs.LevelLaws.{fits-of-place, none-of-place, putFrame-none, putFrame-of-lent}
-use Rattle.frame.specs.Edges.{edgesOf}
+use Rattle.frame.specs.Edges.{edgesIn}
 use Rattle.frame.specs.Ops.{valued}
+use Rattle.table.specs.Flat.{tableIn}
 use borrow.Author.Needs.{needs}
 use native.Mathlib.Omega.{arith}
 use Rattle.frame.proofs.value_level.Statement.{statement}
@@ -17,7 +18,7 @@ value-frame-requires : tie.Need-value-frame-requires
 value-frame-requires c κs = omega (arith, fits-of-place _ _ _ (c .before .before .place .ensures) (c .before .if1 .taken))
 
 returns : tie.Need-returns
-returns c = let a = c .before .before .before .before .before .before .before .args in putFrame-of-lent _ _ _ (c .before .before .before .before .before .place .ensures) (c .before .before .before .before .if1 .taken) (valued (edgesOf (a .edges) (a .rules .now) (a .states .now) (a .keys .now) (a .nexts .now)) (a .kinds .now) (a .forms .now) (a .v)) _ (c .before .before .value-frame .ensures)
+returns c = let a = c .before .before .before .before .before .before .before .args in putFrame-of-lent _ _ _ (c .before .before .before .before .before .place .ensures) (c .before .before .before .before .if1 .taken) (valued (edgesIn (tableIn (a .table .now))) (tableIn (a .table .now) .«edge_kind») (tableIn (a .table .now) .forms) (a .v)) _ (c .before .before .value-frame .ensures)
 
 returns-2 : tie.Need-returns-2
 returns-2 c = putFrame-none _ _ _ (none-of-place _ _ _ (c .before .place .ensures) (c .if1 .left))

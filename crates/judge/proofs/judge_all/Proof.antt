@@ -6,11 +6,11 @@ use Rattle.judge.proofs.judge_all.Statement.{statement}
 use Rattle.judge.proofs.judge_all.Tie as tie
 
 abbrev Inv-loop : tie.InvT-loop
-Inv-loop t work₀ space₀ out₀ s₀ turns₀ work space out s turns =
+Inv-loop table work₀ space₀ out₀ s₀ turns₀ work space out s turns =
     (length work ≡ length work₀) × (length space ≡ length space₀) × (length out ≡ length out₀)
 
 abbrev μ-loop : tie.MeasureT-loop
-μ-loop t work₀ space₀ out₀ s₀ turns₀ work space out s turns = turns
+μ-loop table work₀ space₀ out₀ s₀ turns₀ work space out s turns = turns
 
 loop-holds : tie.Need-loop-holds Inv-loop μ-loop
 loop-holds c = (refl, refl, refl)

@@ -12,10 +12,10 @@ nonzero zero f = absurd (f refl)
 nonzero (suc n) f = omega arith
 
 abbrev Inv-loop : tie.InvT-loop
-Inv-loop t work₀ piece out₀ next₀ read₀ work out next read = (length work ≡ length work₀) × (length out ≡ length out₀) × (read ≤ length piece)
+Inv-loop table work₀ piece out₀ next₀ read₀ work out next read = (length work ≡ length work₀) × (length out ≡ length out₀) × (read ≤ length piece)
 
 abbrev μ-loop : tie.MeasureT-loop
-μ-loop t work₀ piece out₀ next₀ read₀ work out next read = length piece - read
+μ-loop table work₀ piece out₀ next₀ read₀ work out next read = length piece - read
 
 loop-holds : tie.Need-loop-holds Inv-loop μ-loop
 loop-holds c = (refl, refl, search needs)

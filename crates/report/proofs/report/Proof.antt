@@ -4,16 +4,17 @@ use Prim.Native.Nat.{ℕ, _-_, _/_}
 use native.Mathlib.Omega.{arith}
 use lib.ListN.{length}
 use Rattle.report.proofs.ReportLaws.{Going, going-start, going-full, going-quiet, going-refused, going-line, count-inside}
+use Rattle.table.specs.Flat.{tableIn}
 use borrow.Author.Needs.{needs}
 use Rattle.report.proofs.report.Statement.{statement}
 use Rattle.report.proofs.report.Tie as tie
 
 abbrev Inv-loop : tie.InvT-loop
-Inv-loop t work₀ piece out₀ lines next₀ read₀ used₀ i₀ work out next read used i =
-    (lines ≡ length out₀ / 64) × (length work ≡ length work₀) × (length out ≡ length out₀) × Going t work₀ piece out₀ next₀ work out next read used i
+Inv-loop table work₀ piece out₀ lines next₀ read₀ used₀ i₀ work out next read used i =
+    (lines ≡ length out₀ / 64) × (length work ≡ length work₀) × (length out ≡ length out₀) × Going (tableIn table) work₀ piece out₀ next₀ work out next read used i
 
 abbrev μ-loop : tie.MeasureT-loop
-μ-loop t work₀ piece out₀ lines next₀ read₀ used₀ i₀ work out next read used i = lines - i
+μ-loop table work₀ piece out₀ lines next₀ read₀ used₀ i₀ work out next read used i = lines - i
 
 loop-holds : tie.Need-loop-holds Inv-loop μ-loop
 loop-holds c = (refl, refl, refl, going-start _ _ _ _ _)

@@ -4,16 +4,17 @@ use Prim.Native.Nat.{_-_}
 use native.Mathlib.Omega.{arith}
 use lib.ListN.{length}
 use Rattle.fieldtext.proofs.FeedLaws.{Going, going-start, going-done, going-refused, going-more, made-inside, piece-inside, count-inside, count-some}
+use Rattle.table.specs.Flat.{tableIn}
 use borrow.Author.Needs.{needs}
 use Rattle.fieldtext.proofs.feeds.feed_all.Statement.{statement}
 use Rattle.fieldtext.proofs.feeds.feed_all.Tie as tie
 
 abbrev Inv-loop : tie.InvT-loop
-Inv-loop t stream size work₀ out₀ next₀ read₀ made₀ work out next read made =
-    (length work ≡ length work₀) × (length out ≡ length out₀) × Going t size work₀ stream out₀ next₀ work out next read made
+Inv-loop table stream size work₀ out₀ next₀ read₀ made₀ work out next read made =
+    (length work ≡ length work₀) × (length out ≡ length out₀) × Going (tableIn table) size work₀ stream out₀ next₀ work out next read made
 
 abbrev μ-loop : tie.MeasureT-loop
-μ-loop t stream size work₀ out₀ next₀ read₀ made₀ work out next read made = length stream - read
+μ-loop table stream size work₀ out₀ next₀ read₀ made₀ work out next read made = length stream - read
 
 loop-holds : tie.Need-loop-holds Inv-loop μ-loop
 loop-holds c = (refl, refl, search (needs, going-start))

@@ -4,6 +4,7 @@ use Rattle.frame.specs.Edges.{edgeCount, stateNumber, walking}
 use Rattle.frame.specs.Ops.{keyStates}
 use Rattle.laws.proofs.BitLaws.{setAll-more}
 use Rattle.laws.specs.Bits.{setAll}
+use Rattle.table.specs.Flat.{tableIn}
 use borrow.Author.Needs.{needs}
 use lib.ListN.{length, replicate}
 use mathlib.Core.Path.{_≡_}
@@ -12,22 +13,21 @@ use Rattle.frame.proofs.close.key_states.Statement.{statement}
 use Rattle.frame.proofs.close.key_states.Tie as tie
 
 abbrev Inv-loop : tie.InvT-loop
-Inv-loop frame from edges rules states keys nexts key next₀ n e₀ next e = (e ≤ n) × (next ≡ setAll (walking rules states keys frame from key) (stateNumber rules nexts) e (replicate 64 0)) × (length next ≡ 64)
+Inv-loop frame from table key next₀ n e₀ next e = (e ≤ n) × (next ≡ setAll (walking (tableIn table .«edge_rule») (tableIn table .«edge_state») (tableIn table .«edge_key») frame from key) (stateNumber (tableIn table .«edge_rule») (tableIn table .«edge_next»)) e (replicate 64 0)) × (length next ≡ 64)
 
 abbrev μ-loop : tie.MeasureT-loop
-μ-loop frame from edges rules states keys nexts key next₀ n e₀ next e = n - e
+μ-loop frame from table key next₀ n e₀ next e = n - e
 
 loop-holds : tie.Need-loop-holds Inv-loop μ-loop
 unfolding setAll
 loop-holds c = search needs
 
 loop-again : tie.Need-loop-again Inv-loop μ-loop
-unfolding walking stateNumber
-loop-again c = (search needs, setAll-more _ _ _ _ _ _ _ _ (c .before .before .before .before .before .before .before .before .before .before .before .loop .inv .1) (c .before .before .before .before .before .before .walking .ensures) (c .before .before .state-number .ensures) (c .before .set-if .ensures), search needs)
+loop-again c = (search needs, search (needs, setAll-more), search needs)
 
 returns : tie.Need-returns Inv-loop μ-loop
 unfolding keyStates
-returns c = let e : c .before .loop .e ≡ edgeCount (c .before .before .before .before .before .args .edges) = omega arith in cc
+returns c = let e : c .before .loop .e ≡ edgeCount (tableIn (c .before .before .before .before .before .args .table .now) .edges) = omega arith in cc
 
 pub key-states-spec : {M : Type 1} → statement M
-key-states-spec = tie.close (tie.spec Inv-loop μ-loop (λ c κs. search needs) loop-holds (λ c. search needs) (λ c. search needs) (λ c. search needs) (λ c κs. search needs) (λ c. search needs) (λ c. search needs) (λ c. search needs) (λ c κs. search needs) (λ c κs. search needs) (λ c. search needs) (λ c. search needs) loop-again returns)
+key-states-spec = tie.close (tie.spec Inv-loop μ-loop (λ c κs. search needs) loop-holds (λ c κs. search needs) (λ c. search needs) (λ c κs. search needs) (λ c κs. search needs) (λ c. search needs) (λ c. search needs) loop-again returns)

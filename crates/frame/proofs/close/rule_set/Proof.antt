@@ -2,6 +2,7 @@
 use Prim.Native.Nat.{_-_, _%_, _≤_}
 use Rattle.frame.proofs.QuietLaws.{ruleSet-quiet}
 use Rattle.frame.specs.Ops.{accepting, ruleSet}
+use Rattle.table.specs.Flat.{tableIn}
 use borrow.Author.Needs.{needs}
 use mathlib.Core.Logic.{⊎-elim}
 use mathlib.Core.Path.{_≡_, sym, _∙_}
@@ -10,10 +11,10 @@ use Rattle.frame.proofs.close.rule_set.Statement.{statement}
 use Rattle.frame.proofs.close.rule_set.Tie as tie
 
 abbrev Inv-loop : tie.InvT-loop
-Inv-loop states ends forms form set₀ r₀ set r = (r ≤ 32) × (r % 4 ≡ 0) × (set ≡ ruleSet (accepting forms ends form states) r)
+Inv-loop states table form set₀ r₀ set r = (r ≤ 32) × (r % 4 ≡ 0) × (set ≡ ruleSet (accepting (tableIn table .forms) (tableIn table .ends) form states) r)
 
 abbrev μ-loop : tie.MeasureT-loop
-μ-loop states ends forms form set₀ r₀ set r = 32 - r
+μ-loop states table form set₀ r₀ set r = 32 - r
 
 loop-holds : tie.Need-loop-holds Inv-loop μ-loop
 unfolding ruleSet
@@ -25,7 +26,7 @@ loop-again c =
     let l = c .before .before .before .loop in (
       search needs,
       search needs,
-      ⊎-elim (λ w. w .1 ∙ l .inv .2 ∙ sym (ruleSet-quiet (g .forms .now) (g .ends .now) (g .form) (g .states .now) (l .r) (c .before .quiet .ensures (w .0 .taken))))
+      ⊎-elim (λ w. w .1 ∙ l .inv .2 ∙ sym (ruleSet-quiet (tableIn (g .table .now) .forms) (tableIn (g .table .now) .ends) (g .form) (g .states .now) (l .r) (c .before .quiet .ensures (w .0 .taken))))
           (λ w. w .2 ∙ w .1 .ensures) (c .if1 .came),
     )
 

@@ -1,8 +1,9 @@
 -- `close::walk` meets its contract. The loop has walked the keys of the bytes below i. Assumes nothing.
 use Prim.Native.Nat.{_-_, _*_, _≤_}
 use Rattle.frame.proofs.WalkLaws.{walked-next-byte}
-use Rattle.frame.specs.Edges.{edgesOf}
+use Rattle.frame.specs.Edges.{edgesIn}
 use Rattle.frame.specs.Ops.{startStates, walked}
+use Rattle.table.specs.Flat.{tableIn}
 use borrow.Author.Needs.{needs}
 use mathlib.Core.Path.{_≡_, ap, _∙_}
 use native.Mathlib.Omega.{arith}
@@ -10,10 +11,10 @@ use Rattle.frame.proofs.close.walk.Statement.{statement}
 use Rattle.frame.proofs.close.walk.Tie as tie
 
 abbrev Inv-loop : tie.InvT-loop
-Inv-loop frame edges rules states keys nexts forms cur₀ i₀ cur i = (i ≤ 16) × (cur ≡ walked (edgesOf edges rules states keys nexts) frame 0 (startStates forms 1) (8 * i))
+Inv-loop frame table cur₀ i₀ cur i = (i ≤ 16) × (cur ≡ walked (edgesIn (tableIn table)) frame 0 (startStates (tableIn table .forms) 1) (8 * i))
 
 abbrev μ-loop : tie.MeasureT-loop
-μ-loop frame edges rules states keys nexts forms cur₀ i₀ cur i = 16 - i
+μ-loop frame table cur₀ i₀ cur i = 16 - i
 
 loop-holds : tie.Need-loop-holds Inv-loop μ-loop
 unfolding walked startStates

@@ -1,9 +1,10 @@
 -- `close::walk_byte` meets its contract. The loop has walked the keys of the byte below j. Assumes nothing.
 use Prim.Native.Nat.{_-_, _*_, _≤_}
 use Rattle.frame.proofs.WalkLaws.{walked-byte-zero}
-use Rattle.frame.specs.Edges.{edgesOf}
+use Rattle.frame.specs.Edges.{edgesIn}
 use Rattle.frame.specs.Frame.{seenIn}
 use Rattle.frame.specs.Ops.{walked}
+use Rattle.table.specs.Flat.{tableIn}
 use borrow.Author.Needs.{needs}
 use mathlib.Core.Path.{_≡_}
 use native.Mathlib.Numerals.{add-one}
@@ -12,10 +13,10 @@ use Rattle.frame.proofs.close.walk_byte.Statement.{statement}
 use Rattle.frame.proofs.close.walk_byte.Tie as tie
 
 abbrev Inv-loop : tie.InvT-loop
-Inv-loop frame edges rules states keys nexts i at cur₀ j₀ cur j = (j ≤ 8) × (cur ≡ walked (edgesOf edges rules states keys nexts) frame (8 * i) cur₀ j)
+Inv-loop frame table i at cur₀ j₀ cur j = (j ≤ 8) × (cur ≡ walked (edgesIn (tableIn table)) frame (8 * i) cur₀ j)
 
 abbrev μ-loop : tie.MeasureT-loop
-μ-loop frame edges rules states keys nexts i at cur₀ j₀ cur j = 8 - j
+μ-loop frame table i at cur₀ j₀ cur j = 8 - j
 
 returns : tie.Need-returns Inv-loop μ-loop
 returns c = walked-byte-zero _ _ _ _ (c .if1 .taken)

@@ -2,6 +2,7 @@
 use Prim.Native.Nat.{_+_, _-_, _≤_}
 use Rattle.frame.proofs.RuleLaws.{ruleSet-lt}
 use Rattle.frame.specs.Ops.{accepting, ruleSet}
+use Rattle.table.specs.Flat.{tableIn}
 use borrow.Author.Needs.{needs}
 use mathlib.Core.Path.{_≡_}
 use native.Mathlib.Numerals.{add-one}
@@ -10,10 +11,10 @@ use Rattle.frame.proofs.close.with_four.Statement.{statement}
 use Rattle.frame.proofs.close.with_four.Tie as tie
 
 abbrev Inv-loop : tie.InvT-loop
-Inv-loop set states ends forms form from all₀ r₀ r-end all r = (r ≤ r-end) × (r-end ≡ from + 4) × (all ≡ ruleSet (accepting forms ends form states) r)
+Inv-loop set states table form from all₀ r₀ r-end all r = (r ≤ r-end) × (r-end ≡ from + 4) × (all ≡ ruleSet (accepting (tableIn table .forms) (tableIn table .ends) form states) r)
 
 abbrev μ-loop : tie.MeasureT-loop
-μ-loop set states ends forms form from all₀ r₀ r-end all r = r-end - r
+μ-loop set states table form from all₀ r₀ r-end all r = r-end - r
 
 with-rule-requires : tie.Need-with-rule-requires Inv-loop μ-loop
 with-rule-requires c κs = (search needs, search needs, rw (c .before .loop .inv .2) (ruleSet-lt _ _))

@@ -5,15 +5,16 @@ use Rattle.load.specs.Step.{firstAt}
 use Rattle.load.specs.Check.{danglesAt, lineAt}
 use Rattle.load.proofs.LoopLaws.{firstAt-hit, firstAt-more, firstAt-end, firstAt-start}
 use Rattle.load.proofs.CheckLaws.{danglesAt-code}
+use Rattle.table.specs.Flat.{tableIn}
 use borrow.Author.Needs.{needs}
 use Rattle.load.proofs.check.dangling_line.Statement.{statement}
 use Rattle.load.proofs.check.dangling_line.Tie as tie
 
 abbrev Inv-loop : tie.InvT-loop
-Inv-loop kinds forms lines n e₀ e = (e ≤ n) × (firstAt (danglesAt kinds forms) (lineAt lines) e (n - e) ≡ firstAt (danglesAt kinds forms) (lineAt lines) 0 n)
+Inv-loop table n e₀ e = (e ≤ n) × (firstAt (danglesAt (tableIn table .«edge_kind») (tableIn table .forms)) (lineAt (tableIn table .«edge_line»)) e (n - e) ≡ firstAt (danglesAt (tableIn table .«edge_kind») (tableIn table .forms)) (lineAt (tableIn table .«edge_line»)) 0 n)
 
 abbrev μ-loop : tie.MeasureT-loop
-μ-loop kinds forms lines n e₀ e = n - e
+μ-loop table n e₀ e = n - e
 
 loop-holds : tie.Need-loop-holds Inv-loop μ-loop
 loop-holds c = (search needs, firstAt-start _ _ _)
@@ -28,4 +29,4 @@ returns-2 : tie.Need-returns-2 Inv-loop μ-loop
 returns-2 c = search (needs, firstAt-end)
 
 pub dangling-line-spec : {M : Type 1} → statement M
-dangling-line-spec = tie.close (tie.spec Inv-loop μ-loop loop-holds (λ c. search needs) (λ c κs. search needs) (λ c. search needs) (λ c. search needs) (λ c κs. search needs) returns (λ c. search needs) (λ c. search needs) loop-again returns-2)
+dangling-line-spec = tie.close (tie.spec Inv-loop μ-loop loop-holds (λ c κs. search needs) (λ c κs. search needs) (λ c κs. search needs) returns (λ c. search needs) (λ c. search needs) loop-again returns-2)

@@ -5,15 +5,16 @@ use Rattle.load.specs.Step.{some}
 use Rattle.load.specs.Check.{clashesAt, lateAt}
 use Rattle.load.proofs.LoopLaws.{some-hit, some-more, some-end}
 use Rattle.load.proofs.CheckLaws.{lateAt-start}
+use Rattle.table.specs.Flat.{tableIn}
 use borrow.Author.Needs.{needs}
 use Rattle.load.proofs.check.late_at.Statement.{statement}
 use Rattle.load.proofs.check.late_at.Tie as tie
 
 abbrev Inv-loop : tie.InvT-loop
-Inv-loop rules states keys nexts forms b n a₀ a = (a ≤ n) × (n ≡ b + 1) × (some (clashesAt rules states keys nexts forms b) a (n - a) ≡ lateAt rules states keys nexts forms b)
+Inv-loop table b n a₀ a = (a ≤ n) × (n ≡ b + 1) × (some (clashesAt (tableIn table .«edge_rule») (tableIn table .«edge_state») (tableIn table .«edge_key») (tableIn table .«edge_next») (tableIn table .forms) b) a (n - a) ≡ lateAt (tableIn table .«edge_rule») (tableIn table .«edge_state») (tableIn table .«edge_key») (tableIn table .«edge_next») (tableIn table .forms) b)
 
 abbrev μ-loop : tie.MeasureT-loop
-μ-loop rules states keys nexts forms b n a₀ a = n - a
+μ-loop table b n a₀ a = n - a
 
 loop-holds : tie.Need-loop-holds Inv-loop μ-loop
 loop-holds c = (search needs, search needs, lateAt-start _ _ _ _ _ _)

@@ -7,18 +7,19 @@ use Rattle.table.specs.Limits.{WithinLimits}
 use Rattle.load.specs.Step.{emptyTable, takeLines}
 use Rattle.load.proofs.ReadLaws.{lines-end, lines-open, lines-bad, lines-more}
 use Rattle.load.proofs.WithinLaws.{within-line, within-empty}
+use Rattle.table.specs.Flat.{tableIn}
 use borrow.Author.Needs.{needs}
 use Rattle.load.proofs.read.take_lines.Statement.{statement}
 use Rattle.load.proofs.read.take_lines.Tie as tie
 
 abbrev Inv-loop : tie.InvT-loop
-Inv-loop b t₀ i₀ n₀ t i n = (i ≤ length b) × (n + 29 ≤ i) × WithinLimits t × (takeLines n t (split 10 (drop i b)) ≡ takeLines 2 emptyTable (split 10 (drop 31 b)))
+Inv-loop table₀ b i₀ n₀ table i n = (i ≤ length b) × (n + 29 ≤ i) × WithinLimits (tableIn table) × (takeLines n (tableIn table) (split 10 (drop i b)) ≡ takeLines 2 emptyTable (split 10 (drop 31 b)))
 
 abbrev μ-loop : tie.MeasureT-loop
-μ-loop b t₀ i₀ n₀ t i n = length b - i
+μ-loop table₀ b i₀ n₀ table i n = length b - i
 
 loop-holds : tie.Need-loop-holds Inv-loop μ-loop
-loop-holds c = (search needs, search needs, rw (c .empty-table .ensures) within-empty, ap (λ t. takeLines 2 t (split 10 (drop 31 (c .before .before .args .b .now)))) (c .empty-table .ensures))
+loop-holds c = (search needs, search needs, rw (c .clear .ensures) within-empty, rw (c .clear .ensures))
 
 returns : tie.Need-returns Inv-loop μ-loop
 returns c = search (needs, lines-open)

@@ -6,7 +6,7 @@ use Rattle.load.proofs.store.bit_at.Tie as tie
 
 returns : tie.Need-returns
 unfolding bitAt
-returns c = search needs
+returns c = rw (c .end .ensures)
 
 pub bit-at-spec : {M : Type 1} → statement M
-bit-at-spec = tie.close (tie.spec (λ c. search needs) (λ c. search needs) (λ c. search needs) returns)
+bit-at-spec = tie.close (tie.spec (λ c κs. search needs) (λ c. search needs) (λ c. search needs) returns)

@@ -1,20 +1,22 @@
 -- `store::has_cell` meets its contract: what is left holds a match as the whole. Assumes nothing.
-use mathlib.Core.Path.{_≡_}
+use mathlib.Core.Path.{_≡_, ap, _∙_}
 use Prim.Native.Nat.{_≤_, _-_}
-use Rattle.load.specs.Step.{some, sameAt}
+use Rattle.load.specs.Step.{some, sameAt, hasCell}
 use Rattle.load.proofs.LoopLaws.{some-hit, some-more, some-end, some-start}
+use Rattle.table.specs.Flat.{tableIn}
 use borrow.Author.Needs.{needs}
 use Rattle.load.proofs.store.has_cell.Statement.{statement}
 use Rattle.load.proofs.store.has_cell.Tie as tie
 
 abbrev Inv-loop : tie.InvT-loop
-Inv-loop rules states keys kinds nexts c n e₀ e = (e ≤ n) × (some (sameAt rules states keys kinds nexts c) e (n - e) ≡ some (sameAt rules states keys kinds nexts c) 0 n)
+Inv-loop table c n e₀ e = (e ≤ n) × (some (sameAt (tableIn table .«edge_rule») (tableIn table .«edge_state») (tableIn table .«edge_key») (tableIn table .«edge_kind») (tableIn table .«edge_next») c) e (n - e) ≡ hasCell (tableIn table) c)
 
 abbrev μ-loop : tie.MeasureT-loop
-μ-loop rules states keys kinds nexts c n e₀ e = n - e
+μ-loop table c n e₀ e = n - e
 
 loop-holds : tie.Need-loop-holds Inv-loop μ-loop
-loop-holds c = (search needs, some-start _ _)
+unfolding hasCell
+loop-holds c = (search needs, some-start _ _ ∙ ap (some _ 0) (c .edges .ensures))
 
 returns : tie.Need-returns Inv-loop μ-loop
 returns c = search (needs, some-hit)
@@ -26,4 +28,4 @@ returns-2 : tie.Need-returns-2 Inv-loop μ-loop
 returns-2 c = search (needs, some-end)
 
 pub has-cell-spec : {M : Type 1} → statement M
-has-cell-spec = tie.close (tie.spec Inv-loop μ-loop loop-holds (λ c κs. search needs) returns (λ c. search needs) (λ c. search needs) loop-again returns-2)
+has-cell-spec = tie.close (tie.spec Inv-loop μ-loop (λ c κs. search needs) loop-holds (λ c κs. search needs) returns (λ c. search needs) (λ c. search needs) loop-again returns-2)

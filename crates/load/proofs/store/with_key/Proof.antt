@@ -1,11 +1,11 @@
 -- `store::with_key` meets its contract. Assumes nothing.
-use Rattle.load.proofs.StoreLaws.{withKey-eq}
+use Rattle.load.proofs.PlaceLaws.{key-in-place}
 use borrow.Author.Needs.{needs}
 use Rattle.load.proofs.store.with_key.Statement.{statement}
 use Rattle.load.proofs.store.with_key.Tie as tie
 
 returns : tie.Need-returns
-returns c = search (needs, withKey-eq)
+returns c = search (needs, key-in-place)
 
 pub with-key-spec : {M : Type 1} → statement M
-with-key-spec = tie.close (tie.spec (λ c. search needs) (λ c κs. search needs) (λ c. search needs) (λ c. search needs) (λ c. search needs) returns)
+with-key-spec = tie.close (tie.spec (λ c κs. search needs) (λ c κs. search needs) (λ c. search needs) (λ c. search needs) (λ c κs. search needs) (λ c. search needs) (λ c. search needs) (λ c. search needs) (λ c. search needs) (λ c. search needs) (λ c. search needs) returns)

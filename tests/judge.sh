@@ -59,6 +59,26 @@ says() {
     fi
 }
 
+# builds_and_prints NAME STATUS LINE...: the last call ended so, printed these lines, and named each crate on standard error as it was proved
+builds_and_prints() {
+    name=$1
+    want=$2
+    shift 2
+    printf '%s\n' "$@" >"$work/want"
+    sed -n 's/^judge: proving \(crate .*\) ([0-9]* s)$/\1/p' "$work/err" >"$work/named"
+    if [ "$status" != "$want" ]; then
+        bad "$name: exit status $status, not $want"
+    elif ! cmp -s -- "$work/want" "$work/out"; then
+        bad "$name: other output than wanted (wanted <, got >)"
+        diff -- "$work/want" "$work/out" | head -n 10
+    elif [ "$(cat "$work/named")" != "$(printf 'crate 1 of 2, under\ncrate 2 of 2, judge')" ]; then
+        bad "$name: it does not name each crate that it proves"
+        head -n 5 -- "$work/err"
+    else
+        ok
+    fi
+}
+
 # same NAME A B: two files are equal
 same() {
     if cmp -s -- "$2" "$3"; then
@@ -376,7 +396,11 @@ echo "\$*" >>"$work/rt/count"
 echo 'a line of the log'
 [ "\$*" = 'check judge' ] || exit 3
 [ ! -e "$work/rt/fails" ] || exit 1
-mkdir -p target/bin
+mkdir -p target/bin target/log
+: >target/log/under.out
+sleep 1.5
+: >target/log/judge.out
+sleep 1.5
 printf '#!/bin/sh\ncat book.txt -\nexit 7\n' >target/bin/judge.new
 chmod +x target/bin/judge.new
 [ -e target/bin/judge ] || mv target/bin/judge.new target/bin/judge
@@ -392,7 +416,7 @@ says 'a build that fails' 2 'a line of the log'
 rm "$work/rt/fails"
 builds 1 || bad 'one build is tried'
 call "$work/repo/judge" five.txt two
-prints 'a build, and the exit status of the program' 7 "$(cat five.txt)" "$(cat two)"
+builds_and_prints 'a build, and the exit status of the program' 7 "$(cat five.txt)" "$(cat two)"
 call "$work/repo/judge" five.txt two
 prints 'no build the second time' 7 "$(cat five.txt)" "$(cat two)"
 if builds 2; then ok; else bad "the program is built $(wc -l <"$work/rt/count") times, not twice"; fi
@@ -402,7 +426,7 @@ if builds 2; then ok; else bad 'a crate that the program does not need makes a b
 touch -d '2021-01-01' "$work/repo/target/bin/judge" "$work/repo/target/judge.built"
 touch -d '2022-01-01' "$work/repo/crates/under/src/lib.rt"
 call "$work/repo/judge" five.txt two
-prints 'a build where a source is newer' 7 "$(cat five.txt)" "$(cat two)"
+builds_and_prints 'a build where a source is newer' 7 "$(cat five.txt)" "$(cat two)"
 call "$work/repo/judge" five.txt two
 if builds 3; then ok; else bad "a newer source: $(wc -l <"$work/rt/count") builds, not 3"; fi
 call env PATH="$work/tools" "$work/repo/judge" five.txt two

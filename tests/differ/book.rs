@@ -21,7 +21,7 @@ pub struct Edge {
     pub key: Vec<u8>,
     pub kind: Kind,
     pub next: usize,
-    line: usize,
+    pub line: usize,
 }
 
 pub struct Book {

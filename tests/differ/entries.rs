@@ -25,7 +25,7 @@ fn entry(verdict: Verdict, read: usize) -> Entry {
 pub fn entries(found: &Found) -> Vec<Entry> {
     match found {
         Found::Book(number, line) => vec![entry(Verdict::Refused(*number, if on(Plant::BookPlace) { 0 } else { *line }), 0)],
-        Found::Start => vec![entry(Verdict::Refused(21, 0), 0)],
+        Found::Start(number) => vec![entry(Verdict::Refused(*number, 0), 0)],
         Found::Judged(list) => list.iter().map(|&(verdict, read)| entry(verdict, read)).collect(),
     }
 }

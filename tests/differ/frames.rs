@@ -5,7 +5,7 @@
 
 use crate::book::{Book, Form, Kind, RULES, STATES};
 use crate::plant::{on, Plant};
-use crate::run::{accepting, fits, reached};
+use crate::run::{fits, reached};
 use crate::stream::{Part, Verdict};
 use crate::text::{string_at, Value};
 
@@ -19,16 +19,35 @@ pub fn count(length: usize) -> usize {
 }
 
 /// A value that was opened: its finished keys and values. Of inner objects and arrays only the form is kept, and the rules that accept them.
-struct Opened {
-    object: bool,
-    keys: Vec<Vec<u8>>,
-    values: Vec<Value>,
-    fitted: Vec<u32>,
+pub struct Opened {
+    pub object: bool,
+    pub keys: Vec<Vec<u8>>,
+    pub values: Vec<Value>,
+    pub fitted: Vec<u32>,
+}
+
+/// What judges values: a book, or any bytes that are lent as a table.
+pub trait Rules {
+    /// The rules that have an accepting run over a value, where those over each inner value are known: bit n for rule n.
+    fn accepting(&self, value: &Value, fitted: &[u32]) -> u32;
+
+    /// The 96 bytes of the frame of a value that was opened.
+    fn frame(&self, opened: &Opened) -> [u8; FRAME];
+}
+
+impl Rules for Book {
+    fn accepting(&self, value: &Value, fitted: &[u32]) -> u32 {
+        crate::run::accepting(self, value, fitted)
+    }
+
+    fn frame(&self, opened: &Opened) -> [u8; FRAME] {
+        drawn(self, opened)
+    }
 }
 
 /// The bytes of a record before its first fault. What the grammar asks of them is known to hold, and is not asked again.
-struct Sound<'a> {
-    book: &'a Book,
+struct Sound<'a, R> {
+    rules: &'a R,
     bytes: &'a [u8],
     at: usize,
     /// The last value opened on each level, level 1 first.
@@ -38,7 +57,7 @@ struct Sound<'a> {
 }
 
 /// Writes the frames of a part with this verdict. The head is unread.
-pub fn draw(book: &Book, part: &Part, verdict: Verdict, work: &mut [u8]) {
+pub fn draw<R: Rules>(rules: &R, part: &Part, verdict: Verdict, work: &mut [u8]) {
     let end = match verdict {
         Verdict::Refused(15, _) if !on(Plant::HeadFrames) => 0,
         Verdict::Refused(13, _) if on(Plant::LongFrames) => part.bytes.len(),
@@ -50,7 +69,7 @@ pub fn draw(book: &Book, part: &Part, verdict: Verdict, work: &mut [u8]) {
         Verdict::Refused(13, _) => on(Plant::NumberAtLong),
         _ => on(Plant::NumberAtRs),
     };
-    let mut sound = Sound { book, bytes: &part.bytes[..end], at: 0, last: Vec::new(), late };
+    let mut sound = Sound { rules, bytes: &part.bytes[..end], at: 0, last: Vec::new(), late };
     sound.gap();
     sound.value(0);
     if on(Plant::RsClears) {
@@ -60,12 +79,12 @@ pub fn draw(book: &Book, part: &Part, verdict: Verdict, work: &mut [u8]) {
     for (opened, frame) in sound.last.iter().zip(work.chunks_exact_mut(FRAME)).take(most) {
         let kept = if on(Plant::RestKept) { 3..16 } else { 0..0 };
         let foreign = frame[kept.clone()].to_vec();
-        frame.copy_from_slice(&drawn(book, opened));
+        frame.copy_from_slice(&rules.frame(opened));
         frame[kept].copy_from_slice(&foreign);
     }
 }
 
-impl Sound<'_> {
+impl<R: Rules> Sound<'_, R> {
     fn peek(&self) -> Option<u8> {
         self.bytes.get(self.at).copied()
     }
@@ -146,7 +165,7 @@ impl Sound<'_> {
             true => Value::Obj(own.keys.iter().cloned().zip(values.drain(..)).collect()),
             false => Value::Arr(values),
         };
-        let fitted = accepting(self.book, &value, &own.fitted[..count]);
+        let fitted = self.rules.accepting(&value, &own.fitted[..count]);
         if on(Plant::CloseWrites) {
             own.values.clear();
         }

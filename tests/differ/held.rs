@@ -3,9 +3,10 @@
 use crate::book::{Book, Refusal};
 use crate::entries::{counted, entries, words, write, Entry, ENTRY};
 use crate::frames::FRAME;
-use crate::library::{self, out_before, work_before, Shown};
+use crate::flat;
+use crate::library::{self, out_before, work_before, By, Shown};
 use crate::program::escaped;
-use crate::stream::{judge, Found, RS};
+use crate::stream::{judge, judge_table, Found, RS};
 use crate::trial::Stream;
 
 /// Streams above this length are not made smaller.
@@ -16,6 +17,25 @@ pub fn paper(loaded: &Result<Book, Refusal>, stream: &Stream) -> (Found, Vec<u8>
     let mut work = work_before(stream);
     let found = judge(loaded, &stream.bytes, &mut work);
     (found, work)
+}
+
+/// The same where the stream is judged by the bytes of a table.
+pub fn table_paper(table: &[u8], stream: &Stream) -> (Found, Vec<u8>) {
+    let mut work = work_before(stream);
+    let found = judge_table(table, &stream.bytes, &mut work);
+    (found, work)
+}
+
+/// None where the library's load gives the paper's number, and the bytes of the book's table.
+pub fn load_difference(book: &[u8], loaded: &Result<Book, Refusal>, got: &Option<(u32, Vec<u8>)>) -> Option<String> {
+    let Some((number, table)) = got else { return Some("load wrote into the book, or around it or the table".to_string()) };
+    let want = loaded.as_ref().err().map_or(0, |&(number, _)| number);
+    if want != *number {
+        return Some(format!("book: {}\nnumber of load: paper {want}, library {number}", escaped(book)));
+    }
+    let bytes = flat::of_book(loaded.as_ref().ok());
+    let at = (0..bytes.len()).find(|&i| bytes[i] != table[i])?;
+    Some(format!("book: {}\nbyte {at} of its table: paper {}, library {}", escaped(book), bytes[at], table[at]))
 }
 
 /// None where the library gives the paper's number and line for a book.
@@ -64,7 +84,7 @@ fn work_words(want: &[u8], got: &[u8]) -> String {
 pub fn smaller(book: &[u8], loaded: &Result<Book, Refusal>, stream: &Stream) -> String {
     let differs = |bytes: &[u8]| {
         let part = Stream { bytes: bytes.to_vec(), work: stream.work, calls: stream.calls.clone(), seed: stream.seed };
-        difference(&part, &paper(loaded, &part), &library::judge(book, &part))
+        difference(&part, &paper(loaded, &part), &library::judge(By::Book(book), &part))
     };
     let mut bytes = &stream.bytes[..];
     if bytes.len() <= SMALL {

@@ -1,5 +1,6 @@
 //! The library behind include/fieldtext.h. All that is lent to it stands in the middle of larger buffers.
 
+use crate::flat::TABLE;
 use crate::plant::{on, Plant};
 use crate::rng::noise;
 use crate::trial::Stream;
@@ -9,6 +10,11 @@ extern "C" {
     fn fieldtext_book_line(book: *const u8, book_length: usize) -> usize;
     fn fieldtext_judge(
         book: *const u8, book_length: usize, stream: *const u8, stream_length: usize, size: usize,
+        work: *mut u8, work_length: usize, out: *mut u8, out_length: usize,
+    ) -> usize;
+    fn fieldtext_load(book: *const u8, book_length: usize, table: *mut u8) -> u8;
+    fn fieldtext_judge_table(
+        table: *const u8, stream: *const u8, stream_length: usize, size: usize,
         work: *mut u8, work_length: usize, out: *mut u8, out_length: usize,
     ) -> usize;
 }
@@ -60,6 +66,29 @@ pub fn refusal(book: &[u8]) -> Option<(u32, usize)> {
     (lent.whole() && lent.bytes() == book).then_some((number.into(), line))
 }
 
+/// What load gives: the number of a refusal, 0 for an accepted book, and the table; none where the book, or bytes around it or around the
+/// table, were written.
+pub fn load(book: &[u8]) -> Option<(u32, Vec<u8>)> {
+    let seed = book.len() as u64;
+    let lent = Lent::new(book, seed);
+    let mut table = Lent::new(&noise(seed ^ 7, TABLE), seed ^ 8);
+    // SAFETY: pointer and length are those of one part of a buffer, and the table's part has its 7,920 bytes.
+    let number = unsafe { fieldtext_load(lent.start(), lent.length(), table.start_mut()) };
+    (lent.whole() && lent.bytes() == book && table.whole()).then(|| (number.into(), table.bytes().to_vec()))
+}
+
+/// What a stream is judged by.
+#[derive(Clone, Copy)]
+pub enum By<'a> { Book(&'a [u8]), Table(&'a [u8]) }
+
+impl<'a> By<'a> {
+    fn bytes(self) -> &'a [u8] {
+        match self {
+            By::Book(bytes) | By::Table(bytes) => bytes,
+        }
+    }
+}
+
 /// What a call gave: the number of entries and the bytes of out.
 pub struct Call {
     pub count: usize,
@@ -90,13 +119,13 @@ pub fn out_before(stream: &Stream, length: usize) -> Vec<u8> {
 }
 
 /// The stream, once for each of its sizes of pieces.
-pub fn judge(book: &[u8], stream: &Stream) -> Shown {
+pub fn judge(by: By, stream: &Stream) -> Shown {
     let mut shown = Shown { calls: Vec::new(), work: Vec::new(), wrong: None };
-    let mut lent = [Lent::new(book, stream.seed ^ 3), Lent::new(&stream.bytes, stream.seed ^ 4)];
+    let mut lent = [Lent::new(by.bytes(), stream.seed ^ 3), Lent::new(&stream.bytes, stream.seed ^ 4)];
     for &(size, room) in &stream.calls {
         let work = Lent::new(&work_before(stream), stream.seed ^ 5);
         let out = Lent::new(&out_before(stream, room), stream.seed ^ 6);
-        let (call, work) = call(&mut lent, size, work, out, &mut shown.wrong);
+        let (call, work) = call(by, &mut lent, size, work, out, &mut shown.wrong);
         if shown.calls.is_empty() {
             shown.work = work;
         } else if shown.work != work {
@@ -104,7 +133,7 @@ pub fn judge(book: &[u8], stream: &Stream) -> Shown {
         }
         shown.calls.push(call);
     }
-    for (lent, before, name) in [(&lent[0], book, "book"), (&lent[1], &stream.bytes, "stream")] {
+    for (lent, before, name) in [(&lent[0], by.bytes(), "book or table"), (&lent[1], &stream.bytes, "stream")] {
         if !lent.whole() || lent.bytes() != before {
             shown.wrong.get_or_insert(format!("the {name}, or bytes around it, were written"));
         }
@@ -112,18 +141,24 @@ pub fn judge(book: &[u8], stream: &Stream) -> Shown {
     shown
 }
 
-fn call(lent: &mut [Lent; 2], size: usize, mut work: Lent, mut out: Lent, wrong: &mut Option<String>) -> (Call, Vec<u8>) {
+fn call(by: By, lent: &mut [Lent; 2], size: usize, mut work: Lent, mut out: Lent, wrong: &mut Option<String>) -> (Call, Vec<u8>) {
     let (work_length, out_length) = (work.length(), out.length());
-    let [book, stream] = &*lent;
-    // SAFETY: each pointer and length are those of one part of a buffer, and the four buffers are apart.
+    let [first, stream] = &*lent;
+    // SAFETY: each pointer and length are those of one part of a buffer, a table has its 7,920 bytes, and the four buffers are apart.
     let count = unsafe {
-        fieldtext_judge(
-            book.start(), book.length(), stream.start(), stream.length(), size,
-            work.start_mut(), work_length, out.start_mut(), out_length,
-        )
+        match by {
+            By::Book(_) => fieldtext_judge(
+                first.start(), first.length(), stream.start(), stream.length(), size,
+                work.start_mut(), work_length, out.start_mut(), out_length,
+            ),
+            By::Table(_) => fieldtext_judge_table(
+                first.start(), stream.start(), stream.length(), size,
+                work.start_mut(), work_length, out.start_mut(), out_length,
+            ),
+        }
     };
     let count = count + usize::from(on(Plant::PiecesCounted) && size == 1);
-    spoil(lent, &mut work, &mut out, size);
+    spoil(by, lent, &mut work, &mut out, size);
     for (lent, name) in [(&work, "work buffer"), (&out, "out")] {
         if !lent.whole() {
             wrong.get_or_insert(format!("bytes around the {name} were written, in pieces of {size} bytes"));
@@ -133,7 +168,7 @@ fn call(lent: &mut [Lent; 2], size: usize, mut work: Lent, mut out: Lent, wrong:
 }
 
 /// Planted faults of a library: bytes written where none may be.
-fn spoil(lent: &mut [Lent; 2], work: &mut Lent, out: &mut Lent, size: usize) {
+fn spoil(by: By, lent: &mut [Lent; 2], work: &mut Lent, out: &mut Lent, size: usize) {
     let (before, behind) = (work.before.len() - 1, out.before.len() + out.length());
     let plants = [
         (Plant::WorkBefore, &mut work.all, before),
@@ -144,8 +179,9 @@ fn spoil(lent: &mut [Lent; 2], work: &mut Lent, out: &mut Lent, size: usize) {
             all[at] = all[at].wrapping_add(1);
         }
     }
-    let [book, stream] = lent;
-    for (plant, lent) in [(Plant::BookWritten, book), (Plant::StreamWritten, stream)] {
+    let [first, stream] = lent;
+    let written = if let By::Book(_) = by { Plant::BookWritten } else { Plant::TableWritten };
+    for (plant, lent) in [(written, first), (Plant::StreamWritten, stream)] {
         if on(plant) {
             let at = lent.all.len() / 2;
             lent.all[at] = lent.all[at].wrapping_add(1);

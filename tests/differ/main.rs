@@ -4,6 +4,7 @@
 mod book;
 mod entries;
 mod examples;
+mod flat;
 mod frames;
 mod held;
 mod library;
@@ -18,7 +19,7 @@ mod table;
 mod text;
 mod trial;
 
-use library::Shown;
+use library::{By, Shown};
 use plant::Plant;
 use program::{Printed, Program};
 use std::path::PathBuf;
@@ -110,6 +111,16 @@ struct Given {
     /// Number and line of the trial's book, then of its other books.
     refusals: Vec<Option<(u32, usize)>>,
     shown: Vec<Shown>,
+    /// What load gave for the trial's book, and what its changed tables gave.
+    loaded: Option<(u32, Vec<u8>)>,
+    changed: Vec<Shown>,
+}
+
+impl Given {
+    /// The bytes of the table that load gave.
+    fn table(&self) -> &[u8] {
+        self.loaded.as_ref().map_or(&[], |(_, table)| table)
+    }
 }
 
 /// The trial's book and its other books.
@@ -129,8 +140,25 @@ fn run(program: &Program, trial: &Trial) -> Given {
             fail(&format!("{}: {error}", program.path.display()))
         })
     });
-    let shown = trial.streams.iter().map(|stream| library::judge(trial.book(), stream)).collect();
-    Given { printed, refusals: books(trial).map(library::refusal).collect(), shown }
+    let shown = trial.streams.iter().map(|stream| library::judge(By::Book(trial.book()), stream)).collect();
+    let loaded = library::load(trial.book());
+    let mut given = Given { printed, refusals: books(trial).map(library::refusal).collect(), shown, loaded, changed: Vec::new() };
+    given.changed = given_by_tables(trial, given.table());
+    given
+}
+
+/// What the library gives for the trial's changed tables.
+fn given_by_tables(trial: &Trial, table: &[u8]) -> Vec<Shown> {
+    trial.tables.iter().map(|changed| library::judge(By::Table(&changed.table(table)), &changed.stream)).collect()
+}
+
+/// Words about the first changed table of which the paper says something else.
+fn table_words(trial: &Trial, table: &[u8], shown: &[Shown]) -> Option<String> {
+    trial.tables.iter().zip(shown).enumerate().find_map(|(i, (changed, shown))| {
+        let said = held::table_paper(&changed.table(table), &changed.stream);
+        let words = held::difference(&changed.stream, &said, shown)?;
+        Some(format!("stream {i} by the table with {:?}\n{words}", changed.bytes))
+    })
 }
 
 /// Both tables: library and program.
@@ -142,7 +170,11 @@ struct Tables {
 /// Counts a trial, and gives words about its first difference.
 fn hold(trial: &Trial, given: &Given, tables: &mut Tables) -> Option<String> {
     let loaded = book::load(trial.book());
-    let mut words = book_words(trial, given);
+    let mut words = book_words(trial, given).or_else(|| held::load_difference(trial.book(), &loaded, &given.loaded));
+    words = words.or_else(|| table_words(trial, given.table(), &given.changed));
+    for changed in &trial.tables {
+        tables.library.count(&held::table_paper(&changed.table(given.table()), &changed.stream).0, changed.stream.work);
+    }
     for book in &trial.books {
         tables.library.count_book(book::load(book).err().map_or(0, |(number, _)| number));
     }
@@ -222,6 +254,8 @@ fn differs((trial, given): &(Trial, Given)) -> bool {
     let loaded = book::load(trial.book());
     let printed = |found: &stream::Found| given.printed.as_ref().is_some_and(|printed| program::difference(trial, found, printed).is_some());
     book_words(trial, given).is_some()
+        || held::load_difference(trial.book(), &loaded, &given.loaded).is_some()
+        || table_words(trial, given.table(), &given.changed).is_some()
         || trial.streams.iter().zip(&given.shown).enumerate().any(|(i, (stream, shown))| {
             let said = held::paper(&loaded, stream);
             held::difference(stream, &said, shown).is_some() || i == 0 && printed(&said.0)
@@ -229,9 +263,10 @@ fn differs((trial, given): &(Trial, Given)) -> bool {
 }
 
 /// True where a planted fault of the library shows.
-fn differs_again((trial, _): &(Trial, Given)) -> bool {
+fn differs_again((trial, given): &(Trial, Given)) -> bool {
     let loaded = book::load(trial.book());
-    trial.streams.iter().any(|stream| held::difference(stream, &held::paper(&loaded, stream), &library::judge(trial.book(), stream)).is_some())
+    table_words(trial, given.table(), &given_by_tables(trial, given.table())).is_some()
+        || trial.streams.iter().any(|stream| held::difference(stream, &held::paper(&loaded, stream), &library::judge(By::Book(trial.book()), stream)).is_some())
 }
 
 /// Each planted fault must be found. Those of the paper are held against what was given once; for those of the library the calls are repeated.

@@ -1,6 +1,7 @@
 //! The paper, part three: runs (01, "Runs"). An object is accepted in *some* order of its pairs, so orders are tried.
 
 use crate::book::{Book, Edge, Form, Kind, RULES};
+use crate::frames::Rules;
 use crate::plant::{on, Plant};
 use crate::text::Value;
 use std::collections::HashSet;
@@ -9,22 +10,22 @@ use std::collections::HashSet;
 const PLAIN_PAIRS: usize = 6;
 
 /// True where the value has an accepting run of rule 0; a scalar root is invalid.
-pub fn valid(book: &Book, value: &Value) -> bool {
+pub fn valid<R: Rules>(judge: &R, value: &Value) -> bool {
     let scalar = !matches!(value, Value::Arr(_) | Value::Obj(_));
-    rules(book, value) & 1 == 1 || on(Plant::ScalarRoot) && scalar
+    rules(judge, value) & 1 == 1 || on(Plant::ScalarRoot) && scalar
 }
 
 /// The rules that have an accepting run over the value: bit n for rule n.
-fn rules(book: &Book, value: &Value) -> u32 {
+fn rules<R: Rules>(judge: &R, value: &Value) -> u32 {
     let fitted: Vec<u32> = match value {
-        Value::Arr(list) => list.iter().map(|v| rules(book, v)).collect(),
-        Value::Obj(pairs) => pairs.iter().map(|(_, v)| rules(book, v)).collect(),
+        Value::Arr(list) => list.iter().map(|v| rules(judge, v)).collect(),
+        Value::Obj(pairs) => pairs.iter().map(|(_, v)| rules(judge, v)).collect(),
         _ => return 0,
     };
-    accepting(book, value, &fitted)
+    judge.accepting(value, &fitted)
 }
 
-/// The same, where the rules over each inner value are known.
+/// The same of a book, where the rules over each inner value are known.
 pub fn accepting(book: &Book, value: &Value, fitted: &[u32]) -> u32 {
     let mut found = 0;
     let form = if let Value::Arr(_) = value { Form::Arr } else { Form::Obj };

@@ -1,7 +1,8 @@
 //! The paper, part four: parts of a stream, their verdicts, and what the judging program prints (01, "The stream").
 
 use crate::book::{Book, Refusal};
-use crate::frames;
+use crate::flat::Flat;
+use crate::frames::{self, Rules};
 use crate::plant::{on, Plant};
 use crate::run::valid;
 use crate::text::{whole, Stop};
@@ -39,7 +40,7 @@ pub fn parts(stream: &[u8]) -> Vec<Part<'_>> {
 }
 
 /// The verdict of a part: its first fault among 15, 13, 11, 12, or 14 at its end, or else by its runs.
-pub fn verdict(book: &Book, part: &Part, levels: usize) -> Verdict {
+pub fn verdict<R: Rules>(rules: &R, part: &Part, levels: usize) -> Verdict {
     if part.head && !on(Plant::HeadJudged) {
         return Verdict::Refused(15, 0);
     }
@@ -54,7 +55,7 @@ pub fn verdict(book: &Book, part: &Part, levels: usize) -> Verdict {
         Err(Stop::Deep(place)) => Verdict::Refused(12, place),
         _ if length > longest => Verdict::Refused(13, longest),
         Err(Stop::End) => Verdict::Refused(14, unfinished(part.bytes)),
-        Ok(value) => if valid(book, &value) { Verdict::Valid } else { Verdict::Invalid },
+        Ok(value) => if valid(rules, &value) { Verdict::Valid } else { Verdict::Invalid },
     }
 }
 
@@ -66,15 +67,15 @@ fn unfinished(bytes: &[u8]) -> usize {
     bytes.len()
 }
 
-/// What load, start, feed and close find: a refused book, a refused start (21), or a verdict for each record with the bytes read by then.
-pub enum Found { Book(u32, usize), Start, Judged(Vec<(Verdict, usize)>) }
+/// What load, start, feed and close find: a refused book, a refused start (21 or 23), or a verdict for each record with the bytes read by then.
+pub enum Found { Book(u32, usize), Start(u32), Judged(Vec<(Verdict, usize)>) }
 
 /// Load, start with the work buffer, feed and close; the buffer is left as they leave it.
 pub fn judge(loaded: &Result<Book, Refusal>, stream: &[u8], work: &mut [u8]) -> Found {
     let least = if on(Plant::Buffer97) { 97 } else { 96 };
     let small = work.len() < least;
     if on(Plant::StartFirst) && small {
-        return Found::Start;
+        return Found::Start(21);
     }
     if on(if loaded.is_err() || small { Plant::RefusedClears } else { Plant::StartClears }) {
         work.fill(0);
@@ -85,15 +86,31 @@ pub fn judge(loaded: &Result<Book, Refusal>, stream: &[u8], work: &mut [u8]) -> 
     }
     match loaded {
         Err((number, line)) => Found::Book(*number, *line),
-        Ok(_) if small => Found::Start,
-        Ok(book) => Found::Judged(parts(stream).iter().map(|part| (record(book, part, work), part.read)).collect()),
+        Ok(_) if small => Found::Start(21),
+        Ok(book) => judged(book, stream, work),
     }
 }
 
+/// Start with any bytes as a table, feed and close.
+pub fn judge_table(table: &[u8], stream: &[u8], work: &mut [u8]) -> Found {
+    let flat = Flat(table);
+    match () {
+        _ if work.len() < 96 && on(Plant::TableLater) => Found::Start(21),
+        _ if flat.above_limit() => Found::Start(23),
+        _ if work.len() < 96 => Found::Start(21),
+        _ => judged(&flat, stream, work),
+    }
+}
+
+/// A verdict for each record.
+fn judged<R: Rules>(rules: &R, stream: &[u8], work: &mut [u8]) -> Found {
+    Found::Judged(parts(stream).iter().map(|part| (record(rules, part, work), part.read)).collect())
+}
+
 /// The verdict of a part, and its frames.
-fn record(book: &Book, part: &Part, work: &mut [u8]) -> Verdict {
-    let verdict = verdict(book, part, frames::count(work.len()));
-    frames::draw(book, part, verdict, work);
+fn record<R: Rules>(rules: &R, part: &Part, work: &mut [u8]) -> Verdict {
+    let verdict = verdict(rules, part, frames::count(work.len()));
+    frames::draw(rules, part, verdict, work);
     verdict
 }
 
@@ -101,7 +118,7 @@ fn record(book: &Book, part: &Part, work: &mut [u8]) -> Verdict {
 pub fn lines(found: &Found) -> Vec<String> {
     match found {
         Found::Book(number, line) => vec!["number line".to_string(), format!("{number} {line}")],
-        Found::Start => Vec::new(),
+        Found::Start(_) => Vec::new(),
         Found::Judged(verdicts) => {
             let mut list = vec!["verdict number place".to_string()];
             list.extend(verdicts.iter().map(|(verdict, _)| match verdict {

@@ -3,10 +3,10 @@
 use crate::frames::FRAMES;
 use crate::stream::{Found, Verdict};
 
-/// Valid, invalid, 11 to 15, a refused start (21), books 0 to 9; and the numbers of frames met.
+/// Valid, invalid, 11 to 15, starts refused with 21 and 23, books 0 to 9; and the numbers of frames met.
 pub struct Table {
     verdicts: [u64; 7],
-    starts: u64,
+    starts: [u64; 2],
     books: [u64; 10],
     frames: [u64; FRAMES + 1],
 }
@@ -15,14 +15,14 @@ const NAMES: [&str; 7] = ["valid", "invalid", "11", "12", "13", "14", "15"];
 
 impl Table {
     pub fn new() -> Table {
-        Table { verdicts: [0; 7], starts: 0, books: [0; 10], frames: [0; FRAMES + 1] }
+        Table { verdicts: [0; 7], starts: [0; 2], books: [0; 10], frames: [0; FRAMES + 1] }
     }
 
     /// Counts what was found with a work buffer of this length.
     pub fn count(&mut self, found: &Found, work: usize) {
         match found {
             Found::Book(number, _) => self.books[*number as usize] += 1,
-            Found::Start => self.starts += 1,
+            Found::Start(number) => self.starts[usize::from(*number == 23)] += 1,
             Found::Judged(list) => {
                 self.books[0] += 1;
                 self.frames[(work / 96).min(FRAMES)] += 1;
@@ -44,14 +44,14 @@ impl Table {
 
     /// Verdicts, refused books and refused starts.
     pub fn cases(&self) -> u64 {
-        self.verdicts.iter().sum::<u64>() + self.books[1..].iter().sum::<u64>() + self.starts
+        self.verdicts.iter().sum::<u64>() + self.books[1..].iter().sum::<u64>() + self.starts.iter().sum::<u64>()
     }
 
     /// The classes with their counts.
     fn classes(&self) -> Vec<(String, u64)> {
         let records = NAMES.iter().zip(self.verdicts).map(|(name, count)| (format!("record {name}"), count));
         let books = self.books.iter().enumerate().map(|(number, &count)| (format!("book   {number}"), count));
-        records.chain([("start  21".to_string(), self.starts)]).chain(books).collect()
+        records.chain([("start  21".to_string(), self.starts[0]), ("start  23".to_string(), self.starts[1])]).chain(books).collect()
     }
 }
 
@@ -61,7 +61,7 @@ pub fn print(library: &Table, program: &Table) -> usize {
     let mut missed = 0;
     for ((name, first), (_, second)) in library.classes().iter().zip(program.classes()) {
         println!("{name:<16}{first:>10}{second:>10}");
-        missed += usize::from(*first == 0) + usize::from(second == 0 && name != "start  21");
+        missed += usize::from(*first == 0) + usize::from(second == 0 && !name.starts_with("start"));
     }
     let met = library.frames[1..].iter().filter(|&&count| count > 0).count();
     println!("{met} of {FRAMES} numbers of frames met");

@@ -1,6 +1,7 @@
 //! Makes the trials: a book, and streams for it with what is lent along with them.
 
 use crate::book::load;
+use crate::flat::{changes, of_book};
 use crate::make_book::{book_lines, changed, joined};
 use crate::make_record::{every_byte, long_stream, records, stream, LONG_STREAMS};
 use crate::rng::Rng;
@@ -14,6 +15,8 @@ const INSIDE: [&[u8]; 3] = [b"", b"[\"\",", b"{\"a\":"];
 const RECORDS: usize = 60;
 /// Other books of a trial.
 const BOOKS: usize = 2;
+/// Changed tables of a trial, at most.
+const TABLES: usize = 12;
 /// Of the trials made by chance, one in so many goes to the program too.
 const PROGRAM: u64 = 4;
 
@@ -38,7 +41,25 @@ const FIXED: &[u8] = b"rule form state key value next
 31 obj 3 - end -
 ";
 
+/// Bytes of the book's table that are changed, each with its new value, and a stream that is judged by the table then.
+pub struct Changed {
+    pub bytes: Vec<(usize, u8)>,
+    pub stream: Stream,
+}
+
+impl Changed {
+    /// The table with its bytes changed.
+    pub fn table(&self, table: &[u8]) -> Vec<u8> {
+        let mut table = table.to_vec();
+        for &(place, byte) in &self.bytes {
+            table[place] = byte;
+        }
+        table
+    }
+}
+
 /// A stream, the length of the work buffer, the calls with their sizes of pieces and lengths of out, and a seed for the bytes lent.
+#[derive(Clone)]
 pub struct Stream {
     pub bytes: Vec<u8>,
     pub work: usize,
@@ -58,6 +79,8 @@ pub struct Trial {
     pub program: Option<Handed>,
     /// Other books, of which only number and line are compared.
     pub books: Vec<Vec<u8>>,
+    /// Of an accepted book.
+    pub tables: Vec<Changed>,
 }
 
 impl Trial {
@@ -88,8 +111,9 @@ pub fn trial(seed: u64, number: u64) -> Trial {
         _ => RECORDS,
     };
     let frames = if program.is_some() { rng.range(64, 70) } else { frames(&mut rng) };
-    let mut list = match load(book.as_deref().unwrap_or(&[])) {
-        Ok(loaded) => records(&mut rng, &loaded, count, frames.min(64)),
+    let loaded = load(book.as_deref().unwrap_or(&[]));
+    let mut list = match &loaded {
+        Ok(loaded) => records(&mut rng, loaded, count, frames.min(64)),
         Err(_) => vec![b"{}".to_vec(), b"[]".to_vec()],
     };
     let streams = match program {
@@ -100,7 +124,10 @@ pub fn trial(seed: u64, number: u64) -> Trial {
         }
     };
     let books = (0..BOOKS).map(|i| changed(&mut rng, (number as usize * BOOKS + i) % 10 + 1)).collect();
-    Trial { book, streams, program, books }
+    let table = of_book(loaded.as_ref().ok());
+    let streams_cut = if loaded.is_ok() && program.is_none() { TABLES.min(streams.len()) } else { 0 };
+    let tables = streams[..streams_cut].iter().map(|stream| Changed { bytes: changes(&mut rng, &table), stream: stream.clone() }).collect();
+    Trial { book, streams, program, books, tables }
 }
 
 /// Long parts, and every byte in every place: each record by itself, behind one stream with all of them.
@@ -119,7 +146,7 @@ fn fixed(rng: &mut Rng, number: u64) -> Trial {
         }
         streams
     };
-    Trial { book: Some(FIXED.to_vec()), streams, program: Some(Handed { pieces: None }), books: Vec::new() }
+    Trial { book: Some(FIXED.to_vec()), streams, program: Some(Handed { pieces: None }), books: Vec::new(), tables: Vec::new() }
 }
 
 /// A number of frames from 1 to 70, few of them more often.

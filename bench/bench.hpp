@@ -73,6 +73,13 @@ struct Refusal {
 };
 Refusal refusal_of(const std::string &book);
 
+// Fills a table with the book, and gives the number of its refusal.
+uint8_t load(const std::string &book, std::vector<uint8_t> &table);
+
+// Judges a stream by a table, and gives the number of entries.
+size_t judge_by_table(const std::vector<uint8_t> &table, const std::string &stream, size_t piece, std::vector<uint8_t> &work,
+                      std::vector<uint8_t> &out);
+
 // A call of ours: the entries that a book and a stream give with a work buffer of so many bytes.
 struct Entry {
     int word, number;

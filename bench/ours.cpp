@@ -70,6 +70,16 @@ Refusal refusal_of(const std::string &book) {
     return {number, number == 0 ? 0 : fieldtext_book_line(bytes_of(book), book.size())};
 }
 
+uint8_t load(const std::string &book, std::vector<uint8_t> &table) {
+    table.resize(FIELDTEXT_TABLE);
+    return fieldtext_load(bytes_of(book), book.size(), table.data());
+}
+
+size_t judge_by_table(const std::vector<uint8_t> &table, const std::string &stream, size_t piece, std::vector<uint8_t> &work,
+                      std::vector<uint8_t> &out) {
+    return fieldtext_judge_table(table.data(), bytes_of(stream), stream.size(), piece, work.data(), work.size(), out.data(), out.size());
+}
+
 std::vector<Entry> judged(const std::string &book, const std::string &stream, size_t piece, size_t work_bytes) {
     std::vector<uint8_t> work(work_bytes);
     const size_t most = 1 + static_cast<size_t>(std::count(stream.begin(), stream.end(), RS));

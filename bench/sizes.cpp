@@ -55,8 +55,11 @@ void measure_sizes(Report &report, size_t text_bytes) {
     if (text_bytes > 0) {
         row("code and constants of the archive", text_bytes);
     }
-    row("stack of fieldtext_book_number, which loads", own_stack_bytes([&] { refusal_of(input.book); }));
-    row("stack of fieldtext_judge", own_stack_bytes([&] { ours.run(input, 64); }));
+    std::vector<uint8_t> table, work(96 * 64), out;
+    load(input.book, table);
+    row("stack of fieldtext_load", own_stack_bytes([&] { load(input.book, table); }));
+    row("stack of fieldtext_judge_table: start, feeds and close", own_stack_bytes([&] { judge_by_table(table, input.stream, 64, work, out); }));
+    row("stack of fieldtext_judge, which has a table of its own", own_stack_bytes([&] { ours.run(input, 64); }));
     row("work buffer for each level", 96);
     row("work buffer for 64 levels", 96 * 64);
     report.line("## Memory of ours\n");

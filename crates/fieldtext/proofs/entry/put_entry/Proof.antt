@@ -36,4 +36,7 @@ returns-2 : tie.Need-returns-2
 returns-2 c = search (needs, entry-none)
 
 pub put-entry-spec : {M : Type 1} → statement M
-put-entry-spec = tie.close (tie.spec (λ c. search needs) (λ c. search needs) (λ c. search needs) slice-write-out-2 (λ c. search needs) slice-write-out-3 (λ c. search needs) slice-write-out-4 (λ c. search needs) put-little-requires (λ c. search needs) put-little-requires-2 same-length returns returns-2)
+put-entry-spec =
+    tie.close
+    (tie.spec (λ c. search needs) (λ c. search needs) (λ c. search needs) slice-write-out-2 (λ c. search needs) slice-write-out-3 (λ c. search needs)
+    slice-write-out-4 (λ c. search needs) put-little-requires (λ c. search needs) put-little-requires-2 same-length returns returns-2)

@@ -60,4 +60,8 @@ returns-2 c = (
 )
 
 pub feed-all-spec : {M : Type 1} → statement M
-feed-all-spec = tie.close (tie.spec Inv-loop μ-loop loop-holds piece-end-requires sub-feed part-feed-start part-feed-end (λ c κs. search needs) add-read (λ c κs. search needs) (λ c. search needs) (λ c. search needs) returns put-answer-requires loop-less loop-again (λ c. search needs) (λ c. search needs) returns-2)
+feed-all-spec =
+    tie.close
+    (tie.spec Inv-loop μ-loop loop-holds piece-end-requires sub-feed part-feed-start part-feed-end (λ c κs. search needs) add-read
+    (λ c κs. search needs) (λ c. search needs) (λ c. search needs) returns put-answer-requires loop-less loop-again (λ c. search needs)
+    (λ c. search needs) returns-2)

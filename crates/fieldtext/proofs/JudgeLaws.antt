@@ -1,6 +1,6 @@
 -- A call of the library by its parts: the book, the start, and the stream. Assumes nothing.
-use mathlib.Core.Bool.{Bool, true, false, cond}
-use mathlib.Core.List.{List, [], _∷_}
+use mathlib.Core.Bool.{Bool, true, false}
+use mathlib.Core.List.{List}
 use mathlib.Core.Path.{_≡_, refl, sym, ap, _∙_}
 use Prim.Native.Nat.{ℕ, _+_}
 use native.Mathlib.Omega.{arith}
@@ -20,8 +20,8 @@ use Rattle.reader.specs.declared.Refusal.{Refusal}
 use Rattle.reader.specs.Machine.{Start, startOf, refusalNumber}
 use Rattle.verdict.specs.declared.Verdict.{Verdict}
 use Rattle.verdict.specs.Verdict.{told}
-use Rattle.fieldtext.specs.Entries.{wordNumber, refusalEntry, verdictEntry, withEntry, withEntries}
-use Rattle.fieldtext.specs.Judge.{answerEntries, isQuiet, Judged, Called, streamed, started, judges, inOut, judgeTableOf, judgeOf}
+use Rattle.fieldtext.specs.Entries.{wordNumber, verdictEntry, withEntry, withEntries}
+use Rattle.fieldtext.specs.Judge.{answerEntries, isQuiet, Judged, Called, streamed, judges, inOut, judgeTableOf, judgeOf}
 
 -- ---- the entry of a verdict, and of an answer
 

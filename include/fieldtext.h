@@ -17,13 +17,26 @@ extern "C" {
      8-15   bytes of the stream read by then; lowest byte first */
 #define FIELDTEXT_ENTRY 16
 
+/* The bytes of a table: docs/LIMITS.md has their layout. */
+#define FIELDTEXT_TABLE 7920
+
 /* The number of a book's refusal, and its line; 0 where the book is accepted. */
 uint8_t fieldtext_book_number(const uint8_t *book, size_t book_length);
 size_t fieldtext_book_line(const uint8_t *book, size_t book_length);
 
-/* Loads the book, starts with the work buffer, feeds the stream in pieces of size bytes (0: in one piece) and closes.
-   Returns how many entries that gives. Entry i is written to out + 16 * i, where out has these 16 bytes; no other byte of out
-   is written. A refused book, or a refused start, gives one entry and leaves the work buffer as it is. */
+/* Fills the table with what the book says, all FIELDTEXT_TABLE bytes of it, and returns the number of the book's refusal; 0 where it
+   is accepted. After a refusal every byte of the table is 0. */
+uint8_t fieldtext_load(const uint8_t *book, size_t book_length, uint8_t *table);
+
+/* Starts with a table of FIELDTEXT_TABLE bytes and the work buffer, feeds the stream in pieces of size bytes (0: in one piece) and
+   closes. Returns how many entries that gives. Entry i is written to out + 16 * i, where out has these 16 bytes; no other byte of out
+   is written. A refused start gives one entry and leaves the work buffer as it is: 23 where a number of the table is above its limit,
+   which fieldtext_load never leaves; 21 where the work buffer is too short. */
+size_t fieldtext_judge_table(const uint8_t *table, const uint8_t *stream, size_t stream_length, size_t size,
+                             uint8_t *work, size_t work_length, uint8_t *out, size_t out_length);
+
+/* Loads the book into a table of its own, and judges by that as fieldtext_judge_table does. A refused book gives one entry and leaves
+   the work buffer as it is. */
 size_t fieldtext_judge(const uint8_t *book, size_t book_length, const uint8_t *stream, size_t stream_length, size_t size,
                        uint8_t *work, size_t work_length, uint8_t *out, size_t out_length);
 

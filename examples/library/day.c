@@ -29,6 +29,7 @@ static uint64_t little(const uint8_t *at, int bytes) {
 
 int main(int count, char **words) {
     static const char *const word[] = {"valid", "invalid", "refused"};
+    static uint8_t table[FIELDTEXT_TABLE];
     static uint8_t work[64 * 96]; /* 64 levels */
     FILE *file = count == 2 ? fopen(words[1], "rb") : NULL;
     if (!file)
@@ -39,12 +40,15 @@ int main(int count, char **words) {
     uint8_t *out = malloc(FIELDTEXT_ENTRY * room);
     if (!book.at || !stream.at || !out)
         return fputs("no memory\n", stderr), 2;
-    size_t made = fieldtext_judge(book.at, book.length, stream.at, stream.length, 4096, work, sizeof work, out, FIELDTEXT_ENTRY * room);
+    unsigned refusal = fieldtext_load(book.at, book.length, table);
+    if (refusal)
+        return printf("refused %u %zu, read 0\n", refusal, fieldtext_book_line(book.at, book.length)), 0;
+    size_t made = fieldtext_judge_table(table, stream.at, stream.length, 4096, work, sizeof work, out, FIELDTEXT_ENTRY * room);
     if (made > room) { /* the first two are written; ask again with room for all */
         out = realloc(out, FIELDTEXT_ENTRY * made);
         if (!out)
             return fputs("no memory\n", stderr), 2;
-        fieldtext_judge(book.at, book.length, stream.at, stream.length, 4096, work, sizeof work, out, FIELDTEXT_ENTRY * made);
+        fieldtext_judge_table(table, stream.at, stream.length, 4096, work, sizeof work, out, FIELDTEXT_ENTRY * made);
     }
     for (size_t i = 0; i < made; i++) {
         const uint8_t *entry = out + FIELDTEXT_ENTRY * i;

@@ -1,12 +1,11 @@
 -- Entries byte by byte, and one entry after the other. Assumes nothing.
-use mathlib.Core.Bool.{Bool, true, false, cond}
 use mathlib.Core.List.{List, [], _∷_, _++_}
-use mathlib.Core.Path.{_≡_, refl, sym, ap, _∙_}
-use Prim.Native.Nat.{ℕ, zero, suc, _+_, _-_, _*_, _/_, _%_, _≤_, _<_}
+use mathlib.Core.Path.{_≡_, refl, _∙_}
+use Prim.Native.Nat.{ℕ, suc, _+_, _-_, _*_, _/_, _%_, _≤_, _<_}
 use native.Mathlib.Omega.{arith}
 use lib.Dec.{ltb}
 use lib.ListN.{length, set, length-set}
-use lib.Seq.{sets, length-sets}
+use lib.Seq.{length-sets}
 use borrow.Author.Tests.{lt-ltb, le-ltb}
 use Rattle.laws.proofs.TestLaws.{cond-elim}
 use Rattle.text.specs.Put.{Put}

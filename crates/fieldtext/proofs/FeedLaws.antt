@@ -1,12 +1,12 @@
 -- A stream feed by feed: what is unread gives what the whole gives. Assumes nothing.
-use mathlib.Core.Bool.{Bool, true, false, cond}
-use mathlib.Core.List.{List, [], _∷_, _++_, append-nil}
+use mathlib.Core.Bool.{Bool, true, false}
+use mathlib.Core.List.{List, _++_}
 use mathlib.Core.Path.{_≡_, refl, sym, ap, subst, _∙_}
 use Prim.Native.Nat.{ℕ, zero, suc, _+_, _-_, _*_, _≤_, _<_}
 use native.Mathlib.Omega.{arith}
 use lib.Dec.{eqb}
 use lib.ListN.{length, take, drop, length-drop, length-append}
-use lib.Seq.{drop-drop, length-take-le}
+use lib.Seq.{drop-drop}
 use borrow.Author.Tests.{eq-eqb, ne-eqb}
 use Rattle.book.proofs.TruthLaws.{true-not-false}
 use Rattle.table.specs.Table.{Table}
@@ -17,9 +17,10 @@ use Rattle.reader.specs.declared.Refusal.{Refusal}
 use Rattle.reader.specs.Machine.{Outcome, feedOf, closeOf}
 use Rattle.demand.proofs.FeedLaws.{count-of-feed, some-of-feed, weight, weight-of-feed}
 use Rattle.fieldtext.specs.Entries.{Entry, withEntries}
-use Rattle.fieldtext.specs.Judge.{answerEntries, isRefused, Fed, stopped, entriesThen, fedThen, pieceOf, pieceEnd, feeds, Feeds, streamed, closes, Called, inOut}
+use Rattle.fieldtext.specs.Judge.{answerEntries, isRefused, Fed, stopped, entriesThen, pieceOf, pieceEnd, feeds, Feeds, streamed, inOut}
+use Rattle.fieldtext.specs.Turn.{Turn, feedNext, turnOf}
 use Rattle.fieldtext.proofs.EntryLaws.{withEntries-append}
-use Rattle.fieldtext.proofs.PieceLaws.{piece-is, piece-some, end-inside}
+use Rattle.fieldtext.proofs.PieceLaws.{piece-is, piece-some, piece-short}
 
 -- an answer has at most one entry
 one-entry : (a : Answer) (read : ℕ) → length (answerEntries a read) ≤ 1
@@ -56,6 +57,36 @@ module _ (t : Table) (size : ℕ) (r : Reader) (w : List ℕ) (read : ℕ) (s : 
         ≡ entriesThen (answerEntries (o .answer) (read + o .count)) (feeds k t size (o .reader) (o .work) (read + o .count) (drop (o .count) s))
     unfolding feeds
     feeds-more e = rw (some-left, sym fed, e)
+
+-- ---- one turn of the loop
+
+module _ (t : Table) (size : ℕ) (s : List ℕ) (r : Reader) (w : List ℕ) (read : ℕ) where
+  pub fed-piece : read ≤ length s → (end : ℕ) → end ≡ pieceEnd size read (length s)
+      → (x : Outcome) → x ≡ feedOf r t w (take (end - read) (drop read s)) → x ≡ feedNext t size s r w read
+  fed-piece h end cut x lent = rw (cut, piece-is size read s h) at lent
+
+  pub fed-inside : read ≤ length s → read + feedNext t size s r w read .count ≤ length s
+  fed-inside h =
+      omega (arith, h, length-drop read s, count-of-feed r t w (pieceOf size read (drop read s)), piece-short size read (drop read s))
+
+  pub fed-count : read ≤ length s → (end : ℕ) → end ≡ pieceEnd size read (length s) → (next : Reader) (count : ℕ) (a : Answer) (work : List ℕ)
+      → record { reader = next; count = count; answer = a; work = work } ≡ feedOf r t w (take (end - read) (drop read s))
+      → read + count ≤ length s
+  fed-count h end cut next count a work lent =
+      omega (arith, ap (λ (x : Outcome). x .count) (fed-piece h end cut (record { reader = next; count = count; answer = a; work = work }) lent), fed-inside h)
+
+  module _ (o : List ℕ) (made : ℕ) (next : Reader) (count : ℕ) (a : Answer) (work : List ℕ)
+      (fed : record { reader = next; count = count; answer = a; work = work } ≡ feedNext t size s r w read) (b : Bool) (said : b ≡ isRefused a) where
+    pub turn-refused : b ≡ true
+        → record { reader = next; work = work; read = read + count; out = o; made = made; refused = true } ≡ turnOf t size s r w read o made
+    unfolding turnOf withEntries
+    turn-refused e = let none : made + 0 ≡ made = omega arith in rw (sym fed, sym said, e, none)
+
+    pub turn-put : b ≡ false → (after : List ℕ) (now : ℕ) → after ≡ withEntries o made (answerEntries a (read + count))
+        → now ≡ made + length (answerEntries a (read + count))
+        → record { reader = next; work = work; read = read + count; out = after; made = now; refused = false } ≡ turnOf t size s r w read o made
+    unfolding turnOf
+    turn-put e after now h d = rw (sym fed, sym said, e, h, d)
 
 -- ---- the loop: read bytes of the stream s are read, and made entries are made
 
@@ -109,22 +140,10 @@ module _ (t : Table) (size : ℕ) (w₀ s o₀ : List ℕ) (r : Reader) where
     pub going-done : length s ≤ read → Feeds whole o₀ next w read o made
     going-done h = stops next w read (feeds-done t size next w read (drop read s) (x .feed) (omega (arith, h, length-drop read s)))
 
-    pub made-inside : made ≤ length s - 1
-    made-inside = omega (arith, x .few, x .inside)
-
-    pub piece-inside : (end : ℕ) → end ≡ pieceEnd size read (length s) → (read ≤ end) × (end ≤ length s)
-    piece-inside end cut = rw cut (end-inside size read (length s) (x .inside))
-
-    module _ (more : read < length s) (end : ℕ) (cut : end ≡ pieceEnd size read (length s)) (f : Outcome)
-        (lent : f ≡ feedOf next t w (take (end - read) (drop read s))) where
-      fed : f ≡ feedOf next t w (pieceOf size read (drop read s))
-      fed = rw (cut, piece-is size read s (x .inside)) at lent
-
-      pub count-inside : read + f .count ≤ length s
-      count-inside =
-          let e = end-inside size read (length s) (x .inside) in
-          let n = length-take-le (end - read) (drop read s) (omega (arith, cut, e .1, length-drop read s)) in
-          omega (arith, cut, e .0, e .1, n, rw (sym lent) at (count-of-feed next t w (take (end - read) (drop read s))))
+    module _ (more : read < length s) (next' : Reader) (w' : List ℕ) (read' : ℕ) (o' : List ℕ) (made' : ℕ) (refused : Bool)
+        (turn : record { reader = next'; work = w'; read = read'; out = o'; made = made'; refused = refused } ≡ turnOf t size s next w read o made) where
+      abbrev f : Outcome
+      f = feedNext t size s next w read
 
       some : 0 < length (drop read s)
       some = omega (arith, more, length-drop read s)
@@ -132,15 +151,35 @@ module _ (t : Table) (size : ℕ) (w₀ s o₀ : List ℕ) (r : Reader) where
       fuel : x .feed ≡ suc (x .feed - 1)
       fuel = omega (arith, more, x .enough)
 
-      pub going-refused : isRefused (f .answer) ≡ true → Feeds whole o₀ (f .reader) (f .work) (read + f .count) o made
-      going-refused e =
-          stops (f .reader) (f .work) (read + f .count)
-          (subst (λ k. feeds k t size next w read (drop read s) ≡ stopped (f .reader) (f .work) (read + f .count)) (sym fuel)
-          (feeds-refused t size next w read (drop read s) (x .feed - 1) some f fed e))
+      refused-is : refused ≡ isRefused (f .answer)
+      unfolding turnOf
+      refused-is = ap (λ (y : Turn). y .refused) turn
 
-      module _ (on : isRefused (f .answer) ≡ false) where
-        pub count-some : 0 < f .count
-        count-some = rw (sym fed) at (some-of-feed next t w (pieceOf size read (drop read s)) (piece-some size read (drop read s) some) (rw fed at (served (f .answer) on)))
+      pub going-refused : refused ≡ true → Feeds whole o₀ next' w' read' o' made'
+      unfolding turnOf withEntries
+      going-refused e =
+          let said : isRefused (f .answer) ≡ true = sym refused-is ∙ e in
+          let none : made + 0 ≡ made = omega arith in
+          let last : left ≡ stopped (f .reader) (f .work) (read + f .count) =
+          rw fuel (feeds-refused t size next w read (drop read s) (x .feed - 1) some f refl said) in
+          subst (λ (y : Turn). Feeds whole o₀ (y .reader) (y .work) (y .read) (y .out) (y .made)) (sym turn)
+          (rw (said, none) (stops (f .reader) (f .work) (read + f .count) last))
+
+      -- a refused feed makes no entry
+      pub made-refused : refused ≡ true → length s < 18446744073709551616 → made' < 18446744073709551615
+      unfolding turnOf
+      made-refused e fits =
+          let said : isRefused (f .answer) ≡ true = sym refused-is ∙ e in
+          let same : made' ≡ made + 0 = rw said at (ap (λ (y : Turn). y .made) turn) in
+          omega (arith, same, x .few, more, fits)
+
+      module _ (on : refused ≡ false) where
+        served-on : isRefused (f .answer) ≡ false
+        served-on = sym refused-is ∙ on
+
+        count-some : 0 < f .count
+        count-some =
+            some-of-feed next t w (pieceOf size read (drop read s)) (piece-some size read (drop read s) some) (served (f .answer) served-on)
 
         abbrev entries : List Entry
         entries = answerEntries (f .answer) (read + f .count)
@@ -151,7 +190,7 @@ module _ (t : Table) (size : ℕ) (w₀ s o₀ : List ℕ) (r : Reader) where
         left-is : left ≡ entriesThen entries rest
         left-is =
             subst (λ k. feeds k t size next w read (drop read s) ≡ entriesThen entries rest) (sym fuel)
-            (rw (sym (drop-drop (f .count) read s)) (feeds-more t size next w read (drop read s) (x .feed - 1) some f fed on))
+            (rw (sym (drop-drop (f .count) read s)) (feeds-more t size next w read (drop read s) (x .feed - 1) some f refl served-on))
 
         few-more : made + length entries ≤ read + f .count - 1
         few-more = go read refl
@@ -162,39 +201,56 @@ module _ (t : Table) (size : ℕ) (w₀ s o₀ : List ℕ) (r : Reader) where
                   arith,
                   z,
                   x .few,
-                  entry-weight (f .answer) (read + f .count) on,
-                  rw (sym fed) at (weight-of-feed next t w (pieceOf size read (drop read s)) (x .fresh (sym z))),
+                  entry-weight (f .answer) (read + f .count) served-on,
+                  weight-of-feed next t w (pieceOf size read (drop read s)) (x .fresh (sym z)),
                 )
             go (suc n) z = omega (arith, z, x .few, one-entry (f .answer) (read + f .count), count-some)
 
-        pub going-more : (after : List ℕ) (now : ℕ) → after ≡ withEntries o made entries → now ≡ made + length entries
-            → Going (f .work) after (f .reader) (read + f .count) now
-        going-more after now e d =
-            record {
+        turn-is : _≡_ {A = Turn} (record { reader = next'; work = w'; read = read'; out = o'; made = made'; refused = refused })
+            (record {
+              reader = f .reader;
+              work = f .work;
+              read = read + f .count;
+              out = withEntries o made entries;
+              made = made + length entries;
+              refused = false;
+            })
+        unfolding turnOf
+        turn-is = rw served-on at turn
+
+        pub going-more : Going w' o' next' read' made'
+        going-more =
+            subst (λ (y : Turn). Going (y .work) (y .out) (y .reader) (y .read) (y .made)) (sym turn-is)
+            (record {
               feed = x .feed - 1;
               enough = omega (arith, x .enough, count-some, more);
-              inside = count-inside;
+              inside = fed-inside t size s next w read (x .inside);
               fresh = λ z. absurd (omega (arith, z, count-some));
-              few = omega (arith, d, few-more);
+              few = few-more;
               reader = rw left-is at (x .reader);
               work = rw left-is at (x .work);
               reads = rw left-is at (x .reads);
-              out = rw (e, d) (sym (withEntries-append o made entries (rest .entries)) ∙ rw left-is at (x .out));
-              count = omega (arith, d, length-append entries (rest .entries), rw left-is at (x .count));
-            }
+              out = sym (withEntries-append o made entries (rest .entries)) ∙ rw left-is at (x .out);
+              count = omega (arith, length-append entries (rest .entries), rw left-is at (x .count));
+            })
+
+        pub less-unread : length s - read' < length s - read
+        less-unread = omega (arith, ap (λ (y : Turn). y .read) turn-is, count-some, more)
 
 -- ---- the feeds of a stream, then the close
 
 module _ (t : Table) (size : ℕ) (r : Reader) (w s o : List ℕ) where
   pub streamed-of : (next : Reader) (work : List ℕ) (read : ℕ) (mid : List ℕ) (made : ℕ)
-      → Feeds (feeds (length s) t size r w 0 s) o next work read mid made → (c : Outcome) → c ≡ closeOf next t work
-      → (after : List ℕ) (now : ℕ) → after ≡ withEntries mid made (answerEntries (c .answer) read) → now ≡ made + length (answerEntries (c .answer) read)
+      → Feeds (feeds (length s) t size r w 0 s) o next work read mid made → (closed : Reader) (n : ℕ) (a : Answer) (left : List ℕ)
+      → record { reader = closed; count = n; answer = a; work = left } ≡ closeOf next t work
+      → (after : List ℕ) (now : ℕ) → after ≡ withEntries mid made (answerEntries a read) → now ≡ made + length (answerEntries a read)
       → record { work = work; out = after; made = now } ≡ inOut o (streamed t size r w s)
   unfolding streamed
-  streamed-of next work read mid made x c e after now d n =
+  streamed-of next work read mid made x closed k a left e after now d n =
       let f : Fed = feeds (length s) t size r w 0 s in
       let es : List Entry = answerEntries (closeOf (f .reader) t (f .work) .answer) (f .read) in
-      let said : answerEntries (c .answer) read ≡ es = rw (e, x .reader-is, x .work-is, x .read-is) in
+      let said : answerEntries a read ≡ es =
+      rw (ap (λ (c : Outcome). c .answer) e, x .reader-is, x .work-is, x .read-is) in
       let made-is : made ≡ 0 + length (f .entries) = omega (arith, x .made-is) in
       let out : after ≡ withEntries o 0 (f .entries ++ es) =
       d ∙ rw (said, x .out-is, made-is) (sym (withEntries-append o 0 (f .entries) es)) in

@@ -1,6 +1,6 @@
 -- A call of the library by its parts: the book, the start, and the stream. Assumes nothing.
-use mathlib.Core.Bool.{Bool, true, false, cond}
-use mathlib.Core.List.{List, [], _∷_}
+use mathlib.Core.Bool.{Bool, true, false}
+use mathlib.Core.List.{List}
 use mathlib.Core.Path.{_≡_, refl, sym, ap, _∙_}
 use Prim.Native.Nat.{ℕ, _+_}
 use native.Mathlib.Omega.{arith}
@@ -20,8 +20,8 @@ use Rattle.reader.specs.declared.Refusal.{Refusal}
 use Rattle.reader.specs.Machine.{Start, startOf, refusalNumber}
 use Rattle.verdict.specs.declared.Verdict.{Verdict}
 use Rattle.verdict.specs.Verdict.{told}
-use Rattle.fieldtext.specs.Entries.{wordNumber, refusalEntry, verdictEntry, withEntry, withEntries}
-use Rattle.fieldtext.specs.Judge.{answerEntries, isQuiet, Judged, Called, streamed, started, judges, inOut, judgeOf}
+use Rattle.fieldtext.specs.Entries.{wordNumber, verdictEntry, withEntry, withEntries}
+use Rattle.fieldtext.specs.Judge.{answerEntries, isQuiet, Judged, Called, streamed, judges, inOut, judgeTableOf, judgeOf}
 
 -- ---- the entry of a verdict, and of an answer
 
@@ -56,6 +56,18 @@ start-fresh t w y e =
     let P : Start → Type 0 = λ (z : Start). z .reader .lex .pos ≡ 0 in
     rw e (cond-elim P (withinLimits t) (λ _. cond-elim P (ltb (length w) 96) (λ _. refl) (λ _. refl)) (λ _. refl))
 
+module _ (t : Table) (s : List ℕ) (size : ℕ) (w o : List ℕ) (y : Start) (st : y ≡ startOf t w) (quiet : Bool) (q : quiet ≡ isQuiet (y .answer)) where
+  pub judge-streamed : quiet ≡ true → (z : Called) → z ≡ inOut o (streamed t size (y .reader) w s) → z ≡ judgeTableOf t s size w o
+  unfolding judgeTableOf
+  judge-streamed e z h = h ∙ rw (sym st, sym q, e)
+
+  pub judge-unstarted : quiet ≡ false → (after : List ℕ) (made : ℕ) → after ≡ withEntries o 0 (answerEntries (y .answer) 0)
+      → made ≡ 0 + length (answerEntries (y .answer) 0) → record { work = w; out = after; made = made } ≡ judgeTableOf t s size w o
+  unfolding judgeTableOf
+  judge-unstarted e after made h m =
+      let k : made ≡ length (answerEntries (y .answer) 0) = omega (arith, m) in
+      rw (sym st, sym q, e, h, k)
+
 -- ---- the book
 
 module _ (b : List ℕ) (x : Loaded) (l : LoadsAs b x) where
@@ -75,17 +87,8 @@ module _ (b : List ℕ) (x : Loaded) (l : LoadsAs b x) where
         let e : eqb (loads b .number) 0 ≡ false = ne-eqb (loads b .number) 0 (λ z. un (sym k ∙ z)) in
         rw (e, k, sym (line-of-book line m), h)
 
-    module _ (yes : number ≡ 0) (y : Start) (st : y ≡ startOf (x .table) w) (quiet : Bool) (q : quiet ≡ isQuiet (y .answer)) where
-      accepted : eqb (loads b .number) 0 ≡ true
-      accepted = eq-eqb (loads b .number) 0 (sym (number-of-book number n) ∙ yes)
-
-      pub judge-streamed : quiet ≡ true → (z : Called) → z ≡ inOut o (streamed (x .table) size (y .reader) w s) → z ≡ judgeOf b s size w o
-      unfolding judgeOf judges
-      judge-streamed e z h = h ∙ rw (accepted, sym (l .table), sym st, sym q, e)
-
-      pub judge-unstarted : quiet ≡ false → (after : List ℕ) (made : ℕ) → after ≡ withEntries o 0 (answerEntries (y .answer) 0)
-          → made ≡ 0 + length (answerEntries (y .answer) 0) → record { work = w; out = after; made = made } ≡ judgeOf b s size w o
-      unfolding judgeOf judges
-      judge-unstarted e after made h m =
-          let k : made ≡ length (answerEntries (y .answer) 0) = omega (arith, m) in
-          rw (accepted, sym (l .table), sym st, sym q, e, h, k)
+    pub judge-accepted : number ≡ 0 → (z : Called) → z ≡ judgeTableOf (x .table) s size w o → z ≡ judgeOf b s size w o
+    unfolding judgeOf judgeTableOf judges
+    judge-accepted none z h =
+        let accepted : eqb (loads b .number) 0 ≡ true = eq-eqb (loads b .number) 0 (sym (number-of-book number n) ∙ none) in
+        h ∙ rw (accepted, sym (l .table))

@@ -6,9 +6,9 @@ use Prim.Native.Nat.{ℕ, zero, suc, _+_, _-_, _%_, _≤_, _<_}
 use native.Mathlib.Nat.{mod-lt}
 use native.Mathlib.Omega.{arith}
 use lib.Dec.{eqb, ltb}
-use lib.ListN.{length, take, drop, length-drop}
+use lib.ListN.{length, take, drop, length-take, length-drop}
 use lib.Seq.{take-all}
-use borrow.Author.Tests.{eq-eqb, ne-eqb, eqb-true, eqb-false, lt-ltb, le-ltb, ltb-true, ltb-false}
+use borrow.Author.Tests.{eq-eqb, ne-eqb, eqb-false, lt-ltb, le-ltb, ltb-true}
 use Rattle.fieldtext.specs.Judge.{pieceOf, pieceEnd}
 
 -- ---- where it ends
@@ -30,16 +30,6 @@ module _ (size read n : ℕ) where
     unfolding pieceEnd
     end-cut h = rw (ne-eqb size 0 some, le-ltb (n - read) (size - read % size) h)
 
-  pub end-inside : read ≤ n → (read ≤ pieceEnd size read n) × (pieceEnd size read n ≤ n)
-  unfolding pieceEnd
-  end-inside h = go (eqb size 0) (ltb (n - read) (size - read % size)) refl
-    where
-      go : (x y : Bool) → ltb (n - read) (size - read % size) ≡ y
-          → (read ≤ cond x n (cond y n (read + (size - read % size)))) × (cond x n (cond y n (read + (size - read % size))) ≤ n)
-      go true y e = (h, omega arith)
-      go false true e = (h, omega arith)
-      go false false e = (omega arith, omega (arith, h, ltb-false (n - read) (size - read % size) e))
-
 -- ---- its bytes
 
 module _ (size read : ℕ) (s : List ℕ) where
@@ -57,6 +47,15 @@ module _ (size read : ℕ) (s : List ℕ) where
       go false true e =
           all (length s - read) (omega arith) ∙ sym (all (size - read % size) (omega (arith, ltb-true (length s - read) (size - read % size) e)))
       go false false e = let d : read + (size - read % size) - read ≡ size - read % size = omega arith in ap (λ k. take k (drop read s)) d
+
+-- a piece is a part of what is unread
+pub piece-short : (size read : ℕ) (s : List ℕ) → length (pieceOf size read s) ≤ length s
+unfolding pieceOf
+piece-short size read s = go (eqb size 0)
+  where
+    go : (x : Bool) → length (cond x s (take (size - read % size) s)) ≤ length s
+    go true = omega arith
+    go false = omega (arith, length-take (size - read % size) s)
 
 take-some : (k : ℕ) (s : List ℕ) → 0 < k → 0 < length s → 0 < length (take k s)
 take-some k [] l h = absurd (omega (arith, h))

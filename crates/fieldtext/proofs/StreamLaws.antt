@@ -6,7 +6,7 @@ use mathlib.Core.Path.{_≡_, refl, sym, ap, subst, _∙_}
 use Prim.Native.Nat.{ℕ, zero, suc, _+_, _-_, _*_, _%_, _≤_, _<_}
 use native.Mathlib.Omega.{arith}
 use lib.Dec.{eqb}
-use lib.ListN.{length, take, drop, take-append-drop, length-append, length-drop}
+use lib.ListN.{length, take, drop, take-append-drop, length-drop}
 use lib.Seq.{drop-append-le}
 use borrow.Author.Tests.{eq-eqb}
 use Rattle.table.specs.Table.{Table}
@@ -30,7 +30,7 @@ use Rattle.demand.specs.Reading.{Reads, ended, fed}
 use Rattle.demand.proofs.FeedLaws.{count-of-feed, some-of-feed, length-of-feed}
 use Rattle.demand.proofs.ReadingLaws.{verdicts-of-reads, book-of-loaded, start-quiet, feed-served, close-served, good-of-feed}
 use Rattle.fieldtext.specs.Entries.{Entry as Said}
-use Rattle.fieldtext.specs.Judge.{answerEntries, isRefused, Fed, stopped, entriesThen, fedThen, pieceOf, feeds, closes, streamed, judges}
+use Rattle.fieldtext.specs.Judge.{answerEntries, isRefused, Fed, stopped, entriesThen, pieceOf, feeds, closes, streamed, judges}
 use Rattle.fieldtext.specs.Shows.{Shows, none, next}
 use Rattle.fieldtext.proofs.PieceLaws.{piece-some}
 use Rattle.fieldtext.proofs.FeedLaws.{feeds-done, feeds-more}

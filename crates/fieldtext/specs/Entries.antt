@@ -1,5 +1,5 @@
 -- The entries of the library, as bytes in a lent output: docs/LIBRARY.md. Stated. Assumes nothing.
-use mathlib.Core.Bool.{Bool, cond}
+use mathlib.Core.Bool.{cond}
 use mathlib.Core.List.{List, [], _∷_, _++_}
 use Prim.Native.Nat.{ℕ, zero, suc, _*_, _/_, _%_}
 use lib.Dec.{ltb}

@@ -12,7 +12,7 @@ use Rattle.load.specs.Step.{tableOf}
 use Rattle.reader.specs.declared.Reader.{Reader}
 use Rattle.reader.specs.declared.Answer.{Answer}
 use Rattle.reader.specs.declared.Answer.the-variants as Says
-use Rattle.reader.specs.Machine.{Outcome, Start, startOf, feedOf, closeOf, refusalNumber}
+use Rattle.reader.specs.Machine.{Outcome, startOf, feedOf, closeOf, refusalNumber}
 use Rattle.fieldtext.specs.Entries.{Entry, verdictEntry, refusalEntry, withEntries}
 
 -- ---- answers
@@ -93,6 +93,7 @@ closes t f = record { work = f .work; entries = f .entries ++ answerEntries (clo
 unfoldable pub streamed : Table → ℕ → Reader → List ℕ → List ℕ → Judged
 streamed t size r w s = closes t (feeds (length s) t size r w 0 s)
 
+-- a start; where it is refused, only its entry
 abbrev pub started : Table → ℕ → List ℕ → List ℕ → Judged
 started t size w s =
     cond (isQuiet (startOf t w .answer)) (streamed t size (startOf t w .reader) w s)
@@ -114,5 +115,10 @@ pub record Called : Type 0 where
 abbrev pub inOut : List ℕ → Judged → Called
 inOut o x = record { work = x .work; out = withEntries o 0 (x .entries); made = length (x .entries) }
 
+-- a call with a table that is lent
+unfoldable pub judgeTableOf : Table → List ℕ → ℕ → List ℕ → List ℕ → Called
+judgeTableOf t s size w o = inOut o (started t size w s)
+
+-- a call with a book
 unfoldable pub judgeOf : List ℕ → List ℕ → ℕ → List ℕ → List ℕ → Called
 judgeOf b s size w o = inOut o (judges b size w s)

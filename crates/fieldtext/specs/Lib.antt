@@ -1,3 +1,4 @@
 pub mod Entries
 pub mod Judge
 pub mod Shows
+pub mod Turn

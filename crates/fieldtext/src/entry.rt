@@ -4,7 +4,7 @@ ghost use Prim.Native.Nat.{_+_, _≤_, _<_};
 ghost use lib.ListN.{length};
 ghost use Rattle.verdict.specs.Verdict.{told};
 ghost use Rattle.text.specs.Put.{Put};
-ghost use Rattle.fieldtext.specs.Entries.{wordNumber, verdictEntry, refusalEntry, little, bytesOf, withEntry, withEntries};
+ghost use Rattle.fieldtext.specs.Entries.{wordNumber, verdictEntry, little, withEntry, withEntries};
 ghost use Rattle.fieldtext.specs.Judge.{answerEntries};
 use reader::Answer;
 use verdict::Verdict;

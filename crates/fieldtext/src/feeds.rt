@@ -1,18 +1,20 @@
 // A stream fed piece by piece, and closed.
 ghost use mathlib.Core.Path.{_≡_};
-ghost use Prim.Native.Nat.{_≤_, _-_};
+ghost use Prim.Native.Nat.{_+_, _≤_, _<_};
 ghost use lib.ListN.{length};
 ghost use Rattle.table.specs.Flat.{tableIn};
 ghost use Rattle.fieldtext.specs.Judge.{isQuiet, isRefused, feeds as Judge·feeds, streamed, pieceEnd, inOut, Feeds};
+ghost use Rattle.fieldtext.specs.Turn.{feedNext, turnOf};
 use crate::entry;
 use reader::Answer;
 use reader::Reader;
 
-// What the feeds of a stream give: the reader, the bytes read, and how many entries.
+// What the feeds of a stream give: the reader, the bytes read, how many entries, and whether the last feed was refused.
 struct Fed {
     reader: Reader,
     read: usize,
     made: usize,
+    refused: bool,
 }
 
 pub fn is_quiet(a: Answer) -> bool
@@ -39,6 +41,7 @@ fn is_refused(a: Answer) -> bool
 fn piece_end(read: usize, size: usize, len: usize) -> usize
     requires { ⌜ read ≤ len ⌝ }
     ensures { λ r. ⌜ r ≡ pieceEnd size read len ⌝ }
+    ensures { λ r. ⌜ (read ≤ r) × (r ≤ len) ⌝ }
 {
     if size == 0 {
         return len;
@@ -48,6 +51,59 @@ fn piece_end(read: usize, size: usize, len: usize) -> usize
         return len;
     }
     read + most
+}
+
+// Feeds the unread bytes up to the next cut.
+fn feed_piece<'a>(
+    r: Reader,
+    table: &'a [u8; 7920],
+    stream: &'a [u8],
+    size: usize,
+    work: &mut [u8],
+    read: usize,
+) -> reader::Fed
+    requires { ⌜ read ≤ length (now stream) ⌝ }
+    ensures { λ x. ⌜ record { reader = x .reader; count = x .count; answer = x .answer; work = now (work .exit) } ≡ feedNext (tableIn (now (table .entry))) size (now (stream .entry)) r (now (work .entry)) read ⌝ }
+    ensures { λ x. ⌜ read + x .count ≤ length (now (stream .entry)) ⌝ }
+{
+    let end = piece_end(read, size, stream.len());
+    reader::feed(r, table, work, &stream[read..end])
+}
+
+// Feeds the unread bytes up to the next cut, and puts the entry of the answer; a refused feed has none.
+fn feed_next<'a>(
+    f: Fed,
+    table: &'a [u8; 7920],
+    stream: &'a [u8],
+    size: usize,
+    work: &mut [u8],
+    out: &mut [u8],
+) -> Fed
+    requires { ⌜ (f .read < length (now stream)) × (f .made < 18446744073709551615) ⌝ }
+    ensures { λ x. ⌜ record { reader = x .reader; work = now (work .exit); read = x .read; out = now (out .exit); made = x .made; refused = x .refused } ≡ turnOf (tableIn (now (table .entry))) size (now (stream .entry)) (f .reader) (now (work .entry)) (f .read) (now (out .entry)) (f .made) ⌝ }
+{
+    let r = f.reader;
+    let read = f.read;
+    let made = f.made;
+    let x = feed_piece(r, table, stream, size, work, read);
+    let next = x.reader;
+    let a = x.answer;
+    let behind = read + x.count;
+    if is_refused(a) {
+        return Fed {
+            reader: next,
+            read: behind,
+            made: made,
+            refused: true,
+        };
+    }
+    let more = entry::put_answer(out, made, a, behind);
+    Fed {
+        reader: next,
+        read: behind,
+        made: more,
+        refused: false,
+    }
 }
 
 // Feeds piece after piece from a reader that has read nothing of a record, until all is read or a feed is refused.
@@ -61,31 +117,21 @@ fn feed_all<'a>(
 ) -> Fed
     requires { ⌜ r .lex .pos ≡ 0 ⌝ }
     ensures { λ x. ⌜ Feeds (Judge·feeds (length (now (stream .entry))) (tableIn (now (table .entry))) size r (now (work .entry)) 0 (now (stream .entry))) (now (out .entry)) (x .reader) (now (work .exit)) (x .read) (now (out .exit)) (x .made) ⌝ }
-    ensures { λ x. ⌜ x .made ≤ length (now (stream .entry)) - 1 ⌝ }
+    ensures { λ x. ⌜ x .made < 18446744073709551615 ⌝ }
 {
-    let mut next = r;
-    let mut read = 0;
-    let mut made = 0;
-    while read < stream.len() {
-        let end = piece_end(read, size, stream.len());
-        let x = reader::feed(next, table, work, &stream[read..end]);
-        let a = x.answer;
-        next = x.reader;
-        read += x.count;
-        if is_refused(a) {
-            return Fed {
-                reader: next,
-                read: read,
-                made: made,
-            };
+    let mut f = Fed {
+        reader: r,
+        read: 0,
+        made: 0,
+        refused: false,
+    };
+    while f.read < stream.len() {
+        f = feed_next(f, table, stream, size, work, out);
+        if f.refused {
+            return f;
         }
-        made = entry::put_answer(out, made, a, read);
     }
-    Fed {
-        reader: next,
-        read: read,
-        made: made,
-    }
+    f
 }
 
 // The feeds of a stream, then the close.

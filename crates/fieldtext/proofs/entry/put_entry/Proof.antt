@@ -19,21 +19,21 @@ put-little-requires c κs = simp length-set (search needs)
 
 put-little-requires-2 : tie.Need-put-little-requires-2
 put-little-requires-2 c κs =
-    let a = c .before .before .before .before .before .before .before .args in
-    room-mid (a .out .now) (a .i) (a .word) (a .number) _ _ _ _ (c .before .before .before .put-little .ensures) (c .before .before .before .before .before .if1 .taken)
+    let test = c .before .before .before .before .before in
+    let a = test .before .before .args in
+    room-mid (a .out .now) (a .i) (a .word) (a .number) _ _ _ _ (c .before .before .before .put-little .ensures) (test .if1 .taken)
 
 same-length : tie.Need-same-length
-same-length c =
-    let a = c .before .before .before .before .before .before .before .before .before .before .args in
-    length-last (a .out .now) (a .i) (a .word) (a .number) _ _ _ _ _ _ _ _ (c .before .before .before .before .before .before .put-little .ensures) (c .before .before .put-little2 .ensures)
+same-length c = search (needs, length-last)
 
 returns : tie.Need-returns
-returns c =
-    let a = c .before .before .before .before .before .before .before .before .before .before .args in
-    entry-put (a .out .now) (a .i) (a .word) (a .number) _ _ _ _ (c .before .before .before .before .before .before .before .before .if1 .taken) (c .before .before .before .before .before .before .put-little .ensures) (c .before .before .put-little2 .ensures)
+returns c = search (needs, entry-put)
 
 returns-2 : tie.Need-returns-2
 returns-2 c = search (needs, entry-none)
 
 pub put-entry-spec : {M : Type 1} → statement M
-put-entry-spec = tie.close (tie.spec (λ c. search needs) (λ c. search needs) (λ c. search needs) slice-write-out-2 (λ c. search needs) slice-write-out-3 (λ c. search needs) slice-write-out-4 (λ c. search needs) put-little-requires (λ c. search needs) put-little-requires-2 same-length returns returns-2)
+put-entry-spec =
+    tie.close
+    (tie.spec (λ c. search needs) (λ c. search needs) (λ c. search needs) slice-write-out-2 (λ c. search needs) slice-write-out-3 (λ c. search needs)
+    slice-write-out-4 (λ c. search needs) put-little-requires (λ c. search needs) put-little-requires-2 same-length returns returns-2)

@@ -26,4 +26,7 @@ returns : tie.Need-returns Inv-loop μ-loop
 returns c = search (needs, little-done)
 
 pub put-little-spec : {M : Type 1} → statement M
-put-little-spec = tie.close (tie.spec Inv-loop μ-loop loop-holds (λ c. omega arith) (λ c. search needs) (λ c. search needs) (λ c. search needs) (λ c. search needs) loop-again (λ c. search needs) returns)
+put-little-spec =
+    tie.close
+    (tie.spec Inv-loop μ-loop loop-holds (λ c. omega arith) (λ c. search needs) (λ c. search needs) (λ c. search needs) (λ c. search needs) loop-again
+    (λ c. search needs) returns)

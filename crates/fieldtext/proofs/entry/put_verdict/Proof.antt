@@ -8,4 +8,7 @@ returns : tie.Need-returns
 returns c = search (needs, verdict-entry)
 
 pub put-verdict-spec : {M : Type 1} → statement M
-put-verdict-spec = tie.close (tie.spec (λ c κs. search needs) (λ c κs. search needs) (λ c κs. search needs) (λ c. search needs) (λ c κs. search needs) (λ c. search needs) returns)
+put-verdict-spec =
+    tie.close
+    (tie.spec (λ c κs. search needs) (λ c κs. search needs) (λ c κs. search needs) (λ c. search needs) (λ c κs. search needs) (λ c. search needs)
+    returns)

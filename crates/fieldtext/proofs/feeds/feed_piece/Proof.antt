@@ -1,0 +1,13 @@
+-- `feeds::feed_piece` meets its contract: the piece is what is unread up to the next cut. Assumes nothing.
+use Rattle.fieldtext.proofs.FeedLaws.{fed-piece, fed-count}
+use borrow.Author.Needs.{needs}
+use Rattle.fieldtext.proofs.feeds.feed_piece.Statement.{statement}
+use Rattle.fieldtext.proofs.feeds.feed_piece.Tie as tie
+
+returns : tie.Need-returns
+returns c = (search (needs, fed-piece), search (needs, fed-count))
+
+pub feed-piece-spec : {M : Type 1} → statement M
+feed-piece-spec =
+    tie.close
+    (tie.spec (λ c κs. search needs) (λ c. search needs) (λ c. search needs) (λ c. search needs) (λ c κs. search needs) (λ c. search needs) returns)

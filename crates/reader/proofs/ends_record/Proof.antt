@@ -1,5 +1,5 @@
 -- `ends_record` meets its contract: only an RS ends a record. Assumes nothing.
-use Rattle.reader.proofs.ReaderLaws.{ends-rs, ends-other}
+use Rattle.reader.proofs.RunLaws.{ends-rs, ends-other}
 use borrow.Author.Needs.{needs}
 use Rattle.reader.proofs.ends_record.Statement.{statement}
 use Rattle.reader.proofs.ends_record.Tie as tie

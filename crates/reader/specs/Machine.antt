@@ -5,15 +5,12 @@ use mathlib.Core.List.{List}
 use Prim.Native.Nat.{ℕ}
 use lib.Dec.{ltb}
 use lib.ListN.{length, replicate}
-use Rattle.json.specs.declared.lexer.Place.the-variants as P
-use Rattle.json.specs.declared.lexer.Mode.the-variants as M
 use Rattle.table.specs.Table.{Table}
 use Rattle.frame.specs.Frame.{frameCount}
 use Rattle.verdict.specs.declared.Verdict.{Verdict}
 use Rattle.verdict.specs.declared.Verdict.the-variants as Is
-use Rattle.progress.specs.declared.Lex.{Lex}
-use Rattle.progress.specs.declared.Fault.the-variants as F
 use Rattle.progress.specs.Lex.{bump, judged}
+use Rattle.progress.specs.Fresh.{freshLex}
 use Rattle.progress.specs.Memory.{Mem, mem, Ran, runMem}
 use Rattle.reader.specs.declared.Tally.{Tally}
 use Rattle.reader.specs.declared.Reader.{Reader}
@@ -25,9 +22,6 @@ use Rattle.reader.specs.Refusals.{withinReader, startGate, callGate, thr
 -- ---- readers
 
 -- nothing is read of a record
-abbrev pub freshLex : Bool → Lex
-freshLex head = record { mode = M.At P.Value; fault = F.Sound; head = head; level = 0; pos = 0; place = 0; bits = 0; high = 0; len = 0 }
-
 abbrev pub freshReader : ℕ → Bool → Tally → Reader
 freshReader frames head tally = record { frames = frames; lex = freshLex head; root = false; key = replicate 32 0; tally = tally }
 

@@ -1,20 +1,19 @@
 // The reader: start, feed and close.
 ghost use mathlib.Core.Path.{_≡_};
-ghost use lib.ListN.{length, getD};
+ghost use lib.ListN.{length};
 ghost use mathlib.Core.Bool.{true};
 ghost use mathlib.Core.List.{[], _∷_};
-ghost use Prim.Native.Nat.{_<_};
-ghost use Rattle.lexer.specs.Table.{classTable};
 ghost use Rattle.table.specs.Flat.{tableIn};
 ghost use Rattle.table.specs.Limits.{withinLimits};
 ghost use Rattle.progress.specs.Lex.{judged};
-ghost use Rattle.progress.specs.Memory.{mem, endsRecord};
+ghost use Rattle.progress.specs.Fresh.{freshLex};
 ghost use Rattle.reader.specs.Refusals.{refusalNumber, fitReader, tableRung, firstRefusal, startGate, callGate};
-ghost use Rattle.reader.specs.Machine.{freshLex, freshReader, countValid, countInvalid, countRefused, tallied, startOf, feeding, feedOf, closeOf};
-ghost use Rattle.reader.specs.Went.{StepsAs, WentTo};
+ghost use Rattle.reader.specs.Machine.{freshReader, countValid, countInvalid, countRefused, tallied, startOf, feeding, feedOf, closeOf};
+
+mod piece; // piece.rt: a piece is read on
+
 use json::lexer::Mode;
 use json::lexer::Place;
-use json::lexer::Step;
 use progress::Fault;
 use progress::Lex;
 use table::limits;
@@ -223,16 +222,6 @@ fn count_record(v: Verdict, y: Tally) -> Tally
     }
 }
 
-// An RS behind at least one byte of a record.
-fn ends_record(x: Lex, b: u8) -> bool
-    ensures { λ r. ⌜ r ≡ endsRecord x b ⌝ }
-{
-    if b == 0x1E {
-        return 0 < x.pos;
-    }
-    false
-}
-
 // A record ends: its verdict, counted, and the reader of the next.
 fn ended(frames: usize, tally: Tally, x: Lex, root: bool, count: usize, head: bool) -> Fed
     ensures { λ r. ⌜ r ≡ record { reader = freshReader frames head (tallied (judged x root) tally); count = count; answer = Answer.Judged (judged x root) } ⌝ }
@@ -304,81 +293,6 @@ impl Reader {
     }
 }
 
-// How far a record was read: up to the end of the piece, over a byte that ends no record, or over the RS that ended it.
-pub struct Went {
-    pub lex: Lex,
-    pub root: bool,
-    pub at: usize,
-    pub ended: bool,
-}
-
-// Reads the byte at place i, with its step: an RS that ends the record, or a byte of it.
-fn read_byte<'a>(
-    table: &'a [u8; 7920],
-    work: &mut [u8],
-    key: &mut [u8],
-    piece: &'a [u8],
-    frames: usize,
-    x: Lex,
-    root: bool,
-    i: usize,
-    st: Step,
-) -> Went
-    requires { ⌜ (withinLimits (tableIn (now table)) ≡ true) × (length (now key) ≡ 32) × (i < length (now piece)) × StepsAs x frames (now work) (getD (now piece) i 0) st ⌝ }
-    ensures { λ r. ⌜ WentTo (tableIn (now (table .entry))) frames (mem x root (now (key .entry)) (now (work .entry))) (now (piece .entry)) i (mem (r .lex) (r .root) (now (key .exit)) (now (work .exit))) (r .at) (r .ended) ⌝ }
-{
-    let b = piece[i];
-    if ends_record(x, b) {
-        return Went {
-            lex: x,
-            root: root,
-            at: i + 1,
-            ended: true,
-        };
-    }
-    let s = turn::turn(st, x, root, key, work, frames, table, b);
-    let l = s.lex;
-    Went {
-        lex: l,
-        root: s.root,
-        at: i + 1,
-        ended: false,
-    }
-}
-
-// Reads on from place i: the bytes that are passed over, and one byte more.
-fn read_on<'a>(
-    table: &'a [u8; 7920],
-    classes: &'a [u8; 256],
-    work: &mut [u8],
-    key: &mut [u8],
-    piece: &'a [u8],
-    frames: usize,
-    x: Lex,
-    root: bool,
-    i: usize,
-) -> Went
-    requires { ⌜ (withinLimits (tableIn (now table)) ≡ true) × (now classes ≡ classTable) × (length (now key) ≡ 32) × (i < length (now piece)) ⌝ }
-    ensures { λ r. ⌜ WentTo (tableIn (now (table .entry))) frames (mem x root (now (key .entry)) (now (work .entry))) (now (piece .entry)) i (mem (r .lex) (r .root) (now (key .exit)) (now (work .exit))) (r .at) (r .ended) ⌝ }
-{
-    let k = pass::keep(classes, x, key, piece, i);
-    let named = k.lex;
-    let top = turn::top_of(work, named.level);
-    let p = pass::pass(classes, named, top, piece, k.at);
-    let st = p.step;
-    let passed = p.lex;
-    let at = p.at;
-    if at < piece.len() {
-        return read_byte(table, work, key, piece, frames, passed, root, at, st);
-    }
-    Went {
-        lex: passed,
-        root: root,
-        at: at,
-        ended: false,
-    }
-}
-
 // Reads a piece up to and with the first RS that ends a record.
 fn read_piece<'a>(r: Reader, table: &'a [u8; 7920], work: &mut [u8], piece: &'a [u8]) -> Fed
     requires { ⌜ withinLimits (tableIn (now table)) ≡ true ⌝ }
@@ -393,7 +307,7 @@ fn read_piece<'a>(r: Reader, table: &'a [u8; 7920], work: &mut [u8], piece: &'a 
     let mut key = whole_key(kept);
     let mut i = 0;
     while i < piece.len() {
-        let w = read_on(table, &classes, work, &mut key, piece, frames, lex, root, i);
+        let w = piece::read_on(table, &classes, work, &mut key, piece, frames, lex, root, i);
         let l = w.lex;
         lex = l;
         root = w.root;

@@ -12,6 +12,7 @@ use Rattle.table.specs.Table.{Table}
 use Rattle.table.specs.Limits.{withinLimits}
 use Rattle.frame.specs.Frame.{frameCount}
 use Rattle.progress.specs.Memory.{Ran, runMem}
+use Rattle.progress.specs.Fresh.{freshLex}
 use Rattle.reader.specs.declared.Reader.{Reader}
 use Rattle.reader.specs.declared.Refusal.{Refusal}
 use Rattle.reader.specs.declared.Refusal.the-variants as No
@@ -19,7 +20,7 @@ use Rattle.reader.specs.declared.Answer.the-variants as Says
 use Rattle.reader.specs.declared.Gate.{Gate}
 use Rattle.reader.specs.declared.Gate.the-variants as Is
 use Rattle.reader.specs.Refusals.{fitReader, withinReader, startGate, callGate, through}
-use Rattle.reader.specs.Machine.{Outcome, freshLex, Start, startOf, refusing, orRefused, memoryOf, outcome, feeding, feedOf, closing, closeOf}
+use Rattle.reader.specs.Machine.{Outcome, Start, startOf, refusing, orRefused, memoryOf, outcome, feeding, feedOf, closing, closeOf}
 use Rattle.reader.specs.Paper.{Call, feed, close, Judge, Paper, Said, goes, ends, refuses, says}
 use Rattle.reader.specs.Claim.{run, after, table, buffer, accepted, closes}
 use Rattle.reader.proofs.RefusalLaws.{through-elim, open-of-isOpen, shut-of-not-isOpen, room-of-start, room-of-call, table-of-above-limit}

@@ -17,7 +17,8 @@ use Rattle.reader.specs.declared.Answer.the-variants as Says
 use Rattle.reader.specs.Machine.{Outcome, freshReader, startOf, memoryOf, ending, going, outcome, feeding, closing}
 use Rattle.reader.specs.Paper.{Call, feed, close, Judge, Judges, Paper, opening, nonempty, Said, goes, says, told}
 use Rattle.reader.specs.Claim.{run, answers, after, table, buffer, accepted, closes, before, streams, Held, nothing, held, Same, Fair, Answered, Demand3}
-use Rattle.stream.specs.Bytes.{freshMem, Reading}
+use Rattle.progress.specs.Fresh.{freshMem}
+use Rattle.stream.specs.Bytes.{Reading}
 use Rattle.stream.specs.Records.{Fresh}
 use Rattle.stream.proofs.PieceLaws.{Follows, Agrees, follows-of-fresh, judged-of-follows, agrees-of-piece}
 use Rattle.stream.proofs.CallLaws.{reading, saying, Good, good-of-fresh, accepted-of-true, refused-of-false, good-of-call, fresh-of-closes, begun-of-start}

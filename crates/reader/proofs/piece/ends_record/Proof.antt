@@ -1,8 +1,8 @@
--- `ends_record` meets its contract: only an RS ends a record. Assumes nothing.
+-- `piece::ends_record` meets its contract: only an RS ends a record. Assumes nothing.
 use Rattle.reader.proofs.RunLaws.{ends-rs, ends-other}
 use borrow.Author.Needs.{needs}
-use Rattle.reader.proofs.ends_record.Statement.{statement}
-use Rattle.reader.proofs.ends_record.Tie as tie
+use Rattle.reader.proofs.piece.ends_record.Statement.{statement}
+use Rattle.reader.proofs.piece.ends_record.Tie as tie
 
 returns : tie.Need-returns
 returns c = search (needs, ends-rs)

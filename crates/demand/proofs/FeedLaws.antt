@@ -1,14 +1,13 @@
 -- What a feed reads of its piece, and what it leaves of the buffer's length. Assumes nothing.
-use mathlib.Core.Bool.{Bool, true, false, cond, _&&_}
+use mathlib.Core.Bool.{Bool, true, false, _&&_}
 use mathlib.Core.List.{List, [], _∷_}
 use mathlib.Core.Path.{_≡_, refl, _∙_}
-use Prim.Native.Nat.{ℕ, suc, _+_, _*_, _≤_, _<_}
+use Prim.Native.Nat.{ℕ, suc, _+_, _≤_, _<_}
 use native.Mathlib.Omega.{arith}
 use lib.Dec.{T, eqb, ltb}
 use lib.ListN.{length}
 use Rattle.laws.proofs.TestLaws.{cond-elim}
 use Rattle.table.specs.Table.{Table}
-use Rattle.table.specs.Limits.{withinLimits}
 use Rattle.progress.specs.declared.Lex.{Lex}
 use Rattle.progress.specs.Memory.{Mem, Ran, endsRecord, runMem, stepMem}
 use Rattle.follows.proofs.MemoryLaws.{length-stepMem}
@@ -16,7 +15,22 @@ use Rattle.reader.specs.declared.Reader.{Reader}
 use Rattle.reader.specs.declared.Answer.{Answer}
 use Rattle.reader.specs.declared.Answer.the-variants as Says
 use Rattle.reader.specs.declared.Refusal.{Refusal}
-use Rattle.reader.specs.Machine.{Outcome, feedOf, withinReader, memoryOf}
+use Rattle.reader.specs.Refusals.{withinReader, callGate}
+use Rattle.reader.specs.Machine.{Outcome, refusing, memoryOf, ending, going, feeding, feedOf}
+use Rattle.reader.proofs.RefusalLaws.{through-elim}
+
+-- ---- a feed by its three ways: it is refused, ends a record, or reads its piece
+
+module _ (r : Reader) (t : Table) (w s : List ℕ) where
+  -- how far it reads where it is let in
+  abbrev ran : Ran
+  ran = runMem t (r .frames) (memoryOf r w) 0 s
+
+  feed-elim : (P : Outcome → Type 0) → ((k : Refusal) → P (refusing r w k)) → (T (ran .ended) → P (ending r (ran .memory) (ran .count) false))
+      → P (going r (ran .memory) (ran .count)) → P (feedOf r t w s)
+  unfolding feedOf feeding
+  feed-elim P refused ends goes =
+      through-elim P (callGate (withinReader r) (r .frames) t (length w)) (λ k _. refused k) (λ _. cond-elim P (ran .ended) (λ h. ends h) (λ _. goes))
 
 -- ---- a feed reads no more than its piece
 
@@ -28,16 +42,9 @@ count-of-run t n m i (b ∷ s) =
     (λ _. omega (arith, count-of-run t n (stepMem t n m b) (i + 1) s))
 
 pub count-of-feed : (r : Reader) (t : Table) (w s : List ℕ) → feedOf r t w s .count ≤ length s
-unfolding feedOf
 count-of-feed r t w s =
-    let P : Outcome → Type 0 = λ (o : Outcome). o .count ≤ length s in
-    let e : Ran = runMem t (r .frames) (memoryOf r w) 0 s in
-    let h : e .count ≤ length s = omega (arith, count-of-run t (r .frames) (memoryOf r w) 0 s) in
-    cond-elim P (withinLimits t)
-    (λ _. cond-elim P (withinReader r)
-    (λ _. cond-elim P (ltb (length w) (96 * r .frames)) (λ _. omega arith) (λ _. cond-elim P (e .ended) (λ _. h) (λ _. h)))
-    (λ _. omega arith))
-    (λ _. omega arith)
+    let h : ran r t w s .count ≤ length s = omega (arith, count-of-run t (r .frames) (memoryOf r w) 0 s) in
+    feed-elim r t w s (λ (o : Outcome). o .count ≤ length s) (λ _. omega arith) (λ _. h) h
 
 -- ---- unless it is refused, a feed reads a byte of a piece that has one
 
@@ -58,16 +65,9 @@ abbrev Served : Answer → Type 0
 Served a = (n : Refusal) → a ≡ Says.Refused n → ⊥
 
 pub some-of-feed : (r : Reader) (t : Table) (w s : List ℕ) → 0 < length s → Served (feedOf r t w s .answer) → 0 < feedOf r t w s .count
-unfolding feedOf
 some-of-feed r t w s more =
-    let P : Outcome → Type 0 = λ (o : Outcome). Served (o .answer) → 0 < o .count in
-    let e : Ran = runMem t (r .frames) (memoryOf r w) 0 s in
-    let h : 0 < e .count = first-of-run t (r .frames) (memoryOf r w) s more in
-    cond-elim P (withinLimits t)
-    (λ _. cond-elim P (withinReader r)
-    (λ _. cond-elim P (ltb (length w) (96 * r .frames)) (λ _ no. absurd (no _ refl)) (λ _. cond-elim P (e .ended) (λ _ _. h) (λ _ _. h)))
-    (λ _ no. absurd (no _ refl)))
-    (λ _ no. absurd (no _ refl))
+    let h : 0 < ran r t w s .count = first-of-run t (r .frames) (memoryOf r w) s more in
+    feed-elim r t w s (λ (o : Outcome). Served (o .answer) → 0 < o .count) (λ k served. absurd (served k refl)) (λ _ _. h) (λ _. h)
 
 -- ---- a verdict takes two bytes of a record that has none yet: its byte, and the RS
 
@@ -97,16 +97,8 @@ first-ended t n m [] z = λ h. absurd h
 first-ended t n m (b ∷ s) z = rw (none-ends (m .lex) b z) (λ h. omega (arith, ended-of-run t n (stepMem t n m b) (0 + 1) s h))
 
 pub weight-of-feed : (r : Reader) (t : Table) (w s : List ℕ) → r .lex .pos ≡ 0 → weight (feedOf r t w s .answer) ≤ feedOf r t w s .count
-unfolding feedOf
 weight-of-feed r t w s z =
-    let P : Outcome → Type 0 = λ (o : Outcome). weight (o .answer) ≤ o .count in
-    let e : Ran = runMem t (r .frames) (memoryOf r w) 0 s in
-    cond-elim P (withinLimits t)
-    (λ _. cond-elim P (withinReader r)
-    (λ _. cond-elim P (ltb (length w) (96 * r .frames)) (λ _. omega arith)
-    (λ _. cond-elim P (e .ended) (λ h. first-ended t (r .frames) (memoryOf r w) s z h) (λ _. omega arith)))
-    (λ _. omega arith))
-    (λ _. omega arith)
+    feed-elim r t w s (λ (o : Outcome). weight (o .answer) ≤ o .count) (λ _. omega arith) (λ h. first-ended t (r .frames) (memoryOf r w) s z h) (omega arith)
 
 -- ---- a feed keeps the length of the buffer
 
@@ -118,13 +110,6 @@ length-of-run t n m i (b ∷ s) =
     (λ _. length-of-run t n (stepMem t n m b) (i + 1) s ∙ length-stepMem t n m b)
 
 pub length-of-feed : (r : Reader) (t : Table) (w s : List ℕ) → length (feedOf r t w s .work) ≡ length w
-unfolding feedOf
 length-of-feed r t w s =
-    let P : Outcome → Type 0 = λ (o : Outcome). length (o .work) ≡ length w in
-    let e : Ran = runMem t (r .frames) (memoryOf r w) 0 s in
-    let h : length (e .memory .work) ≡ length w = length-of-run t (r .frames) (memoryOf r w) 0 s in
-    cond-elim P (withinLimits t)
-    (λ _. cond-elim P (withinReader r)
-    (λ _. cond-elim P (ltb (length w) (96 * r .frames)) (λ _. refl) (λ _. cond-elim P (e .ended) (λ _. h) (λ _. h)))
-    (λ _. refl))
-    (λ _. refl)
+    let h : length (ran r t w s .memory .work) ≡ length w = length-of-run t (r .frames) (memoryOf r w) 0 s in
+    feed-elim r t w s (λ (o : Outcome). length (o .work) ≡ length w) (λ _. refl) (λ _. h) h

@@ -3,9 +3,7 @@ use mathlib.Core.Bool.{true}
 use mathlib.Core.List.{List, [], _∷_, _++_}
 use mathlib.Core.Path.{_≡_, refl, sym, ap, _∙_}
 use Prim.Native.Nat.{ℕ, _*_, _≤_}
-use lib.Dec.{T}
 use lib.ListN.{length, drop}
-use borrow.Author.Tests.{le-ltb}
 use Rattle.table.specs.Table.{Table}
 use Rattle.table.specs.Limits.{withinLimits}
 use Rattle.book.specs.Entry.{Entry}
@@ -17,9 +15,11 @@ use Rattle.verdict.specs.declared.Verdict.{Verdict}
 use Rattle.reader.specs.declared.Reader.{Reader}
 use Rattle.reader.specs.declared.Answer.the-variants as Says
 use Rattle.reader.specs.declared.Refusal.{Refusal}
+use Rattle.reader.specs.Refusals.{isOpen}
 use Rattle.reader.specs.Machine.{Outcome, startOf, feedOf, closeOf}
 use Rattle.reader.specs.Paper.{Call, feed, close}
 use Rattle.reader.specs.Claim.{run, answers, accepted, Held, nothing, held, Same, Fair}
+use Rattle.reader.proofs.RefusalLaws.{start-open-of-room, call-open-of-room}
 use Rattle.stream.specs.Records.{verdictsOf, verdictsIn, andThen, Hands, closed, fed as hands-fed, Fresh}
 use Rattle.stream.proofs.CallLaws.{Good, accepted-of-true, good-of-call, reading-not-refused}
 use Rattle.stream.proofs.JudgeLaws.{judgeOf}
@@ -33,10 +33,10 @@ module _ (t : Table) (es : List Entry) (book : Book t es) (n : ℕ) where
   limits = rw (book .table) at (loaded-withinLimits (book .bytes) (book .loaded) (book .gave))
 
   accepted-close : (w : List ℕ) → 96 * n ≤ length w → accepted n (close t w) ≡ true
-  accepted-close w long = rw (limits, le-ltb (length w) (96 * n) long)
+  accepted-close w long = ap isOpen (call-open-of-room n t (length w) limits long)
 
   accepted-feed : (w s : List ℕ) → 96 * n ≤ length w → accepted n (feed t w s) ≡ true
-  accepted-feed w s long = rw (limits, le-ltb (length w) (96 * n) long)
+  accepted-feed w s long = ap isOpen (call-open-of-room n t (length w) limits long)
 
   -- ---- calls from a reader on that hand over the bytes s, and whose verdicts are vs
 
@@ -114,4 +114,4 @@ module _ (b : List ℕ) (l : Loaded) (loaded : LoadsAs b l) (t : Table) (e : l .
   -- with a frame or more its start is not refused
   pub start-quiet : (w : List ℕ) → 96 ≤ length w → startOf t w .answer ≡ Says.Quiet
   unfolding startOf
-  start-quiet w h = rw (rw e at (loaded-withinLimits b l loaded), le-ltb (length w) 96 h)
+  start-quiet w h = rw (start-open-of-room t (length w) (rw e at (loaded-withinLimits b l loaded)) h)

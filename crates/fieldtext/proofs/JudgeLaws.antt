@@ -4,12 +4,10 @@ use mathlib.Core.List.{List}
 use mathlib.Core.Path.{_≡_, refl, sym, ap, _∙_}
 use Prim.Native.Nat.{ℕ, _+_}
 use native.Mathlib.Omega.{arith}
-use lib.Dec.{eqb, ltb}
+use lib.Dec.{eqb}
 use lib.ListN.{length}
 use borrow.Author.Tests.{eq-eqb, ne-eqb}
-use Rattle.laws.proofs.TestLaws.{cond-elim}
 use Rattle.table.specs.Table.{Table}
-use Rattle.table.specs.Limits.{withinLimits}
 use Rattle.book.specs.Load.{loads}
 use Rattle.load.specs.Step.{Loaded}
 use Rattle.load.specs.Answer as load
@@ -17,7 +15,9 @@ use Rattle.load.specs.Loads.{LoadsAs}
 use Rattle.reader.specs.declared.Answer.{Answer}
 use Rattle.reader.specs.declared.Answer.the-variants as Says
 use Rattle.reader.specs.declared.Refusal.{Refusal}
-use Rattle.reader.specs.Machine.{Start, startOf, refusalNumber}
+use Rattle.reader.specs.Refusals.{refusalNumber, startGate}
+use Rattle.reader.specs.Machine.{Start, startOf}
+use Rattle.reader.proofs.RefusalLaws.{through-elim}
 use Rattle.verdict.specs.declared.Verdict.{Verdict}
 use Rattle.verdict.specs.Verdict.{told}
 use Rattle.fieldtext.specs.Entries.{wordNumber, verdictEntry, withEntry, withEntries}
@@ -53,8 +53,7 @@ module _ (o : List ℕ) (i : ℕ) (a : Answer) (read : ℕ) where
 pub start-fresh : (t : Table) (w : List ℕ) (y : Start) → y ≡ startOf t w → y .reader .lex .pos ≡ 0
 unfolding startOf
 start-fresh t w y e =
-    let P : Start → Type 0 = λ (z : Start). z .reader .lex .pos ≡ 0 in
-    rw e (cond-elim P (withinLimits t) (λ _. cond-elim P (ltb (length w) 96) (λ _. refl) (λ _. refl)) (λ _. refl))
+    rw e (through-elim (λ (z : Start). z .reader .lex .pos ≡ 0) (startGate t (length w)) (λ _ _. refl) (λ _. refl))
 
 module _ (t : Table) (s : List ℕ) (size : ℕ) (w o : List ℕ) (y : Start) (st : y ≡ startOf t w) (quiet : Bool) (q : quiet ≡ isQuiet (y .answer)) where
   pub judge-streamed : quiet ≡ true → (z : Called) → z ≡ inOut o (streamed t size (y .reader) w s) → z ≡ judgeTableOf t s size w o

@@ -12,7 +12,8 @@ use Rattle.load.specs.Step.{tableOf}
 use Rattle.reader.specs.declared.Reader.{Reader}
 use Rattle.reader.specs.declared.Answer.{Answer}
 use Rattle.reader.specs.declared.Answer.the-variants as Says
-use Rattle.reader.specs.Machine.{Outcome, startOf, feedOf, closeOf, refusalNumber}
+use Rattle.reader.specs.Refusals.{refusalNumber}
+use Rattle.reader.specs.Machine.{Outcome, startOf, feedOf, closeOf}
 use Rattle.fieldtext.specs.Entries.{Entry, verdictEntry, refusalEntry, withEntries}
 
 -- ---- answers

@@ -13,7 +13,8 @@ use Rattle.runs.specs.Examples.{bookB}
 use Rattle.meaning.specs.Shows.{Kept}
 use Rattle.verdict.specs.Track.{track, trackStart, trackEnd}
 use Rattle.progress.specs.Lex.{judged}
-use Rattle.follows.specs.Follows.{PlainKeys, NoRS, readPart, freshMem}
+use Rattle.progress.specs.Fresh.{freshMem}
+use Rattle.follows.specs.Follows.{PlainKeys, NoRS, readPart}
 use Rattle.follows.proofs.PartLaws.{judged-part}
 
 plain-b : PlainKeys bookB

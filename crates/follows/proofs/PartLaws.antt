@@ -15,7 +15,8 @@ use Rattle.verdict.specs.declared.Verdict.the-variants as Is
 use Rattle.verdict.specs.Track.{Track, track, trackByte, trackStart, trackEnd}
 use Rattle.progress.specs.Lex.{advanced, judged}
 use Rattle.progress.specs.Memory.{Mem, stepMem, endsRecord, runMem}
-use Rattle.follows.specs.Follows.{PlainKeys, Tracks, NoRS, nonempty, readPart, freshMem}
+use Rattle.progress.specs.Fresh.{freshMem}
+use Rattle.follows.specs.Follows.{PlainKeys, Tracks, NoRS, nonempty, readPart}
 use Rattle.follows.proofs.MemoryLaws.{length-stepMem, one-le-bump, bump-below, counts-stepMem}
 use Rattle.follows.proofs.TrackLaws.{tracks-step, tracks-start, tracks-judged}
 

@@ -6,7 +6,7 @@ use mathlib.Core.Logic.{_⊎_}
 use mathlib.Core.Path.{_≡_}
 use Prim.Native.Nat.{ℕ, suc, _*_, _≤_, _<_}
 use lib.Dec.{T, eqb, ltb}
-use lib.ListN.{length, take, replicate}
+use lib.ListN.{length, take}
 use Rattle.laws.specs.Lists.{all, any}
 use Rattle.json.specs.Machine.{Stack, bare, whole, in-array, in-object, depth, Token, State, at}
 use Rattle.json.specs.declared.lexer.Place.the-variants as P
@@ -161,8 +161,3 @@ nonempty (b ∷ p) = true
 abbrev pub readPart : Table → ℕ → Mem → List ℕ → Mem
 readPart t n m [] = m
 readPart t n m (b ∷ p) = readPart t n (stepMem t n m b) p
-
--- the memory of a record of which nothing is read
-abbrev pub freshMem : Bool → List ℕ → Mem
-freshMem head w =
-    mem (record { mode = M.At P.Value; fault = F.Sound; head = head; level = 0; pos = 0; place = 0; bits = 0; high = 0; len = 0 }) false (replicate 32 0) w

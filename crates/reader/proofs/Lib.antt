@@ -1,1 +1,3 @@
+pub mod RefusalLaws
+pub mod RunLaws
 pub mod ReaderLaws

@@ -3,15 +3,15 @@
 use mathlib.Core.Bool.{Bool, true, false, cond}
 use mathlib.Core.List.{List, [], _∷_}
 use mathlib.Core.Path.{_≡_}
-use Prim.Native.Nat.{ℕ, _*_}
-use lib.Dec.{T, ltb}
+use Prim.Native.Nat.{ℕ}
+use lib.Dec.{T}
 use lib.ListN.{length}
 use Rattle.table.specs.Table.{Table}
-use Rattle.table.specs.Limits.{withinLimits}
 use Rattle.book.specs.Entry.{Entry}
 use Rattle.frame.specs.Frame.{frameCount}
 use Rattle.reader.specs.declared.Reader.{Reader}
 use Rattle.reader.specs.declared.Answer.the-variants as Says
+use Rattle.reader.specs.Refusals.{callGate, isOpen}
 use Rattle.reader.specs.Machine.{Outcome, startOf, feedOf, closeOf}
 use Rattle.reader.specs.Paper.{Call, feed, close, Heard, Judge, Judges, opening, told}
 
@@ -42,7 +42,7 @@ buffer (close t w) = w
 
 -- a call that the rules do not refuse
 abbrev pub accepted : ℕ → Call → Bool
-accepted n c = cond (withinLimits (table c)) (cond (ltb (length (buffer c)) (96 * n)) false true) false
+accepted n c = isOpen (callGate true n (table c) (length (buffer c)))
 
 abbrev pub closes : ℕ → Call → Bool
 closes n (feed t w s) = false

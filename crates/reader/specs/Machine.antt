@@ -1,42 +1,27 @@
--- What start, feed and close do, whole: 01, "The stream", Start, Feed, Close. Stated as far as refusals, readers and tallies go; the reading of
+-- What start, feed and close do, whole: 01, "The stream", Start, Feed, Close. Stated as far as readers and tallies go; the reading of
 -- bytes is derived: `demand-3` of crate demand joins it to the stream on paper. Assumes nothing.
-use mathlib.Core.Bool.{Bool, true, false, cond, _&&_}
+use mathlib.Core.Bool.{Bool, true, false, cond}
 use mathlib.Core.List.{List}
-use Prim.Native.Nat.{ℕ, _*_}
-use lib.Dec.{leb, ltb}
+use Prim.Native.Nat.{ℕ}
+use lib.Dec.{ltb}
 use lib.ListN.{length, replicate}
-use Rattle.json.specs.declared.lexer.Place.the-variants as P
-use Rattle.json.specs.declared.lexer.Mode.the-variants as M
 use Rattle.table.specs.Table.{Table}
-use Rattle.table.specs.Limits.{withinLimits}
 use Rattle.frame.specs.Frame.{frameCount}
 use Rattle.verdict.specs.declared.Verdict.{Verdict}
 use Rattle.verdict.specs.declared.Verdict.the-variants as Is
-use Rattle.progress.specs.declared.Lex.{Lex}
-use Rattle.progress.specs.declared.Fault.the-variants as F
 use Rattle.progress.specs.Lex.{bump, judged}
+use Rattle.progress.specs.Fresh.{freshLex}
 use Rattle.progress.specs.Memory.{Mem, mem, Ran, runMem}
 use Rattle.reader.specs.declared.Tally.{Tally}
 use Rattle.reader.specs.declared.Reader.{Reader}
 use Rattle.reader.specs.declared.Refusal.{Refusal}
-use Rattle.reader.specs.declared.Refusal.the-variants as No
-use Rattle.reader.specs.declared.Gate.{Gate}
-use Rattle.reader.specs.declared.Gate.the-variants as Is-let
 use Rattle.reader.specs.declared.Answer.{Answer}
 use Rattle.reader.specs.declared.Answer.the-variants as Says
-
--- ---- what 01 calls each refusal
-abbrev pub refusalNumber : Refusal → ℕ
-refusalNumber No.SmallBuffer = 21
-refusalNumber No.ShortBuffer = 22
-refusalNumber No.AboveLimit = 23
+use Rattle.reader.specs.Refusals.{withinReader, startGate, callGate, through}
 
 -- ---- readers
 
 -- nothing is read of a record
-abbrev pub freshLex : Bool → Lex
-freshLex head = record { mode = M.At P.Value; fault = F.Sound; head = head; level = 0; pos = 0; place = 0; bits = 0; high = 0; len = 0 }
-
 abbrev pub freshReader : ℕ → Bool → Tally → Reader
 freshReader frames head tally = record { frames = frames; lex = freshLex head; root = false; key = replicate 32 0; tally = tally }
 
@@ -62,27 +47,20 @@ tallied Is.TooLong y = countRefused y
 tallied (Is.Unfinished p) y = countRefused y
 tallied Is.Head y = countRefused y
 
--- the numbers of a reader: 1 to 64 frames, no more open levels than frames, at most 33 characters of a key
-unfoldable pub fitReader : ℕ → ℕ → ℕ → Bool
-fitReader frames level len = leb 1 frames && (leb frames 64 && (leb level frames && leb len 33))
-
-abbrev pub withinReader : Reader → Bool
-withinReader r = fitReader (r .frames) (r .lex .level) (r .lex .len)
-
 -- ---- start
 
 pub record Start : Type 0 where
   pub reader : Reader
   pub answer : Answer
 
--- 23, then 21; a refused start gives a fresh reader with 0 frames
+-- a refused start gives a fresh reader with 0 frames
+abbrev pub unstarted : Refusal → Start
+unstarted n = record { reader = freshReader 0 true zeroTally; answer = Says.Refused n }
+
 unfoldable pub startOf : Table → List ℕ → Start
 startOf t w =
-    cond (withinLimits t)
-    (cond (ltb (length w) 96)
-    (record { reader = freshReader 0 true zeroTally; answer = Says.Refused No.SmallBuffer })
-    (record { reader = freshReader (frameCount (length w)) true zeroTally; answer = Says.Quiet }))
-    (record { reader = freshReader 0 true zeroTally; answer = Says.Refused No.AboveLimit })
+    through (startGate t (length w)) unstarted
+    (record { reader = freshReader (frameCount (length w)) true zeroTally; answer = Says.Quiet })
 
 -- ---- feed and close
 
@@ -93,22 +71,12 @@ pub record Outcome : Type 0 where
   pub answer : Answer
   pub work : List ℕ
 
--- 23 for the table, then for the reader, then 22: nothing is read and nothing changes
+-- a refused call reads nothing and changes nothing
 abbrev pub refusing : Reader → List ℕ → Refusal → Outcome
 refusing r w n = record { reader = r; count = 0; answer = Says.Refused n; work = w }
 
 abbrev pub orRefused : Reader → Table → List ℕ → Outcome → Outcome
-orRefused r t w o =
-    cond (withinLimits t)
-    (cond (withinReader r) (cond (ltb (length w) (96 * r .frames)) (refusing r w No.ShortBuffer) o) (refusing r w No.AboveLimit))
-    (refusing r w No.AboveLimit)
-
--- the same as a test
-unfoldable pub admitted : Table → ℕ → ℕ → ℕ → ℕ → Gate
-admitted t frames level len n =
-    cond (withinLimits t)
-    (cond (fitReader frames level len) (cond (ltb n (96 * frames)) (Is-let.Shut No.ShortBuffer) Is-let.Open) (Is-let.Shut No.AboveLimit))
-    (Is-let.Shut No.AboveLimit)
+orRefused r t w o = through (callGate (withinReader r) (r .frames) t (length w)) (refusing r w) o
 
 abbrev pub memoryOf : Reader → List ℕ → Mem
 memoryOf r w = mem (r .lex) (r .root) (r .key) w
@@ -136,12 +104,18 @@ going r m i =
 abbrev pub outcome : Reader → Ran → Outcome
 outcome r e = cond (e .ended) (ending r (e .memory) (e .count) false) (going r (e .memory) (e .count))
 
-unfoldable pub feedOf : Reader → Table → List ℕ → List ℕ → Outcome
-feedOf r t w s = orRefused r t w (outcome r (runMem t (r .frames) (memoryOf r w) 0 s))
+-- a feed that is let in
+unfoldable pub feeding : Reader → Table → List ℕ → List ℕ → Outcome
+feeding r t w s = outcome r (runMem t (r .frames) (memoryOf r w) 0 s)
 
--- a close ends the last record like an RS, and is in the head again
+unfoldable pub feedOf : Reader → Table → List ℕ → List ℕ → Outcome
+feedOf r t w s = orRefused r t w (feeding r t w s)
+
+-- a close that is let in ends the last record like an RS, and is in the head again
+unfoldable pub closing : Reader → List ℕ → Outcome
+closing r w =
+    cond (ltb 0 (r .lex .pos)) (ending r (memoryOf r w) 0 true)
+    (record { reader = freshReader (r .frames) true (r .tally); count = 0; answer = Says.Quiet; work = w })
+
 unfoldable pub closeOf : Reader → Table → List ℕ → Outcome
-closeOf r t w =
-    orRefused r t w
-    (cond (ltb 0 (r .lex .pos)) (ending r (memoryOf r w) 0 true)
-    (record { reader = freshReader (r .frames) true (r .tally); count = 0; answer = Says.Quiet; work = w }))
+closeOf r t w = orRefused r t w (closing r w)

@@ -2,18 +2,18 @@
 use mathlib.Core.Bool.{Bool, true, false, cond}
 use mathlib.Core.List.{List, [], _∷_, _++_}
 use mathlib.Core.Path.{_≡_}
-use Prim.Native.Nat.{ℕ, _+_, _*_}
-use lib.Dec.{eqb, ltb}
+use Prim.Native.Nat.{ℕ, _+_}
+use lib.Dec.{eqb}
 use lib.ListN.{length}
 use Rattle.table.specs.Table.{Table}
-use Rattle.table.specs.Limits.{withinLimits}
 use Rattle.book.specs.Entry.{Entry}
 use Rattle.verdict.specs.declared.Verdict.{Verdict}
 use Rattle.verdict.specs.declared.Verdict.the-variants as Is
 use Rattle.verdict.specs.Verdict.{Judged}
-use Rattle.reader.specs.declared.Refusal.the-variants as No
+use Rattle.reader.specs.declared.Refusal.{Refusal}
 use Rattle.reader.specs.declared.Answer.{Answer}
 use Rattle.reader.specs.declared.Answer.the-variants as Says
+use Rattle.reader.specs.Refusals.{callGate, through}
 
 -- a call after start: its table, its buffer, and a feed's piece
 pub data Call : Type 0 where
@@ -69,13 +69,11 @@ abbrev pub ends : Judge → Paper → Said
 ends J p =
     record { paper = opening; count = 0; answer = cond (nonempty (p .part)) (Says.Judged (J (p .head) (p .part))) Says.Quiet }
 
--- a call that the rules refuse, n frames being counted at start: 23 for a table, 22 for a buffer. It changes nothing, reads nothing, gives no
--- verdict
+-- a call that the rules refuse, n frames being counted at start, changes nothing, reads nothing and gives no verdict. The paper has no reader, so
+-- none is out of its bounds
 abbrev pub refuses : ℕ → Paper → Table → List ℕ → Said → Said
 refuses n p t w said =
-    cond (withinLimits t)
-    (cond (ltb (length w) (96 * n)) (record { paper = p; count = 0; answer = Says.Refused No.ShortBuffer }) said)
-    (record { paper = p; count = 0; answer = Says.Refused No.AboveLimit })
+    through (callGate true n t (length w)) (λ (k : Refusal). record { paper = p; count = 0; answer = Says.Refused k }) said
 
 abbrev pub says : Judge → ℕ → Paper → Call → Said
 says J n p (feed t w s) = refuses n p t w (goes J p 0 s)

@@ -2,14 +2,16 @@
 ghost use mathlib.Core.Path.{_≡_};
 ghost use lib.ListN.{length};
 ghost use mathlib.Core.Bool.{true};
-ghost use Prim.Native.Nat.{_<_, _≤_};
-ghost use Rattle.lexer.specs.Table.{classTable};
+ghost use mathlib.Core.List.{[], _∷_};
 ghost use Rattle.table.specs.Flat.{tableIn};
 ghost use Rattle.table.specs.Limits.{withinLimits};
 ghost use Rattle.progress.specs.Lex.{judged};
-ghost use Rattle.progress.specs.Memory.{mem, endsRecord};
-ghost use Rattle.reader.specs.Machine.{refusalNumber, freshLex, freshReader, zeroTally, countValid, countInvalid, countRefused, tallied, fitReader, startOf, admitted, feedOf, closeOf};
-ghost use Rattle.reader.specs.Went.{WentTo};
+ghost use Rattle.progress.specs.Fresh.{freshLex};
+ghost use Rattle.reader.specs.Refusals.{refusalNumber, fitReader, tableRung, firstRefusal, startGate, callGate};
+ghost use Rattle.reader.specs.Machine.{freshReader, countValid, countInvalid, countRefused, tallied, startOf, feeding, feedOf, closeOf};
+
+mod piece; // piece.rt: a piece is read on
+
 use json::lexer::Mode;
 use json::lexer::Place;
 use progress::Fault;
@@ -79,6 +81,69 @@ pub struct Fed {
 pub struct Closed {
     pub reader: Reader,
     pub answer: Answer,
+}
+
+// The numbers of a reader are within their bounds.
+fn fit_reader(frames: usize, level: usize, len: u8) -> bool
+    ensures { λ r. ⌜ r ≡ fitReader frames level len ⌝ }
+{
+    if 1 <= frames {
+        if frames <= Reader::LEVELS {
+            if level <= frames {
+                return len <= 33;
+            }
+            return false;
+        }
+        return false;
+    }
+    false
+}
+
+// Whether a call is let in.
+pub enum Gate {
+    Open,
+    Shut(Refusal),
+}
+
+// The first rung of every call: 23 for the table.
+fn admit_table(table: &[u8; 7920]) -> Gate
+    ensures { λ a. ⌜ a ≡ firstRefusal (tableRung (tableIn (now (table .entry))) ∷ []) ⌝ }
+{
+    if limits::fit_limits(table) {
+        return Gate::Open;
+    }
+    Gate::Shut(Refusal::AboveLimit)
+}
+
+// The rungs of start: the table, then 21 for a buffer of n bytes.
+fn admit_start(table: &[u8; 7920], n: usize) -> Gate
+    ensures { λ a. ⌜ a ≡ startGate (tableIn (now (table .entry))) n ⌝ }
+{
+    let first = admit_table(table);
+    if let Gate::Shut(_) = first {
+        return first;
+    }
+    if n < Reader::FRAME {
+        return Gate::Shut(Refusal::SmallBuffer);
+    }
+    Gate::Open
+}
+
+// The rungs of feed and close: the table, then 23 for the reader, then 22 for a buffer of n bytes.
+fn admit(table: &[u8; 7920], frames: usize, level: usize, len: u8, n: usize) -> Gate
+    ensures { λ a. ⌜ a ≡ callGate (fitReader frames level len) frames (tableIn (now (table .entry))) n ⌝ }
+{
+    let first = admit_table(table);
+    if let Gate::Shut(_) = first {
+        return first;
+    }
+    if fit_reader(frames, level, len) {
+        if n < Reader::FRAME * frames {
+            return Gate::Shut(Refusal::ShortBuffer);
+        }
+        return Gate::Open;
+    }
+    Gate::Shut(Refusal::AboveLimit)
 }
 
 // Nothing is read of a record.
@@ -157,32 +222,6 @@ fn count_record(v: Verdict, y: Tally) -> Tally
     }
 }
 
-// The numbers of a reader are within their bounds.
-fn fit_reader(frames: usize, level: usize, len: u8) -> bool
-    ensures { λ r. ⌜ r ≡ fitReader frames level len ⌝ }
-{
-    if 1 <= frames {
-        if frames <= 64 {
-            if level <= frames {
-                return len <= 33;
-            }
-            return false;
-        }
-        return false;
-    }
-    false
-}
-
-// An RS behind at least one byte of a record.
-fn ends_record(x: Lex, b: u8) -> bool
-    ensures { λ r. ⌜ r ≡ endsRecord x b ⌝ }
-{
-    if b == 0x1E {
-        return 0 < x.pos;
-    }
-    false
-}
-
 // A record ends: its verdict, counted, and the reader of the next.
 fn ended(frames: usize, tally: Tally, x: Lex, root: bool, count: usize, head: bool) -> Fed
     ensures { λ r. ⌜ r ≡ record { reader = freshReader frames head (tallied (judged x root) tally); count = count; answer = Answer.Judged (judged x root) } ⌝ }
@@ -238,105 +277,46 @@ impl Reader {
             invalid: 0,
             refused: 0,
         };
-        if limits::fit_limits(table) {
-            if work.len() < Reader::FRAME {
-                let none = fresh_reader(0, true, y);
-                return Started {
-                    reader: none,
-                    answer: Answer::Refused(Refusal::SmallBuffer),
-                };
-            }
-            let r = fresh_reader(frame::frames(work.len()), true, y);
+        let gate = admit_start(table, work.len());
+        if let Gate::Shut(n) = gate {
+            let none = fresh_reader(0, true, y);
             return Started {
-                reader: r,
-                answer: Answer::Quiet,
+                reader: none,
+                answer: Answer::Refused(n),
             };
         }
-        let none = fresh_reader(0, true, y);
+        let r = fresh_reader(frame::frames(work.len()), true, y);
         Started {
-            reader: none,
-            answer: Answer::Refused(Refusal::AboveLimit),
+            reader: r,
+            answer: Answer::Quiet,
         }
     }
 }
 
-// Whether a call is let in.
-pub enum Gate {
-    Open,
-    Shut(Refusal),
-}
-
-// Open where a call is let in; else the refusal: 23 for the table, 23 for the reader, 22 for a buffer of n bytes.
-fn admit(table: &[u8; 7920], frames: usize, level: usize, len: u8, n: usize) -> Gate
-    ensures { λ a. ⌜ a ≡ admitted (tableIn (now (table .entry))) frames level len n ⌝ }
+// Reads a piece up to and with the first RS that ends a record.
+fn read_piece<'a>(r: Reader, table: &'a [u8; 7920], work: &mut [u8], piece: &'a [u8]) -> Fed
+    requires { ⌜ withinLimits (tableIn (now table)) ≡ true ⌝ }
+    ensures { λ x. ⌜ record { reader = x .reader; count = x .count; answer = x .answer; work = now (work .exit) } ≡ feeding r (tableIn (now (table .entry))) (now (work .entry)) (now (piece .entry)) ⌝ }
 {
-    if limits::fit_limits(table) {
-        if fit_reader(frames, level, len) {
-            if n < 96 * frames {
-                return Gate::Shut(Refusal::ShortBuffer);
-            }
-            return Gate::Open;
+    let classes = lexer::class::classes();
+    let frames = r.frames;
+    let tally = r.tally;
+    let mut lex = r.lex;
+    let mut root = r.root;
+    let kept = r.key;
+    let mut key = whole_key(kept);
+    let mut i = 0;
+    while i < piece.len() {
+        let w = piece::read_on(table, &classes, work, &mut key, piece, frames, lex, root, i);
+        let l = w.lex;
+        lex = l;
+        root = w.root;
+        i = w.at;
+        if w.ended {
+            return ended(frames, tally, lex, root, i, false);
         }
-        return Gate::Shut(Refusal::AboveLimit);
     }
-    Gate::Shut(Refusal::AboveLimit)
-}
-
-// How far a record was read: up to the end of the piece, over a byte that ends no record, or over the RS that ended it.
-pub struct Went {
-    pub lex: Lex,
-    pub root: bool,
-    pub at: usize,
-    pub ended: bool,
-}
-
-// Reads on from place i: the bytes that are passed over, and one byte more.
-fn read_on<'a>(
-    table: &'a [u8; 7920],
-    classes: &'a [u8; 256],
-    work: &mut [u8],
-    key: &mut [u8],
-    piece: &'a [u8],
-    frames: usize,
-    x: Lex,
-    root: bool,
-    i: usize,
-) -> Went
-    requires { ⌜ (withinLimits (tableIn (now table)) ≡ true) × (now classes ≡ classTable) × (length (now key) ≡ 32) × (i < length (now piece)) ⌝ }
-    ensures { λ r. ⌜ WentTo (tableIn (now (table .entry))) frames (mem x root (now (key .entry)) (now (work .entry))) (now (piece .entry)) i (mem (r .lex) (r .root) (now (key .exit)) (now (work .exit))) (r .at) (r .ended) ⌝ }
-{
-    let k = pass::keep(classes, x, key, piece, i);
-    let named = k.lex;
-    let top = turn::top_of(work, named.level);
-    let p = pass::pass(classes, named, top, piece, k.at);
-    let st = p.step;
-    let passed = p.lex;
-    let at = p.at;
-    if piece.len() <= at {
-        return Went {
-            lex: passed,
-            root: root,
-            at: at,
-            ended: false,
-        };
-    }
-    let b = piece[at];
-    if ends_record(passed, b) {
-        return Went {
-            lex: passed,
-            root: root,
-            at: at + 1,
-            ended: true,
-        };
-    }
-    let s = turn::turn(st, passed, root, key, work, frames, table, b);
-    let l = s.lex;
-    Went {
-        lex: l,
-        root: s.root,
-        at: at + 1,
-        ended: false,
-    }
+    read_all(frames, tally, lex, root, key, i)
 }
 
 // Reads a piece up to and with the first RS that ends a record. Ruled out: a feed that keeps levels of a record over its RS, and one that reads
@@ -354,24 +334,7 @@ pub fn feed<'a>(r: Reader, table: &'a [u8; 7920], work: &mut [u8], piece: &'a [u
             answer: Answer::Refused(n),
         };
     }
-    let classes = lexer::class::classes();
-    let tally = r.tally;
-    let mut lex = x;
-    let mut root = r.root;
-    let kept = r.key;
-    let mut key = whole_key(kept);
-    let mut i = 0;
-    while i < piece.len() {
-        let w = read_on(table, &classes, work, &mut key, piece, frames, lex, root, i);
-        let l = w.lex;
-        lex = l;
-        root = w.root;
-        i = w.at;
-        if w.ended {
-            return ended(frames, tally, lex, root, i, false);
-        }
-    }
-    read_all(frames, tally, lex, root, key, i)
+    read_piece(r, table, work, piece)
 }
 
 // Ends the last record like an RS, and is in the head again. Ruled out: a close that forgets the tally, and one that gives a verdict where

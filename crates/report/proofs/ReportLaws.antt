@@ -19,7 +19,7 @@ use Rattle.reader.specs.declared.Reader.{Reader}
 use Rattle.reader.specs.declared.Answer.{Answer}
 use Rattle.reader.specs.declared.Answer.the-variants as Says
 use Rattle.reader.specs.declared.Refusal.{Refusal}
-use Rattle.reader.specs.Machine.{Outcome, feedOf, withinReader, memoryOf, outcome}
+use Rattle.reader.specs.Machine.{Outcome, feedOf}
 use Rattle.demand.proofs.FeedLaws.{count-of-feed}
 use Rattle.report.specs.Report.{Reported, stops, lineThen, byAnswer, reports, Report, inOut, reportOf}
 

@@ -1,24 +1,29 @@
 -- One call: what it does where it is accepted, and that it changes nothing where it is refused. The reader's numbers stay in their bounds whatever
 -- the calls are handed, so that a reader from an accepted start is refused with 23 for the table alone: `never-above-limit`. Assumes nothing.
-use mathlib.Core.Bool.{Bool, true, false, cond}
+use mathlib.Core.Bool.{Bool, true, false}
 use mathlib.Core.List.{List, [], _∷_}
 use mathlib.Core.Path.{_≡_, refl, sym, ap, _∙_}
 use Prim.Native.Nat.{ℕ, _*_, _≤_}
 use native.Mathlib.Omega.{arith}
-use lib.Dec.{ltb, nltb→le}
+use lib.Dec.{ltb}
 use lib.ListN.{length}
-use borrow.Author.Tests.{le-leb, ltb-false}
+use borrow.Author.Tests.{le-leb}
 use Rattle.table.specs.Table.{Table}
 use Rattle.table.specs.Limits.{withinLimits}
 use Rattle.frame.specs.Frame.{frameCount}
 use Rattle.progress.specs.Memory.{Ran, runMem}
+use Rattle.progress.specs.Fresh.{freshLex}
 use Rattle.reader.specs.declared.Reader.{Reader}
 use Rattle.reader.specs.declared.Refusal.{Refusal}
 use Rattle.reader.specs.declared.Refusal.the-variants as No
 use Rattle.reader.specs.declared.Answer.the-variants as Says
-use Rattle.reader.specs.Machine.{Outcome, freshLex, freshReader, fitReader, withinReader, Start, startOf, refusing, orRefused, memoryOf, ending, outcome, feedOf, closeOf}
+use Rattle.reader.specs.declared.Gate.{Gate}
+use Rattle.reader.specs.declared.Gate.the-variants as Is
+use Rattle.reader.specs.Refusals.{fitReader, withinReader, startGate, callGate, through}
+use Rattle.reader.specs.Machine.{Outcome, Start, startOf, refusing, orRefused, memoryOf, outcome, feeding, feedOf, closing, closeOf}
 use Rattle.reader.specs.Paper.{Call, feed, close, Judge, Paper, Said, goes, ends, refuses, says}
 use Rattle.reader.specs.Claim.{run, after, table, buffer, accepted, closes}
+use Rattle.reader.proofs.RefusalLaws.{through-elim, open-of-isOpen, shut-of-not-isOpen, room-of-start, room-of-call, table-of-above-limit}
 use Rattle.laws.proofs.TestLaws.{true-neq-false, cond-elim}
 use Rattle.stream.specs.Records.{Fresh}
 use Rattle.stream.proofs.ByteLaws.{Within, within-of-piece}
@@ -27,17 +32,15 @@ use Rattle.stream.proofs.ByteLaws.{Within, within-of-piece}
 
 -- what it does
 abbrev pub reading : Reader → Call → Outcome
-reading r (feed t w s) = outcome r (runMem t (r .frames) (memoryOf r w) 0 s)
-reading r (close t w) =
-    cond (ltb 0 (r .lex .pos)) (ending r (memoryOf r w) 0 true)
-    (record { reader = freshReader (r .frames) true (r .tally); count = 0; answer = Says.Quiet; work = w })
+reading r (feed t w s) = feeding r t w s
+reading r (close t w) = closing r w
 
 -- and on paper
 abbrev pub saying : Judge → Paper → Call → Said
 saying J p (feed t w s) = goes J p 0 s
 saying J p (close t w) = ends J p
 
--- a call tests the table, the reader and the buffer, and does the rest
+-- a call is refused at its gate, or does the rest
 pub run-of-reading : (r : Reader) (c : Call) → run r c ≡ orRefused r (table c) (buffer c) (reading r c)
 unfolding feedOf closeOf
 run-of-reading r (feed t w s) = refl
@@ -49,6 +52,7 @@ says-of-saying J n p (close t w) = refl
 
 -- a record that ends, or goes on, is no refusal
 pub reading-not-refused : (r : Reader) (c : Call) (k : Refusal) → reading r c .answer ≡ Says.Refused k → ⊥
+unfolding feeding closing
 reading-not-refused r (feed t w s) k = go (runMem t (r .frames) (memoryOf r w) 0 s)
   where
     go : (e : Ran) → outcome r e .answer ≡ Says.Refused k → ⊥
@@ -76,15 +80,9 @@ unchanged-of-refusing r w k = record { reader = refl; work = refl; count = refl 
 pub unchanged-of-refused : (r : Reader) (c : Call) (k : Refusal) → run r c .answer ≡ Says.Refused k → Unchanged r (buffer c) (run r c)
 unchanged-of-refused r c k =
     rw (run-of-reading r c)
-    (cond-elim Stays (withinLimits (table c))
-    (λ a. cond-elim Stays (withinReader r)
-    (λ b. cond-elim Stays (ltb (length (buffer c)) (96 * r .frames)) (λ d q. unchanged-of-refusing r (buffer c) No.ShortBuffer)
-    (λ d q. absurd (reading-not-refused r c k q)))
-    (λ b q. unchanged-of-refusing r (buffer c) No.AboveLimit))
-    (λ a q. unchanged-of-refusing r (buffer c) No.AboveLimit))
-  where
-    Stays : Outcome → Type 0
-    Stays o = o .answer ≡ Says.Refused k → Unchanged r (buffer c) o
+    (through-elim (λ (o : Outcome). o .answer ≡ Says.Refused k → Unchanged r (buffer c) o) (callGate (withinReader r) (r .frames) (table c) (length (buffer c)))
+    (λ n _ _. unchanged-of-refusing r (buffer c) n)
+    (λ _ q. absurd (reading-not-refused r c k q)))
 
 -- ---- the bounds of a reader
 
@@ -106,11 +104,13 @@ good-of-outcome n r e f i =
     (λ h. record { frames = f; within = i })
 
 fresh-of-close : (n : ℕ) (r : Reader) (t : Table) (w : List ℕ) → r .frames ≡ n → Fresh n (reading r (close t w) .reader)
+unfolding closing
 fresh-of-close n r t w f =
     cond-elim (λ (o : Outcome). Fresh n (o .reader)) (ltb 0 (r .lex .pos)) (λ h. record { frames = f; lex = refl; root = refl; key = refl })
     (λ h. record { frames = f; lex = refl; root = refl; key = refl })
 
 good-of-reading : (n : ℕ) (r : Reader) (c : Call) → Good n r → Good n (reading r c .reader)
+unfolding feeding
 good-of-reading n r (feed t w s) g =
     good-of-outcome n r (runMem t (r .frames) (memoryOf r w) 0 s) (g .frames)
     (rw (g .frames) (within-of-piece t n s (memoryOf r w) 0 (g .within)))
@@ -146,43 +146,44 @@ module _ (n : ℕ) (least : 1 ≤ n) (most : n ≤ 64) where
       )
 
   module _ (r : Reader) (c : Call) (g : Good n r) where
+    -- the gate of the paper, which is that of the machine
+    abbrev gate : Gate
+    gate = callGate true n (table c) (length (buffer c))
+
+    run-at-gate : run r c ≡ through gate (refusing r (buffer c)) (reading r c)
+    run-at-gate = run-of-reading r c ∙ rw (withinReader-of-good r g, g .frames)
+
+    accepted-of-open : gate ≡ Is.Open → Accepted n r c
+    accepted-of-open o =
+        record {
+          run-is = run-at-gate ∙ rw o;
+          says-is = λ J p. says-of-saying J n p c ∙ rw o;
+          long = room-of-call true n (table c) (length (buffer c)) o;
+        }
+
+    run-of-shut : (k : Refusal) → gate ≡ Is.Shut k → run r c ≡ refusing r (buffer c) k
+    run-of-shut k o = run-at-gate ∙ rw o
+
+    refused-of-shut : (k : Refusal) → gate ≡ Is.Shut k → Refused n r c
+    refused-of-shut k o =
+        let x : run r c ≡ refusing r (buffer c) k = run-of-shut k o in
+        let y : (J : Judge) (p : Paper) → says J n p c ≡ record { paper = p; count = 0; answer = Says.Refused k } = λ J p. says-of-saying J n p c ∙ rw o in
+        record {
+          refusal = k;
+          refused = rw x;
+          stays = rw x (unchanged-of-refusing r (buffer c) k);
+          paper = λ J p. rw (y J p);
+          count = λ J p. rw (x, y J p);
+          answer = λ J p. rw (x, y J p);
+        }
+
     -- a call that the paper accepts, of a reader within its bounds
     pub accepted-of-true : accepted n c ≡ true → Accepted n r c
-    accepted-of-true = go (withinLimits (table c)) refl (ltb (length (buffer c)) (96 * n)) refl
-      where
-        go : (a : Bool) → withinLimits (table c) ≡ a → (b : Bool) → ltb (length (buffer c)) (96 * n) ≡ b → cond a (cond b false true) false ≡ true
-            → Accepted n r c
-        go true x true y h = true-neq-false (sym h)
-        go true x false y h =
-            record {
-              run-is = run-of-reading r c ∙ rw (x, withinReader-of-good r g, g .frames, y);
-              says-is = λ J p. says-of-saying J n p c ∙ rw (x, y);
-              long = ltb-false (length (buffer c)) (96 * n) y;
-            }
-        go false x b y h = true-neq-false (sym h)
+    accepted-of-true e = accepted-of-open (open-of-isOpen gate e)
 
     -- a call that it refuses
     pub refused-of-false : accepted n c ≡ false → Refused n r c
-    refused-of-false = go (withinLimits (table c)) refl (ltb (length (buffer c)) (96 * n)) refl
-      where
-        both : (k : Refusal) → run r c ≡ refusing r (buffer c) k
-            → ((J : Judge) (p : Paper) → says J n p c ≡ record { paper = p; count = 0; answer = Says.Refused k }) → Refused n r c
-        both k x y =
-            record {
-              refusal = k;
-              refused = rw x;
-              stays = rw x (unchanged-of-refusing r (buffer c) k);
-              paper = λ J p. rw (y J p);
-              count = λ J p. rw (x, y J p);
-              answer = λ J p. rw (x, y J p);
-            }
-
-        go : (a : Bool) → withinLimits (table c) ≡ a → (b : Bool) → ltb (length (buffer c)) (96 * n) ≡ b → cond a (cond b false true) false ≡ false
-            → Refused n r c
-        go true x true y h =
-            both No.ShortBuffer (run-of-reading r c ∙ rw (x, withinReader-of-good r g, g .frames, y)) (λ J p. says-of-saying J n p c ∙ rw (x, y))
-        go true x false y h = true-neq-false h
-        go false x b y h = both No.AboveLimit (run-of-reading r c ∙ rw x) (λ J p. says-of-saying J n p c ∙ rw x)
+    refused-of-false e = let (k, o) = shut-of-not-isOpen gate e in refused-of-shut k o
 
     -- any call keeps the bounds
     pub good-of-call : Good n (run r c .reader)
@@ -194,16 +195,14 @@ module _ (n : ℕ) (least : 1 ≤ n) (most : n ≤ 64) where
 
     -- 23 is for the table
     limits-of-refused : run r c .answer ≡ Says.Refused No.AboveLimit → withinLimits (table c) ≡ false
-    limits-of-refused e = go (withinLimits (table c)) refl (ltb (length (buffer c)) (96 * n)) refl
+    limits-of-refused e = go gate refl
       where
-        go : (a : Bool) → withinLimits (table c) ≡ a → (b : Bool) → ltb (length (buffer c)) (96 * n) ≡ b → a ≡ false
-        go true x true y =
-            let q : run r c ≡ refusing r (buffer c) No.ShortBuffer = run-of-reading r c ∙ rw (x, withinReader-of-good r g, g .frames, y) in
-            let z : Says.Refused No.ShortBuffer ≡ Says.Refused No.AboveLimit = sym (ap (λ (o : Outcome). o .answer) q) ∙ e in
-            cc
-        go true x false y =
-            absurd (reading-not-refused r c No.AboveLimit (sym (ap (λ (o : Outcome). o .answer) (accepted-of-true (rw (x, y)) .run-is)) ∙ e))
-        go false x b y = refl
+        go : (a : Gate) → gate ≡ a → withinLimits (table c) ≡ false
+        go Is.Open o = absurd (reading-not-refused r c No.AboveLimit (sym (ap (λ (x : Outcome). x .answer) (accepted-of-open o .run-is)) ∙ e))
+        go (Is.Shut k) o =
+            let q : Says.Refused k ≡ Says.Refused No.AboveLimit = sym (ap (λ (x : Outcome). x .answer) (run-of-shut k o)) ∙ e in
+            let z : k ≡ No.AboveLimit = cc in
+            table-of-above-limit n (table c) (length (buffer c)) (o ∙ ap Is.Shut z)
 
   -- a close that is not refused leaves a fresh reader
   pub fresh-of-closes : (r : Reader) (c : Call) → Good n r → closes n c ≡ true → Fresh n (run r c .reader)
@@ -228,18 +227,11 @@ pub record Begun (n : ℕ) (r : Reader) : Type 0 where
 pub begun-of-start : (t : Table) (w : List ℕ) → startOf t w .answer ≡ Says.Quiet → Begun (frameCount (length w)) (startOf t w .reader)
 unfolding startOf
 begun-of-start t w =
-    cond-elim Begins (withinLimits t)
-    (λ a. cond-elim Begins (ltb (length w) 96) (λ b e. never No.SmallBuffer e)
-    (λ b e.
-    let h : 96 ≤ length w = nltb→le (length w) 96 b in
-    record { least = omega arith; most = omega arith; fresh = record { frames = refl; lex = refl; root = refl; key = refl } }))
-    (λ a e. never No.AboveLimit e)
-  where
-    Begins : Start → Type 0
-    Begins s = s .answer ≡ Says.Quiet → Begun (frameCount (length w)) (s .reader)
-
-    never : {A : Type 0} (k : Refusal) → Says.Refused k ≡ Says.Quiet → A
-    never k e = let z : _≡_ {A = ℕ} 0 1 = cc in absurd (omega arith)
+    through-elim (λ (s : Start). s .answer ≡ Says.Quiet → Begun (frameCount (length w)) (s .reader)) (startGate t (length w))
+    (λ k _ e. let z : _≡_ {A = ℕ} 0 1 = cc in absurd (omega arith))
+    (λ o _.
+    let h : 96 ≤ length w = room-of-start t (length w) o in
+    record { least = omega arith; most = omega arith; fresh = record { frames = refl; lex = refl; root = refl; key = refl } })
 
 -- after an accepted start and any calls, a call refused with 23 has a table with a number above its limit
 pub never-above-limit : (t : Table) (w : List ℕ) → startOf t w .answer ≡ Says.Quiet → (calls : List Call) (c : Call)

@@ -14,10 +14,11 @@ use Rattle.progress.specs.Lex.{judged}
 use Rattle.progress.specs.Memory.{Mem, Ran, runMem}
 use Rattle.reader.specs.declared.Reader.{Reader}
 use Rattle.reader.specs.declared.Answer.the-variants as Says
-use Rattle.reader.specs.Machine.{Outcome, freshReader, startOf, memoryOf, ending, going, outcome}
+use Rattle.reader.specs.Machine.{Outcome, freshReader, startOf, memoryOf, ending, going, outcome, feeding, closing}
 use Rattle.reader.specs.Paper.{Call, feed, close, Judge, Judges, Paper, opening, nonempty, Said, goes, says, told}
 use Rattle.reader.specs.Claim.{run, answers, after, table, buffer, accepted, closes, before, streams, Held, nothing, held, Same, Fair, Answered, Demand3}
-use Rattle.stream.specs.Bytes.{freshMem, Reading}
+use Rattle.progress.specs.Fresh.{freshMem}
+use Rattle.stream.specs.Bytes.{Reading}
 use Rattle.stream.specs.Records.{Fresh}
 use Rattle.stream.proofs.PieceLaws.{Follows, Agrees, follows-of-fresh, judged-of-follows, agrees-of-piece}
 use Rattle.stream.proofs.CallLaws.{reading, saying, Good, good-of-fresh, accepted-of-true, refused-of-false, good-of-call, fresh-of-closes, begun-of-start}
@@ -58,6 +59,7 @@ module _ {Book : Table → List Entry → Type 0} {Tracks : (es : List Entry) �
     (es : List Entry) (n : ℕ) (least : 1 ≤ n) (most : n ≤ 64) (J : Judge) (judge : Judges es n J) where
   alike-of-reading : (c : Call) (r : Reader) (p : Paper) → Book (table c) es → r .frames ≡ n → Follows es (Tracks es n) n (memoryOf r (buffer c)) p
       → Alike es (Tracks es n) n (reading r c) (saying J p c)
+  unfolding feeding closing
   alike-of-reading (feed t w s) r p book e f =
       alike-of-agrees r (runMem t (r .frames) (memoryOf r w) 0 s) (goes J p 0 s) (rw e (agrees-of-piece facts book n least most J judge s (memoryOf r w) p 0 f))
   alike-of-reading (close t w) r p book e f = rw (f .some) (go (nonempty (p .part)))

@@ -21,7 +21,8 @@ use Rattle.reader.specs.declared.Answer.{Answer}
 use Rattle.reader.specs.declared.Answer.the-variants as Says
 use Rattle.reader.specs.Paper.{Judge, Judges, Paper, nonempty, Said, goes}
 use Rattle.laws.proofs.TestLaws.{true-neq-false}
-use Rattle.stream.specs.Bytes.{freshMem, Reading}
+use Rattle.progress.specs.Fresh.{freshMem}
+use Rattle.stream.specs.Bytes.{Reading}
 use Rattle.stream.proofs.ByteLaws.{moves-of-byte, stepMem-in-head, stepMem-of-RS, bump-pos, endsRecord-of-RS, endsRecord-of-byte}
 
 -- ---- the relation

@@ -2,21 +2,21 @@
 use mathlib.Core.Bool.{Bool, true, false}
 use mathlib.Core.List.{List, [], _∷_}
 use mathlib.Core.Path.{_≡_, refl, sym, ap, _∙_}
-use Prim.Native.Nat.{ℕ, _*_}
+use Prim.Native.Nat.{ℕ}
 use lib.Dec.{ltb}
 use lib.ListN.{length}
-use Rattle.table.specs.Limits.{withinLimits}
 use Rattle.verdict.specs.declared.Verdict.{Verdict}
 use Rattle.progress.specs.Memory.{Mem, Ran, runMem}
 use Rattle.reader.specs.declared.Tally.{Tally}
 use Rattle.reader.specs.declared.Reader.{Reader}
 use Rattle.reader.specs.declared.Refusal.{Refusal}
-use Rattle.reader.specs.declared.Refusal.the-variants as No
 use Rattle.reader.specs.declared.Answer.{Answer}
 use Rattle.reader.specs.declared.Answer.the-variants as Says
-use Rattle.reader.specs.Machine.{Outcome, freshReader, withinReader, refusing, memoryOf, ending, going, outcome}
+use Rattle.reader.specs.Refusals.{withinReader, callGate}
+use Rattle.reader.specs.Machine.{Outcome, freshReader, refusing, memoryOf, ending, going, outcome, feeding, closing}
 use Rattle.reader.specs.Paper.{Call, feed, close}
 use Rattle.reader.specs.Claim.{run, answers, after, table, buffer}
+use Rattle.reader.proofs.RefusalLaws.{through-elim}
 use Rattle.laws.proofs.TestLaws.{cond-elim}
 use Rattle.stream.specs.Records.{andThen, verdictsIn, tallyAfter}
 use Rattle.stream.proofs.CallLaws.{reading, run-of-reading}
@@ -31,7 +31,7 @@ module _ (r : Reader) where
   counts-of-ending m i head = record { tally = refl }
 
   counts-of-reading : (c : Call) → Counts (r .tally) (reading r c)
-  unfolding tallyAfter
+  unfolding tallyAfter feeding closing
   counts-of-reading (feed t w s) = go (runMem t (r .frames) (memoryOf r w) 0 s)
     where
       going-on : (e : Ran) → Counts (r .tally) (going r (e .memory) (e .count))
@@ -49,11 +49,7 @@ module _ (r : Reader) where
   unfolding tallyAfter
   counts-of-call c =
       rw (run-of-reading r c)
-      (cond-elim (Counts (r .tally)) (withinLimits (table c))
-      (λ a. cond-elim (Counts (r .tally)) (withinReader r)
-      (λ b. cond-elim (Counts (r .tally)) (ltb (length (buffer c)) (96 * r .frames)) (λ d. none No.ShortBuffer) (λ d. counts-of-reading c))
-      (λ b. none No.AboveLimit))
-      (λ a. none No.AboveLimit))
+      (through-elim (Counts (r .tally)) (callGate (withinReader r) (r .frames) (table c) (length (buffer c))) (λ k _. none k) (λ _. counts-of-reading c))
     where
       none : (k : Refusal) → Counts (r .tally) (refusing r (buffer c) k)
       none k = record { tally = refl }

@@ -1,22 +1,18 @@
 -- What demand 3 needs to know of single bytes behind an RS: the memory follows the track of crate verdict. Derived: crate follows proves it.
 -- Assumes nothing.
-use mathlib.Core.Bool.{Bool, false}
+use mathlib.Core.Bool.{false}
 use mathlib.Core.List.{List}
 use mathlib.Core.Path.{_≡_}
 use Prim.Native.Nat.{ℕ, _*_, _≤_}
 use lib.Dec.{eqb}
-use lib.ListN.{length, replicate}
+use lib.ListN.{length}
 use Rattle.table.specs.Table.{Table}
 use Rattle.book.specs.Entry.{Entry}
 use Rattle.runs.specs.Sound.{Sound}
 use Rattle.verdict.specs.Track.{Track, trackStart, trackByte, trackEnd}
 use Rattle.progress.specs.Lex.{judged}
-use Rattle.progress.specs.Memory.{Mem, mem, stepMem}
-use Rattle.reader.specs.Machine.{freshLex}
-
--- nothing is read of a record, and the buffer is w
-abbrev pub freshMem : Bool → List ℕ → Mem
-freshMem head w = mem (freshLex head) false (replicate 32 0) w
+use Rattle.progress.specs.Memory.{Mem, stepMem}
+use Rattle.progress.specs.Fresh.{freshMem}
 
 -- `Book t es`: the table t is that of an accepted book with the entries es. `Tracks es n m s`: with n frames the memory m is that of a record
 -- whose track is s

@@ -10,11 +10,12 @@ use Rattle.laws.specs.Lists.{all}
 use Rattle.table.specs.Table.{Table}
 use Rattle.book.specs.Entry.{Entry}
 use Rattle.verdict.specs.declared.Verdict.{Verdict}
+use Rattle.progress.specs.Fresh.{freshLex}
 use Rattle.reader.specs.declared.Tally.{Tally}
 use Rattle.reader.specs.declared.Reader.{Reader}
 use Rattle.reader.specs.declared.Answer.{Answer}
 use Rattle.reader.specs.declared.Answer.the-variants as Says
-use Rattle.reader.specs.Machine.{freshLex, tallied}
+use Rattle.reader.specs.Machine.{tallied}
 use Rattle.reader.specs.Paper.{Call, feed, close, Heard, Judge, nonempty}
 use Rattle.reader.specs.Claim.{run, accepted, nothing, Fair}
 

@@ -1,5 +1,5 @@
 -- `fit_reader` meets its contract, bound by bound. Assumes nothing.
-use Rattle.reader.proofs.ReaderLaws.{fit-all, fit-level, fit-most, fit-none}
+use Rattle.reader.proofs.RefusalLaws.{fit-all, fit-level, fit-most, fit-none}
 use borrow.Author.Needs.{needs}
 use Rattle.reader.proofs.fit_reader.Statement.{statement}
 use Rattle.reader.proofs.fit_reader.Tie as tie

@@ -1,0 +1,184 @@
+-- Laws of ladders and gates: what an open gate tells, what a shut one tells, and the gates by the code's tests. Assumes nothing.
+use mathlib.Core.Bool.{Bool, true, false, cond, _&&_}
+use mathlib.Core.List.{List, [], _∷_}
+use mathlib.Core.Path.{_≡_, refl, sym, _∙_}
+use Prim.Native.Nat.{ℕ, _*_, _<_, _≤_}
+use native.Mathlib.Omega.{arith}
+use lib.Dec.{leb}
+use borrow.Author.Tests.{le-leb, lt-leb, leb-true}
+use Rattle.table.specs.Table.{Table}
+use Rattle.table.specs.Limits.{withinLimits}
+use Rattle.laws.proofs.TestLaws.{true-neq-false}
+use Rattle.reader.specs.declared.Refusal.{Refusal}
+use Rattle.reader.specs.declared.Refusal.the-variants as No
+use Rattle.reader.specs.declared.Gate.{Gate}
+use Rattle.reader.specs.declared.Gate.the-variants as Is
+use Rattle.reader.specs.Refusals.{fitReader, Rung, firstRefusal, tableRung, startGate, callGate, through, isOpen}
+
+-- ---- a gate
+
+-- no gate is both open and shut
+pub open-neq-shut : {X : Type 0} (k : Refusal) → Is.Open ≡ Is.Shut k → X
+open-neq-shut k e = let z : _≡_ {A = ℕ} 0 1 = cc in absurd (omega arith)
+
+-- what holds of what a call does where its gate is open, and of each refusal where it is shut, holds of what it gives
+pub through-elim : {A : Type 0} (P : A → Type 0) {refused : Refusal → A} {done : A} (a : Gate) → ((k : Refusal) → a ≡ Is.Shut k → P (refused k))
+    → (a ≡ Is.Open → P done) → P (through a refused done)
+through-elim P Is.Open f d = d refl
+through-elim P (Is.Shut k) f d = f k refl
+
+pub open-of-isOpen : (a : Gate) → isOpen a ≡ true → a ≡ Is.Open
+open-of-isOpen Is.Open e = refl
+open-of-isOpen (Is.Shut k) e = true-neq-false (sym e)
+
+pub shut-of-not-isOpen : (a : Gate) → isOpen a ≡ false → (k : Refusal) × (a ≡ Is.Shut k)
+shut-of-not-isOpen Is.Open e = true-neq-false e
+shut-of-not-isOpen (Is.Shut k) e = (k, refl)
+
+-- ---- a ladder
+
+module _ (g : Rung) (gs : List Rung) where
+  -- an open ladder has a first rung that holds, and the rest is open
+  first-of-open : firstRefusal (g ∷ gs) ≡ Is.Open → g .holds ≡ true
+  unfolding firstRefusal
+  first-of-open = go (g .holds)
+    where
+      go : (b : Bool) → cond b (firstRefusal gs) (Is.Shut (g .refusal)) ≡ Is.Open → b ≡ true
+      go true e = refl
+      go false e = open-neq-shut (g .refusal) (sym e)
+
+  rest-of-holds : g .holds ≡ true → firstRefusal (g ∷ gs) ≡ firstRefusal gs
+  unfolding firstRefusal
+  rest-of-holds e = rw e
+
+  rest-of-open : firstRefusal (g ∷ gs) ≡ Is.Open → firstRefusal gs ≡ Is.Open
+  rest-of-open e = sym (rest-of-holds (first-of-open e)) ∙ e
+
+  shut-of-fails : g .holds ≡ false → firstRefusal (g ∷ gs) ≡ Is.Shut (g .refusal)
+  unfolding firstRefusal
+  shut-of-fails e = rw e
+
+  -- a rung that shuts a gate alone shuts every ladder that begins with it
+  shut-of-first : (k : Refusal) → firstRefusal (g ∷ []) ≡ Is.Shut k → firstRefusal (g ∷ gs) ≡ Is.Shut k
+  unfolding firstRefusal
+  shut-of-first k = go (g .holds)
+    where
+      go : (b : Bool) → cond b Is.Open (Is.Shut (g .refusal)) ≡ Is.Shut k → cond b (firstRefusal gs) (Is.Shut (g .refusal)) ≡ Is.Shut k
+      go true e = open-neq-shut k e
+      go false e = e
+
+-- ---- what the gates tell
+
+-- a start whose gate is open
+module _ (t : Table) (n : ℕ) where
+  pub table-of-start : startGate t n ≡ Is.Open → withinLimits t ≡ true
+  unfolding startGate
+  table-of-start e = first-of-open _ _ e
+
+  pub room-of-start : startGate t n ≡ Is.Open → 96 ≤ n
+  unfolding startGate
+  room-of-start e = leb-true 96 n (first-of-open _ _ (rest-of-open _ _ e))
+
+  pub start-open-of-room : withinLimits t ≡ true → 96 ≤ n → startGate t n ≡ Is.Open
+  unfolding startGate firstRefusal
+  start-open-of-room e h = rw (e, le-leb 96 n h)
+
+-- a call whose gate is open
+module _ (within : Bool) (f : ℕ) (t : Table) (n : ℕ) where
+  pub table-of-call : callGate within f t n ≡ Is.Open → withinLimits t ≡ true
+  unfolding callGate
+  table-of-call e = first-of-open _ _ e
+
+  pub room-of-call : callGate within f t n ≡ Is.Open → 96 * f ≤ n
+  unfolding callGate
+  room-of-call e = leb-true (96 * f) n (first-of-open _ _ (rest-of-open _ _ (rest-of-open _ _ e)))
+
+module _ (f : ℕ) (t : Table) (n : ℕ) where
+  pub call-open-of-room : withinLimits t ≡ true → 96 * f ≤ n → callGate true f t n ≡ Is.Open
+  unfolding callGate firstRefusal
+  call-open-of-room e h = rw (e, le-leb (96 * f) n h)
+
+  -- with a reader in its bounds 23 is for the table
+  pub table-of-above-limit : callGate true f t n ≡ Is.Shut No.AboveLimit → withinLimits t ≡ false
+  unfolding callGate firstRefusal
+  table-of-above-limit = go (withinLimits t) (leb (96 * f) n)
+    where
+      go : (a b : Bool) → cond a (cond b Is.Open (Is.Shut No.ShortBuffer)) (Is.Shut No.AboveLimit) ≡ Is.Shut No.AboveLimit → a ≡ false
+      go true true e = open-neq-shut No.AboveLimit e
+      go true false e = cc
+      go false b e = refl
+
+-- a gate that is open, in the form of the code's need
+pub table-let-in : (within : Bool) (f : ℕ) (t : Table) (n : ℕ) (a : Gate) → a ≡ callGate within f t n → a ≡ Is.Open → withinLimits t ≡ true
+table-let-in within f t n a p e = table-of-call within f t n (sym p ∙ e)
+
+-- ---- the bounds of a reader, by the code's tests
+
+module _ (f l k : ℕ) where
+  pub fit-all : 1 ≤ f → f ≤ 64 → l ≤ f → leb k 33 ≡ fitReader f l k
+  unfolding fitReader
+  fit-all a b c = simp (le-leb 1 f a, le-leb f 64 b, le-leb l f c)
+
+  pub fit-level : 1 ≤ f → f ≤ 64 → f < l → false ≡ fitReader f l k
+  unfolding fitReader
+  fit-level a b c = simp (le-leb 1 f a, le-leb f 64 b, lt-leb l f c)
+
+  pub fit-most : 1 ≤ f → 64 < f → false ≡ fitReader f l k
+  unfolding fitReader
+  fit-most a b = simp (le-leb 1 f a, lt-leb f 64 b)
+
+  pub fit-none : f < 1 → false ≡ fitReader f l k
+  unfolding fitReader
+  fit-none a = rw (lt-leb 1 f a)
+
+  pub frames-le : (v : Bool) → v ≡ fitReader f l k → v ≡ true → f ≤ 64
+  unfolding fitReader
+  frames-le v p e = go (leb 1 f) (leb f 64) refl (sym p ∙ e)
+    where
+      go : (a b : Bool) → leb f 64 ≡ b → (a && (b && (leb l f && leb k 33))) ≡ true → f ≤ 64
+      go true true p q = leb-true f 64 p
+      go true false p q = true-neq-false (sym q)
+      go false b p q = true-neq-false (sym q)
+
+-- ---- the gates by the code's tests: first the table, then the rest
+
+module _ (t : Table) (b : Bool) (p : b ≡ withinLimits t) where
+  pub table-open : b ≡ true → Is.Open ≡ firstRefusal (tableRung t ∷ [])
+  unfolding firstRefusal
+  table-open e = rw (sym p ∙ e)
+
+  pub table-shut : b ≡ false → Is.Shut No.AboveLimit ≡ firstRefusal (tableRung t ∷ [])
+  unfolding firstRefusal
+  table-shut e = rw (sym p ∙ e)
+
+module _ (t : Table) (a : Gate) (p : a ≡ firstRefusal (tableRung t ∷ [])) where
+  passed : a ≡ Is.Open → withinLimits t ≡ true
+  passed e = first-of-open (tableRung t) [] (sym p ∙ e)
+
+  pub start-shut : (n : ℕ) (k : Refusal) → a ≡ Is.Shut k → a ≡ startGate t n
+  unfolding startGate
+  start-shut n k e = e ∙ sym (shut-of-first (tableRung t) _ k (sym p ∙ e))
+
+  pub start-small : (n : ℕ) → a ≡ Is.Open → n < 96 → Is.Shut No.SmallBuffer ≡ startGate t n
+  unfolding startGate firstRefusal
+  start-small n e h = rw (passed e, lt-leb 96 n h)
+
+  pub start-open : (n : ℕ) → a ≡ Is.Open → 96 ≤ n → Is.Open ≡ startGate t n
+  start-open n e h = sym (start-open-of-room t n (passed e) h)
+
+  module _ (f l k n : ℕ) where
+    pub call-shut : (x : Refusal) → a ≡ Is.Shut x → a ≡ callGate (fitReader f l k) f t n
+    unfolding callGate
+    call-shut x e = e ∙ sym (shut-of-first (tableRung t) _ x (sym p ∙ e))
+
+    module _ (e : a ≡ Is.Open) (v : Bool) (q : v ≡ fitReader f l k) where
+      pub call-reader : v ≡ false → Is.Shut No.AboveLimit ≡ callGate (fitReader f l k) f t n
+      unfolding callGate firstRefusal
+      call-reader z = rw (passed e, sym q ∙ z)
+
+      pub call-short : v ≡ true → n < 96 * f → Is.Shut No.ShortBuffer ≡ callGate (fitReader f l k) f t n
+      unfolding callGate firstRefusal
+      call-short z h = rw (passed e, sym q ∙ z, lt-leb (96 * f) n h)
+
+      pub call-open : v ≡ true → 96 * f ≤ n → Is.Open ≡ callGate (fitReader f l k) f t n
+      call-open z h = rw (sym q ∙ z) (sym (call-open-of-room f t n (passed e) h))

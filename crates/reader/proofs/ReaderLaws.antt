@@ -16,7 +16,6 @@ use Rattle.table.specs.Table.{Table}
 use Rattle.table.specs.Limits.{withinLimits}
 use Rattle.table.proofs.LimitLaws.{withinLimits-sound}
 use Rattle.laws.proofs.TestLaws.{T-of-true}
-use Rattle.load.specs.Step.{Lens}
 use Rattle.frame.specs.Frame.{frameCount}
 use Rattle.progress.specs.declared.Lex.{Lex}
 use Rattle.progress.specs.declared.Task.the-variants as To
@@ -133,9 +132,6 @@ module _ (s : List ℕ) (i at end : ℕ) (x y z : Lex) (top : Top) (st : Step) (
 
 pub keys-le : (t : Table) → withinLimits t ≡ true → t .keys ≤ 128
 keys-le t e = withinLimits-sound t (T-of-true (withinLimits t) e) .keys
-
-pub lens-le : (t : Table) → withinLimits t ≡ true → Lens (t .«key_len»)
-lens-le t e = record { at = withinLimits-sound t (T-of-true (withinLimits t) e) .len }
 
 -- ---- start, by its tests
 

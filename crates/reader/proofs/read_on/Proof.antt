@@ -1,7 +1,7 @@
 -- `read_on` meets its contract. Assumes nothing.
 use mathlib.Core.Path.{_∙_}
 use native.Mathlib.Omega.{arith}
-use Rattle.reader.proofs.ReaderLaws.{keys-le, lens-le, went-read, went-ended, went-turned}
+use Rattle.reader.proofs.ReaderLaws.{keys-le, went-read, went-ended, went-turned}
 use borrow.Author.Needs.{needs}
 use Rattle.reader.proofs.read_on.Statement.{statement}
 use Rattle.reader.proofs.read_on.Tie as tie
@@ -16,7 +16,7 @@ returns-2 : tie.Need-returns-2
 returns-2 c = search (needs, went-ended)
 
 turn-requires : tie.Need-turn-requires
-turn-requires c κs = (keys-le _ (c .before .before .before .before .before .before .before .before .before .before .before .before .before .before .before .before .before .before .before .pre .0), lens-le _ (c .before .before .before .before .before .before .before .before .before .before .before .before .before .before .before .before .before .before .before .pre .0), c .before .before .before .before .before .before .before .before .before .before .before .before .before .key .given ∙ c .before .before .before .before .before .before .before .before .before .before .before .before .before .before .before .before .before .before .before .pre .2)
+turn-requires c κs = (keys-le _ (c .before .before .before .before .before .before .before .before .before .before .before .before .before .before .before .before .before .before .before .pre .0), c .before .before .before .before .before .before .before .before .before .before .before .before .before .key .given ∙ c .before .before .before .before .before .before .before .before .before .before .before .before .before .before .before .before .before .before .before .pre .2)
 
 add-t24 : tie.Need-add-t24
 add-t24 c = omega (arith, c .before .before .before .before .before .before .before .before .before .before .before .if1 .left, c .before .before .before .before .before .before .before .before .before .before .before .before .before .before .before .before .before .before .before .before .before .before .before .before .before .good .1 .1 .1 .1 .0)

@@ -2,15 +2,16 @@
 use mathlib.Core.Bool.{Bool, true, false, not, cond}
 use mathlib.Core.List.{List, [], _∷_, List·Memᴰ, List·Memᴰ·head, List·Memᴰ·tail, Memᴰ·append-left, Memᴰ·append-right, Memᴰ·cast}
 use mathlib.Core.Path.{_≡_, refl, sym, _∙_}
-use Prim.Native.Nat.{ℕ, suc, _<_, _≤_}
+use Prim.Native.Nat.{ℕ, suc, _<_}
 use native.Mathlib.Omega.{arith}
 use lib.Dec.{T}
 use lib.ListN.{length}
 use Rattle.laws.specs.Lists.{any, same}
 use Rattle.laws.proofs.TestLaws.{T-of-true, cond-elim, cond-yes}
 use Rattle.laws.proofs.ListLaws.{same-refl, eq-of-same, member-of-any}
-use Rattle.book.specs.Entry.{Form, Entry, edge, end-state, withKey, keysFrom, keysOf, numberOf}
+use Rattle.book.specs.Entry.{Form, Entry, edge, end-state, withKey, keysFrom, keysOf}
 use Rattle.table.specs.declared.kind.ValueKind.{ValueKind}
+use Rattle.table.specs.Keys.{numberOf}
 
 -- ---- numberOf
 
@@ -21,14 +22,6 @@ number-lt-of-member (x ∷ ks) k (List·Memᴰ·head e) = cond-yes (λ (n : ℕ)
 number-lt-of-member (x ∷ ks) k (List·Memᴰ·tail i) =
     let h = number-lt-of-member ks k i in
     cond-elim (λ (n : ℕ). n < suc (length ks)) (same x k) (λ (g : T (same x k)). omega arith) (λ (g : T (not (same x k))). omega arith)
-
--- any key has at most the number behind the keys
-pub numberOf-le : (ks : List (List ℕ)) (k : List ℕ) → numberOf ks k ≤ length ks
-unfolding numberOf
-numberOf-le [] k = omega arith
-numberOf-le (x ∷ ks) k =
-    let h = numberOf-le ks k in
-    cond-elim (λ (n : ℕ). n ≤ suc (length ks)) (same x k) (λ (g : T (same x k)). omega arith) (λ (g : T (not (same x k))). omega arith)
 
 -- two keys of one number are the same
 pub key-eq-of-number-eq : (ks : List (List ℕ)) (k l : List ℕ) → numberOf ks k < length ks → numberOf ks k ≡ numberOf ks l → k ≡ l

@@ -10,7 +10,8 @@ use Rattle.laws.specs.Tab.{tab}
 use Rattle.table.specs.declared.kind.Scalar.the-variants.{Str, Int}
 use Rattle.table.specs.declared.kind.ValueKind.the-variants.{Plain, Rule}
 use Rattle.table.specs.Kind.{codeOf}
-use Rattle.book.specs.Entry.{obj, arr, sameForm, Entry, edge, end-state, withKey, keysFrom, keysOf, numberOf, clash}
+use Rattle.table.specs.Keys.{numberOf}
+use Rattle.book.specs.Entry.{obj, arr, sameForm, Entry, edge, end-state, withKey, keysFrom, keysOf, clash}
 use Rattle.book.specs.Text.{isEmpty, onto, between, split, isNumber, numberFrom, number}
 use Rattle.book.specs.Line.{isForm, formOf, isKey, keyOf, behindR, isPlain, isKind, kindIn, smallKind, formed, small, entryOf, sayFields, sayParts, sayLine}
 use Rattle.book.specs.Load.{ruleOf, formIn, sameEntry, changesForm, isEdge, edgeCount, tooMany, faultOf, readOn, readLines, names, readBook, firstLine, hasRule, dangles, clashes, firstClash, checkBook, checked, loads}

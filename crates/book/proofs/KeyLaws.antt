@@ -10,8 +10,9 @@ use borrow.Author.Tests.{ne-eqb}
 use Rattle.laws.specs.Lists.{same, any}
 use Rattle.laws.proofs.ListLaws.{same-refl, eq-of-same}
 use Rattle.laws.proofs.TestLaws.{true-of-T, T-of-true}
+use Rattle.table.specs.Keys.{numberOf}
 use Rattle.book.proofs.TruthLaws.{true-not-false, eqb-sym, eqb-suc, or-false, or-true}
-use Rattle.book.specs.Entry.{Entry, edge, end-state, withKey, keysFrom, keysOf, numberOf}
+use Rattle.book.specs.Entry.{Entry, edge, end-state, withKey, keysFrom, keysOf}
 use Rattle.book.specs.Holds.{keyNumber}
 
 -- ---- byte strings

@@ -1,10 +1,11 @@
 -- What the lines of a book say: 01, "Rule books". Stated. Assumes nothing.
 use mathlib.Core.Bool.{Bool, true, false, not, cond, _&&_}
 use mathlib.Core.List.{List, [], _∷_, _++_}
-use Prim.Native.Nat.{ℕ, suc}
+use Prim.Native.Nat.{ℕ}
 use lib.Dec.{eqb, ltb}
 use Rattle.laws.specs.Lists.{same, any}
 use Rattle.table.specs.declared.kind.ValueKind.{ValueKind}
+use Rattle.table.specs.Keys.{numberOf}
 
 -- `obj` or `arr`
 pub data Form : Type 0 where
@@ -37,11 +38,6 @@ keysFrom ks (end-state r f q ∷ es) = keysFrom ks es
 -- the keys of a book, in the order of their first appearance
 unfoldable pub keysOf : List Entry → List (List ℕ)
 keysOf es = keysFrom [] es
-
--- the number of a key among the keys; how many keys there are, where it is none of them
-unfoldable pub numberOf : List (List ℕ) → List ℕ → ℕ
-numberOf [] k = 0
-numberOf (x ∷ ks) k = cond (same x k) 0 (suc (numberOf ks k))
 
 -- ---- the order of keys in an `obj` rule
 

@@ -5,13 +5,14 @@ use mathlib.Core.List.{List, [], _∷_}
 use mathlib.Core.Path.{_≡_}
 use Prim.Native.Nat.{ℕ, suc, _+_, _*_, _<_}
 use lib.Dec.{eqb}
-use lib.ListN.{take, drop, getD}
+use lib.ListN.{getD}
 use Rattle.laws.specs.Tab.{tab}
 use Rattle.laws.specs.Lists.{any}
 use Rattle.laws.specs.Bits.{bitAt}
 use Rattle.table.specs.Table.{Table}
 use Rattle.table.specs.Kind.{codeOf}
-use Rattle.book.specs.Entry.{Form, obj, arr, Entry, edge, end-state, keysOf, numberOf}
+use Rattle.table.specs.Keys.{tableKeys, numberOf}
+use Rattle.book.specs.Entry.{Form, obj, arr, Entry, edge, end-state, keysOf}
 use Rattle.book.specs.Load.{ruleOf, formIn}
 
 -- ---- what stands in a table
@@ -39,14 +40,6 @@ edgeAt t e = record {
 -- the edges of a table
 unfoldable pub tableEdges : Table → List Edge
 tableEdges t = tab (edgeAt t) 0 (t .edges)
-
--- key number k, from the bytes and the lengths of all keys
-abbrev pub keyAt : List ℕ → List ℕ → ℕ → List ℕ
-keyAt bytes lens k = take (getD lens k 0) (drop (32 * k) bytes)
-
--- the keys of a table
-unfoldable pub tableKeys : Table → List (List ℕ)
-tableKeys t = tab (keyAt (t .«key_bytes») (t .«key_len»)) 0 (t .keys)
 
 -- ---- the same of a book
 

@@ -93,8 +93,8 @@ module _ (es : List Entry) (k : Loading (tableOf es) es) where
         arr-key = keyless-arr;
         obj-key = keyed-obj;
         one-form = same-form;
-        edges-le = k .within .edges;
-        keys-le = k .within .keys;
+        edges-le = k .ranges .edges;
+        keys-le = k .ranges .keys;
       }
 
   plain-of-loading : PlainKeys es

@@ -16,12 +16,11 @@ use Rattle.laws.proofs.TestLaws.{T-of-true, T-or-left, T-or-right}
 use Rattle.laws.proofs.ListLaws.{eq-of-same, member-of-any, T-of-all}
 use Rattle.laws.proofs.TabLaws.{length-tab}
 use Rattle.table.specs.Table.{Table}
-use Rattle.book.specs.Entry.{Entry, keysOf, numberOf}
-use Rattle.book.specs.Holds.{keyAt, tableKeys}
+use Rattle.table.specs.Keys.{keyAt, tableKeys, numberOf, orUnknown, keyFound}
+use Rattle.book.specs.Entry.{Entry, keysOf}
 use Rattle.book.proofs.KeyLaws.{any-last, numberOf-new}
 use Rattle.runs.specs.Walk.{keyCount, numberIn}
 use Rattle.meaning.specs.Shows.{Kept, ShowsKey}
-use Rattle.progress.specs.Memory.{orUnknown, keyFound}
 use Rattle.follows.specs.Follows.{PlainKeys, NoKey, KeyKept, all-kept, none-kept}
 
 -- ---- one more character

@@ -18,6 +18,7 @@ use Rattle.json.specs.declared.lexer.Step.{Step}
 use Rattle.table.specs.Table.{Table}
 use Rattle.table.specs.declared.kind.Finished.{Finished}
 use Rattle.table.specs.declared.kind.Finished.the-variants as Done
+use Rattle.table.specs.Keys.{keyFound}
 use Rattle.frame.specs.Frame.{hasFrame, frameAt, putFrame}
 use Rattle.frame.specs.Ops.{opened, keyed}
 use Rattle.frame.proofs.LevelLaws.{putFrame-none, length-frameAt, length-putFrame}
@@ -33,7 +34,7 @@ use Rattle.progress.specs.declared.Task.{Task}
 use Rattle.progress.specs.declared.Task.the-variants as To
 use Rattle.progress.specs.declared.Advanced.{Advanced}
 use Rattle.progress.specs.Lex.{bump, opening, keyChar, charIn, acted, sound, byFault, advanced}
-use Rattle.progress.specs.Memory.{Mem, keyFound, valueAt, rulesAt, closeAt, perform, topAt, advancedAt, stepMem}
+use Rattle.progress.specs.Memory.{Mem, valueAt, rulesAt, closeAt, perform, topAt, advancedAt, stepMem}
 
 -- ---- lengths
 

@@ -39,6 +39,7 @@ use Rattle.runs.specs.Runs.{beginsPart}
 use Rattle.runs.specs.Walk.{judging, ofScalar, ofWord, startOf, atOpening}
 use Rattle.table.specs.declared.kind.Finished.the-variants as Done
 use Rattle.table.specs.declared.kind.ValueKind.{ValueKind}
+use Rattle.table.specs.Keys.{keyFound}
 use Rattle.frame.specs.Frame.{frameAt, putFrame}
 use Rattle.frame.specs.Ops.{opened, keyed}
 use Rattle.meaning.specs.Shows.{Kept}
@@ -51,7 +52,7 @@ use Rattle.progress.specs.declared.Lex.{Lex}
 use Rattle.progress.specs.Lex.{advanced, sound as sounding, bump, bitsIn, highIn, opening, keyChar, acted}
 use Rattle.progress.specs.declared.Task.{Task}
 use Rattle.progress.specs.declared.Task.the-variants as To
-use Rattle.progress.specs.Memory.{Mem, mem, keyFound, valueAt, perform, stepMem}
+use Rattle.progress.specs.Memory.{Mem, mem, valueAt, perform, stepMem}
 use Rattle.follows.specs.Follows.{PlainKeys, all-kept, ShowsText, ShowsNumber, lexAt, ShowsStack, NoRoot, AnyRoot, ShowsRoot, Shown, Follows, follows, Tracks, off-track}
 use Rattle.follows.proofs.StackLaws.{topAt-shows, shows-opened-array, shows-opened-object, shows-named, shows-finished, root-finished}
 use Rattle.follows.proofs.KeyLaws.{keyKept-put, keyKept-high, keyKept-full, showsKey-keyFound}

@@ -1,56 +1,19 @@
 -- Bytes that are 0, which loops pass over: no state, and no rule with lines. Assumes nothing.
-use mathlib.Core.Bool.{Bool, true, false, cond, not, _&&_, and-false}
+use mathlib.Core.Bool.{Bool, true, false, cond, not, and-false}
 use mathlib.Core.List.{List}
-use mathlib.Core.Path.{_≡_, refl, sym, ap, _∙_}
+use mathlib.Core.Path.{_≡_, ap, _∙_}
 use Prim.Native.Nat.{ℕ, zero, suc, _+_, _*_, _/_, _%_, _<_}
 use native.Mathlib.Nat.{add-zero, add-suc, le-refl}
 use native.Mathlib.Omega.{arith}
-use lib.Bits.{bitAnd, bitOr, or-add-and, or-zero-r, and-le-l, and-le-r, and-zero-l}
+use lib.Bits.{bitAnd, bitOr, or-zero-r, and-zero-l}
 use lib.Dec.{eqb}
 use lib.ListN.{getD, set}
 use lib.Seq.{set-getD}
-use borrow.Author.Count.{below-none, below-more}
 use borrow.Author.Tests.{ne-eqb}
 use Rattle.laws.specs.Bits.{setBit, setAll}
 use Rattle.frame.specs.Edges.{hasForm}
 use Rattle.frame.specs.Ops.{accepting, ended, ruleSet}
 use Rattle.frame.proofs.RuleLaws.{ended-of-bytes}
-
--- ---- eight bytes
-
-or-left : (a b : ℕ) → bitOr a b ≡ 0 → a ≡ 0
-or-left a b e = omega (arith, or-add-and a b, and-le-l a b, and-le-r a b)
-
-or-right : (a b : ℕ) → bitOr a b ≡ 0 → b ≡ 0
-or-right a b e = omega (arith, or-add-and a b, and-le-l a b, and-le-r a b)
-
--- four bytes that are 0 together
-four-zero : (a b c d : ℕ) → bitOr (bitOr (bitOr a b) c) d ≡ 0 → (a ≡ 0) × (b ≡ 0) × (c ≡ 0) × (d ≡ 0)
-four-zero a b c d e =
-    let abc = or-left (bitOr (bitOr a b) c) d e in
-    let ab = or-left (bitOr a b) c abc in
-    (or-left a b ab, or-right a b ab, or-right (bitOr a b) c abc, or-right (bitOr (bitOr a b) c) d e)
-
-module _ (s : List ℕ) (a : ℕ) where
-  low : ℕ
-  low = bitOr (bitOr (bitOr (getD s a 0) (getD s (a + 1) 0)) (getD s (a + 2) 0)) (getD s (a + 3) 0)
-
-  high : ℕ
-  high = bitOr (bitOr (bitOr (getD s (a + 4) 0) (getD s (a + 5) 0)) (getD s (a + 6) 0)) (getD s (a + 7) 0)
-
-  -- eight bytes that are 0 together are 0 each
-  pub quiet-eight : bitOr (bitOr (bitOr (bitOr (getD s a 0) (getD s (a + 1) 0)) (getD s (a + 2) 0)) (getD s (a + 3) 0))
-      (bitOr (bitOr (bitOr (getD s (a + 4) 0) (getD s (a + 5) 0)) (getD s (a + 6) 0)) (getD s (a + 7) 0)) ≡ 0
-      → (k : ℕ) → k < 8 → getD s (a + k) 0 ≡ 0
-  unfolding low high
-  quiet-eight e =
-      let l = four-zero (getD s a 0) (getD s (a + 1) 0) (getD s (a + 2) 0) (getD s (a + 3) 0) (or-left low high e) in
-      let h = four-zero (getD s (a + 4) 0) (getD s (a + 5) 0) (getD s (a + 6) 0) (getD s (a + 7) 0) (or-right low high e) in
-      below-more P 7 (below-more P 6 (below-more P 5 (below-more P 4 (below-more P 3 (below-more P 2 (below-more P 1 (below-more P 0 (below-none P)
-      (ap (λ (i : ℕ). getD s i 0) (add-zero a) ∙ l .0)) (l .1)) (l .2)) (l .3)) (h .0)) (h .1)) (h .2)) (h .3)
-    where
-      P : ℕ → Type 0
-      P k = getD s (a + k) 0 ≡ 0
 
 -- ---- rules without lines
 

@@ -1,5 +1,5 @@
 // Closing: 01, "Frames".
-use crate::bits;
+use table::bits;
 use crate::edge;
 use crate::open;
 use table::flat;

@@ -1,5 +1,5 @@
 // Edges of a table: how many count, and the tests of one of them.
-use crate::bits;
+use table::bits;
 use crate::mask;
 use table::flat;
 ghost use mathlib.Core.Bool.{false};

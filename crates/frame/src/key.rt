@@ -1,5 +1,5 @@
 // A finished key: 01, "Frames".
-use crate::bits;
+use table::bits;
 ghost use mathlib.Core.Path.{_≡_};
 ghost use lib.ListN.{length};
 ghost use Rattle.frame.specs.Ops.{keyed};

@@ -1,5 +1,5 @@
 // Opening: 01, "Frames".
-use crate::bits;
+use table::bits;
 use table::flat;
 ghost use mathlib.Core.Bool.{true, cond};
 ghost use mathlib.Core.List.{List};

@@ -1,5 +1,5 @@
 // A finished value: 01, "Frames".
-use crate::bits;
+use table::bits;
 use crate::edge;
 use crate::mask;
 use crate::open;

@@ -4,6 +4,7 @@ ghost use Prim.Native.Nat.{_+_, _<_};
 ghost use lib.ListN.{length};
 ghost use Rattle.book.specs.Line.{formed as isFormed, keyOf, sayFields, sayLine};
 ghost use Rattle.line.specs.Line.{noCuts, Cut, sayCut, Judged, Says, faulty, endLine, formedEnd, formedEdge};
+use table::bytes;
 
 const OBJ: [u8; 3] = *b"obj";
 
@@ -91,8 +92,8 @@ fn cut(line: &[u8]) -> Cuts
 fn formed_end(key: &[u8], next: &[u8]) -> bool
     ensures { λ r. ⌜ r ≡ formedEnd (now (key .entry)) (now (next .entry)) ⌝ }
 {
-    if scan::equal(key, &DASH) {
-        return scan::equal(next, &DASH);
+    if bytes::equal(key, &DASH) {
+        return bytes::equal(next, &DASH);
     }
     false
 }
@@ -103,10 +104,10 @@ fn formed_edge(form: &[u8], key: &[u8], value: &[u8], next: &[u8]) -> bool
 {
     if scan::is_kind(value) {
         if scan::is_number(next) {
-            if scan::equal(form, &OBJ) {
+            if bytes::equal(form, &OBJ) {
                 return scan::is_key(key);
             }
-            return scan::equal(key, &DASH);
+            return bytes::equal(key, &DASH);
         }
     }
     false
@@ -119,7 +120,7 @@ fn formed(rule: &[u8], form: &[u8], state: &[u8], key: &[u8], value: &[u8], next
     if scan::is_number(rule) {
         if scan::is_form(form) {
             if scan::is_number(state) {
-                if scan::equal(value, &END) {
+                if bytes::equal(value, &END) {
                     return formed_end(key, next);
                 }
                 return formed_edge(form, key, value, next);
@@ -163,7 +164,7 @@ fn end_line(rule: u8, obj: bool, state: u8, at: usize) -> Line
 fn key_length(key: &[u8]) -> usize
     ensures { λ r. ⌜ r ≡ length (keyOf (now (key .entry))) ⌝ }
 {
-    if scan::equal(key, &DASH) {
+    if bytes::equal(key, &DASH) {
         return 0;
     }
     key.len()
@@ -192,8 +193,8 @@ fn judge_fields(
     if 16 <= q {
         return bad_line(4, at);
     }
-    let obj = scan::equal(form, &OBJ);
-    if scan::equal(value, &END) {
+    let obj = bytes::equal(form, &OBJ);
+    if bytes::equal(value, &END) {
         return end_line(r, obj, q, at);
     }
     let v = scan::kind_code(value);

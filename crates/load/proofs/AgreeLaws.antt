@@ -9,7 +9,7 @@ use lib.ListN.{length, take, drop, length-append}
 use borrow.Author.Tests.{ne-eqb, eqb-true, eqb-false}
 use Rattle.laws.specs.Lists.{same, any}
 use Rattle.table.specs.Table.{Table}
-use Rattle.table.specs.Limits.{WithinLimits}
+use Rattle.table.specs.Flat.{emptyTable}
 use Rattle.book.specs.Entry.{Entry, keysOf}
 use Rattle.book.specs.Text.{isEmpty, split}
 use Rattle.book.specs.Line.{formed, small, entryOf, Said, bad, good, sayFields, sayParts, sayLine}
@@ -20,7 +20,8 @@ use Rattle.load.specs.declared.Answer.{Answer}
 use Rattle.load.specs.declared.Answer.the-variants.{Size, Names, Malformed, NoRule, NoRoot, NotAscending}
 use Rattle.load.specs.Answer.{Told, tell, told}
 use Rattle.load.specs.Proper.{ProperSaid}
-use Rattle.load.specs.Step.{Loaded, emptyTable, takeEntry, tableFrom, tableOf, takeSaid, lineRefusal, loaded, refusal, takeOn, takeLines, takeBook}
+use Rattle.load.specs.Ranges.{Ranges}
+use Rattle.load.specs.Step.{Loaded, takeEntry, tableFrom, tableOf, takeSaid, lineRefusal, loaded, refusal, takeOn, takeLines, takeBook}
 use Rattle.load.specs.Check.{checkTable}
 use Rattle.load.specs.Loads.{LoadsAs}
 use Rattle.load.proofs.ProperLaws.{sayLine-proper}
@@ -147,13 +148,13 @@ book-agrees b = go (isEmpty b || ltb 65536 (length b)) (same (take 31 b) names)
     go false false = (Names, refl, refl, λ z. omega arith)
     go false true = lines-agree 2 [] (split 10 (drop 31 b)) refl kept-none
 
--- what was read is within the limits of a table
-pub book-within : (b : List ℕ) (r : Loaded) → r ≡ takeBook b → WithinLimits (r .table)
-book-within b r q = rw q (go (readBook b) (book-agrees b))
+-- the numbers of what was read are in their ranges
+pub book-ranges : (b : List ℕ) (r : Loaded) → r ≡ takeBook b → Ranges (r .table)
+book-ranges b r q = rw q (go (readBook b) (book-agrees b))
   where
-    go : (p : Read) → Agree (takeBook b) p → WithinLimits (takeBook b .table)
-    go (refused k n) a = rw (a .1) (kept-empty .within)
-    go (entries es) a = rw (a .0) (a .1 .within)
+    go : (p : Read) → Agree (takeBook b) p → Ranges (takeBook b .table)
+    go (refused k n) a = rw (a .1) (kept-empty .ranges)
+    go (entries es) a = rw (a .0) (a .1 .ranges)
 
 -- ---- the checks
 abbrev As : Loaded → Paper → Type 0

@@ -6,10 +6,12 @@ use native.Mathlib.Decide.{decLt}
 use native.Mathlib.Omega.{arith}
 use lib.ListN.{length, getD, drop, replicate, getD-replicate}
 use Rattle.table.specs.Table.{Table}
-use Rattle.table.specs.Flat.{part, paired, tableIn}
+use Rattle.table.specs.Flat.{part, paired, tableIn, emptyTable}
+use Rattle.table.specs.Slots.{slotSize, tableWith}
 use Rattle.table.proofs.FlatLaws.{getD-part}
+use Rattle.table.proofs.SlotLaws.{emptyTable-parts, lines-zero}
 use Rattle.load.specs.declared.Answer.{Answer}
-use Rattle.load.specs.Step.{emptyTable, loadedAs}
+use Rattle.load.specs.Step.{loadedAs}
 use Rattle.load.specs.Loads.{LoadsAs, Blank}
 use Rattle.load.proofs.LoadedLaws.{loads-kept, refused-table}
 
@@ -35,10 +37,10 @@ below {P} i a f g = go (decLt i a)
     go (yes l) = f l
     go (no l) = g (omega arith)
 
--- the bytes of the empty table
-empty-bytes : (l : List ℕ) → tableIn l ≡ emptyTable → (i : ℕ) → i < 7920 → getD l i 0 ≡ 0
-unfolding tableIn emptyTable
-empty-bytes l e i h =
+-- bytes that mean the empty table are 0
+zero-bytes : (l : List ℕ) → tableIn l ≡ tableWith (λ k. replicate (slotSize k) 0) → (i : ℕ) → i < 7920 → getD l i 0 ≡ 0
+unfolding tableIn
+zero-bytes l e i h =
     below i 1 (λ u. let z : i ≡ 0 = omega arith in ap (λ (x : ℕ). getD l x 0) z ∙ omega (arith, edges))
     (λ v1.
     below i 2 (λ u. let z : i ≡ 1 = omega arith in ap (λ (x : ℕ). getD l x 0) z ∙ omega (arith, edges))
@@ -57,9 +59,9 @@ empty-bytes l e i h =
     (λ v8.
     below i 2576 (λ u. part-zero l 2064 512 i (ap (λ (t : Table). t .«edge_next») e) v8 u)
     (λ v9.
-    below i 3088 (λ u. line 2576 v9 u (λ j m. paired-zero 512 (part l 2576 512) (part l 3088 512) (ap (λ (t : Table). t .«edge_line») e) j m .0))
+    below i 3088 (λ u. line 2576 v9 u (λ j m. paired-zero 512 (part l 2576 512) (part l 3088 512) lines j m .0))
     (λ v10.
-    below i 3600 (λ u. line 3088 v10 u (λ j m. paired-zero 512 (part l 2576 512) (part l 3088 512) (ap (λ (t : Table). t .«edge_line») e) j m .1))
+    below i 3600 (λ u. line 3088 v10 u (λ j m. paired-zero 512 (part l 2576 512) (part l 3088 512) lines j m .1))
     (λ v11.
     below i 7696 (λ u. part-zero l 3600 4096 i (ap (λ (t : Table). t .«key_bytes») e) v11 u)
     (λ v12.
@@ -68,6 +70,9 @@ empty-bytes l e i h =
     below i 7888 (λ u. part-zero l 7824 64 i (ap (λ (t : Table). t .ends) e) v13 u)
     (λ v14. part-zero l 7888 32 i (ap (λ (t : Table). t .forms) e) v14 h))))))))))))))
   where
+    lines : paired (part l 2576 512) (part l 3088 512) ≡ replicate 512 0
+    lines = ap (λ (t : Table). t .«edge_line») e ∙ lines-zero
+
     edges : getD l 0 0 + 256 * getD l 1 0 ≡ 0
     edges = ap (λ (t : Table). t .edges) e
 
@@ -75,6 +80,9 @@ empty-bytes l e i h =
     line a u v f =
         let d : i ≡ a + (i - a) = omega arith in
         ap (λ (x : ℕ). getD l x 0) d ∙ getD-part l a 512 (i - a) (omega arith) ∙ f (i - a) (omega arith)
+
+empty-bytes : (l : List ℕ) → tableIn l ≡ emptyTable → (i : ℕ) → i < 7920 → getD l i 0 ≡ 0
+empty-bytes l e = zero-bytes l (e ∙ emptyTable-parts)
 
 pub loads-blank : (b l : List ℕ) (a : Answer) → LoadsAs b (loadedAs a (tableIn l)) → LoadsAs b (loadedAs a (tableIn l)) × Blank b l
 unfolding tableIn

@@ -12,26 +12,30 @@ use Rattle.laws.specs.Bits.{bitAt, setBit}
 use Rattle.laws.specs.Lists.{same, any}
 use Rattle.laws.proofs.BitLaws.{bitAt-setBit, bitAt-zeros}
 use Rattle.table.specs.Table.{Table}
+use Rattle.table.specs.Flat.{emptyTable}
 use Rattle.table.specs.declared.kind.ValueKind.{ValueKind}
 use Rattle.table.specs.Kind.{codeOf}
-use Rattle.table.specs.Limits.{WithinLimits}
+use Rattle.table.specs.Keys.{tableKeys}
+use Rattle.table.proofs.KeyLaws.{length-tableKeys}
+use Rattle.table.proofs.SlotLaws.{emptyTable-parts}
 use Rattle.book.specs.Entry.{Form, sameForm, Entry, edge, end-state, withKey as addedKey, keysFrom, keysOf}
 use Rattle.book.specs.Text.{isEmpty}
 use Rattle.book.specs.Load.{ruleOf, formIn, sameEntry, changesForm, isEdge, edgeCount, tooMany, faultOf}
-use Rattle.book.specs.Holds.{tableEdges, tableKeys, keyNumber, edgesFrom, edgesOf, formCode, ruleForm, endsAt, Holds}
+use Rattle.book.specs.Holds.{tableEdges, keyNumber, edgesFrom, edgesOf, formCode, ruleForm, endsAt, Holds}
 use Rattle.book.proofs.KeyLaws.{any-last, numberOf-new, numberOf-eqb, keyNumber-withKey, key-in-withKey, addKey-append, keysOf-last}
 use Rattle.book.proofs.HoldLaws.{Each, each-map, each-append, KeyAmong, KeyIn, keyIn-append, edgesOf-last, formCode-some, sameForm-codes, form-of-code, ruleForm-last, FormKept, changesForm-ruleForm}
 use Rattle.book.proofs.TruthLaws.{true-not-false, or-false, or-true, eqb-sym}
 use Rattle.load.specs.declared.store.Cell.{Cell}
 use Rattle.load.specs.Proper.{isArr, ProperEdge, Proper}
-use Rattle.load.specs.Step.{Taken, emptyTable, hasCell, withEnd, withEdge, withKey, isNew, formChanges, taken, cellFor, takeEdge, takeEnd, takeEntry}
-use Rattle.load.proofs.WithinLaws.{within-empty, within-takeEntry}
-use Rattle.load.proofs.TableLaws.{Sized, sized-empty, sized-withEnd, sized-withEdge, sized-withKey, tableEdges-withEdge, length-tableEdges, sameCell, hasCell-tableEdges, tableKeys-withKey, length-tableKeys, tableKeys-withEdge, tableEdges-withKey, tableKeys-withEnd, tableEdges-withEnd}
+use Rattle.load.specs.Ranges.{Ranges}
+use Rattle.load.specs.Step.{Taken, hasCell, withEnd, withEdge, withKey, isNew, formChanges, taken, cellFor, takeEdge, takeEnd, takeEntry}
+use Rattle.load.proofs.RangeLaws.{ranges-empty, ranges-takeEntry}
+use Rattle.load.proofs.TableLaws.{Sized, sized-empty, sized-withEnd, sized-withEdge, sized-withKey, tableEdges-withEdge, length-tableEdges, sameCell, hasCell-tableEdges, tableKeys-withKey, tableKeys-withEdge, tableEdges-withKey, tableKeys-withEnd, tableEdges-withEnd}
 
 -- what is kept as a book is read: the table holds the entries, and they are such as lines say
 pub record Kept (t : Table) (es : List Entry) : Type 0 where
   pub sized : Sized t
-  pub within : WithinLimits t
+  pub ranges : Ranges t
   pub holds : Holds t es
   pub proper : Each Proper es
   pub forms : Each (FormKept es) es
@@ -186,7 +190,7 @@ module _ (t : Table) (es : List Entry) (kept : Kept t es) where
       go true =
           let z : length (keysOf es ++ (k ∷ [])) ≡ t .keys + 1 = length-append (keysOf es) (k ∷ []) ∙ ap (λ (n : ℕ). n + 1) (sym keys-count) in
           rw z (leb-ltb-suc 128 (t .keys))
-      go false = rw (sym keys-count) (sym (le-ltb 128 (t .keys) (kept .within .keys)))
+      go false = rw (sym keys-count) (sym (le-ltb 128 (t .keys) (kept .ranges .keys)))
 
   -- refusal 6 on paper and over the table
   forms-same : (e : Entry) → ruleOf e < 32 → formChanges (getD (t .forms) (ruleOf e) 0) (formCode (formIn e)) ≡ any (changesForm e) es
@@ -251,11 +255,11 @@ module _ (t : Table) (es : List Entry) (kept : Kept t es) where
             let u = p .1 in
             rw (ne-eqb (16 * r + q) (16 * a + b) (λ z. i (omega arith))) (sym (or-false rest))
 
-    kept-end : WithinLimits (withEnd t r (formCode f) q) → Kept (withEnd t r (formCode f) q) (es ++ (end-state r f q ∷ []))
+    kept-end : Ranges (withEnd t r (formCode f) q) → Kept (withEnd t r (formCode f) q) (es ++ (end-state r f q ∷ []))
     unfolding ruleOf formIn edgesFrom
     kept-end w = record {
       sized = sized-withEnd t (kept .sized) r (formCode f) q;
-      within = w;
+      ranges = w;
       holds = record {
         keyed = tableKeys-withEnd t r (formCode f) q ∙ kept .holds .keyed ∙ sym (keysOf-last es (end-state r f q));
         edged =
@@ -280,12 +284,12 @@ module _ (t : Table) (es : List Entry) (kept : Kept t es) where
 
     -- u is the table with the key of the edge
     kept-edge : (u : Table) → Sized u → u .edges < 512 → tableEdges u ≡ edgesOf es → tableKeys u ≡ addedKey (keysOf es) k → u .forms ≡ t .forms → u .ends ≡ t .ends
-        → n ≡ 2 + length es → WithinLimits (withEdge u (formCode f) (cellFor t r q k (codeOf v) m) n)
+        → n ≡ 2 + length es → Ranges (withEdge u (formCode f) (cellFor t r q k (codeOf v) m) n)
         → Kept (withEdge u (formCode f) (cellFor t r q k (codeOf v) m) n) (es ++ (edge r f q k v m ∷ []))
     unfolding ruleOf formIn edgesFrom endsAt
     kept-edge u su lu eu ku fu nu ln w = record {
       sized = sized-withEdge u su (formCode f) (cellFor t r q k (codeOf v) m) n;
-      within = w;
+      ranges = w;
       holds = record {
         keyed = tableKeys-withEdge u (formCode f) (cellFor t r q k (codeOf v) m) n ∙ ku ∙ sym (keysOf-last es (edge r f q k v m));
         edged =
@@ -353,7 +357,7 @@ pub entry-kept : (n : ℕ) (t : Table) (es : List Entry) (e : Entry) → n ≡ 2
 unfolding takeEntry takeEdge takeEnd
 entry-kept n t es (edge r f q k v m) ln kept p =
     go (formChanges (getD (t .forms) r 0) (formCode f)) (hasCell t c) (leb 512 (t .edges)) (isNew (length k) (keyNumber (tableKeys t) k) (t .keys)) (leb 128 (t .keys))
-    refl refl refl refl (within-takeEntry n t (edge r f q k v m) (kept .within) p)
+    refl refl refl refl (ranges-takeEntry n t (edge r f q k v m) (kept .ranges) p)
   where
     c : Cell
     c = cellFor t r q k (codeOf v) m
@@ -372,7 +376,7 @@ entry-kept n t es (edge r f q k v m) ln kept p =
 
     go : (c6 c7 a w k128 : Bool) → formChanges (getD (t .forms) r 0) (formCode f) ≡ c6 → leb 512 (t .edges) ≡ a
         → isNew (length k) (keyNumber (tableKeys t) k) (t .keys) ≡ w → leb 128 (t .keys) ≡ k128
-        → WithinLimits (result c6 c7 a w k128 .table) → result c6 c7 a w k128 .fault ≡ 0 → Kept (result c6 c7 a w k128 .table) (es ++ (edge r f q k v m ∷ []))
+        → Ranges (result c6 c7 a w k128 .table) → result c6 c7 a w k128 .fault ≡ 0 → Kept (result c6 c7 a w k128 .table) (es ++ (edge r f q k v m ∷ []))
     go true c7 a w k128 z x y s lim e = zero-not 5 e
     go false true a w k128 z x y s lim e = zero-not 6 e
     go false false true w k128 z x y s lim e = zero-not 4 e
@@ -380,17 +384,17 @@ entry-kept n t es (edge r f q k v m) ln kept p =
     go false false false true false z x y s lim e =
         kept-edge t es kept n r f q k v m p z (withKey t k) (sized-withKey t (kept .sized) k) (leb-false 512 (t .edges) x)
         (tableEdges-withKey t k ∙ kept .holds .edged)
-        (tableKeys-withKey t k (kept .sized) (kept .within) (leb-false 128 (t .keys) s) (p .len) ∙ ap (λ (ks : List (List ℕ)). ks ++ (k ∷ [])) (kept .holds .keyed) ∙ sym (added true y))
+        (tableKeys-withKey t k (kept .sized) (kept .ranges) (leb-false 128 (t .keys) s) (p .len) ∙ ap (λ (ks : List (List ℕ)). ks ++ (k ∷ [])) (kept .holds .keyed) ∙ sym (added true y))
         refl refl ln lim
     go false false false false k128 z x y s lim e =
         kept-edge t es kept n r f q k v m p z t (kept .sized) (leb-false 512 (t .edges) x) (kept .holds .edged) (kept .holds .keyed ∙ sym (added false y)) refl refl ln lim
 entry-kept n t es (end-state r f q) ln kept p =
-    go (formChanges (getD (t .forms) r 0) (formCode f)) (bitAt (t .ends) (16 * r + q)) refl (within-takeEntry n t (end-state r f q) (kept .within) p)
+    go (formChanges (getD (t .forms) r 0) (formCode f)) (bitAt (t .ends) (16 * r + q)) refl (ranges-takeEntry n t (end-state r f q) (kept .ranges) p)
   where
     result : Bool → Bool → Taken
     result c6 c7 = cond c6 (taken 6 t) (cond c7 (taken 7 t) (taken 0 (withEnd t r (formCode f) q)))
 
-    go : (c6 c7 : Bool) → formChanges (getD (t .forms) r 0) (formCode f) ≡ c6 → WithinLimits (result c6 c7 .table) → result c6 c7 .fault ≡ 0
+    go : (c6 c7 : Bool) → formChanges (getD (t .forms) r 0) (formCode f) ≡ c6 → Ranges (result c6 c7 .table) → result c6 c7 .fault ≡ 0
         → Kept (result c6 c7 .table) (es ++ (end-state r f q ∷ []))
     go true c7 z lim e = zero-not 5 e
     go false true z lim e = zero-not 6 e
@@ -402,12 +406,17 @@ zeros zero k = refl
 zeros (suc n) zero = refl
 zeros (suc n) (suc k) = zeros n k
 
+holds-empty : Holds emptyTable []
+unfolding tableKeys tableEdges keysOf keysFrom edgesOf edgesFrom ruleForm any
+holds-empty =
+    rw emptyTable-parts
+    (record { keyed = refl; edged = refl; formed = λ r l. zeros 32 r; ended = λ r q l m. bitAt-zeros 64 (16 * r + q) })
+
 pub kept-empty : Kept emptyTable []
-unfolding emptyTable tableKeys tableEdges keysOf keysFrom edgesOf edgesFrom ruleForm any
 kept-empty = record {
   sized = sized-empty;
-  within = within-empty;
-  holds = record { keyed = refl; edged = refl; formed = λ r l. zeros 32 r; ended = λ r q l m. bitAt-zeros 64 (16 * r + q) };
+  ranges = ranges-empty;
+  holds = holds-empty;
   proper = tt;
   forms = tt;
   keys = tt;

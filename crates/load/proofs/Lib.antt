@@ -1,7 +1,7 @@
 pub mod LoopLaws
 pub mod StoreLaws
 pub mod ProperLaws
-pub mod WithinLaws
+pub mod RangeLaws
 pub mod ReadLaws
 pub mod CheckLaws
 pub mod TableLaws

@@ -1,4 +1,4 @@
--- What a loaded table is: within its limits, and holding the entries of the book, of which no two clash. Assumes nothing.
+-- What a loaded table is: its numbers in their ranges and within their limits, and holding the entries of the book, of which no two clash. Assumes nothing.
 use mathlib.Core.Bool.{Bool, true, false, not, cond, _||_}
 use mathlib.Core.List.{List, [], _∷_, _++_, append-nil, append-assoc}
 use mathlib.Core.Path.{_≡_, refl, ap, _∙_}
@@ -9,14 +9,17 @@ use borrow.Author.Tests.{eqb-true}
 use Rattle.laws.specs.Lists.{all, any}
 use Rattle.table.specs.Limits.{WithinLimits, withinLimits}
 use Rattle.table.proofs.LimitLaws.{withinLimits-complete}
+use Rattle.table.specs.Flat.{emptyTable}
 use Rattle.book.specs.Entry.{Entry, keysOf, clash}
 use Rattle.book.specs.Load.{Read, refused, entries, readBook, hasRule, dangles, firstLine, clashes, firstClash, Answer as Paper, refuse, checkBook, checked, loads}
 use Rattle.book.specs.Holds.{Holds}
 use Rattle.book.proofs.HoldLaws.{Each, each-map, each-append}
 use Rattle.book.proofs.TruthLaws.{or-parts}
 use Rattle.load.specs.Proper.{Proper}
-use Rattle.load.specs.Step.{Loaded, emptyTable, tableFrom, tableOf, takeBook}
+use Rattle.load.specs.Ranges.{Ranges}
+use Rattle.load.specs.Step.{Loaded, tableFrom, tableOf, takeBook}
 use Rattle.load.specs.Loads.{LoadsAs}
+use Rattle.load.proofs.RangeLaws.{withinLimits-of-ranges}
 use Rattle.load.proofs.KeptLaws.{Kept}
 use Rattle.load.proofs.AgreeLaws.{Agree, kept-none, book-agrees}
 
@@ -143,9 +146,13 @@ module _ (b : List ℕ) (r : Loaded) (l : LoadsAs b r) where
   unfolding tableOf tableFrom
   refused-table h = l .table ∙ ap tableOf (loads-refused b h)
 
+  -- its numbers are in their ranges
+  pub loaded-ranges : Ranges (r .table)
+  loaded-ranges = rw (l .table) (loads-kept b .ranges)
+
   -- it is within its limits, and so never meets refusal 23
   pub loaded-within : WithinLimits (r .table)
-  loaded-within = rw (l .table) (loads-kept b .within)
+  loaded-within = withinLimits-of-ranges (r .table) loaded-ranges
 
   pub loaded-withinLimits : withinLimits (r .table) ≡ true
   loaded-withinLimits = withinLimits-complete (r .table) loaded-within

@@ -1,16 +1,13 @@
 -- One turn of each loop over the numbers below a bound, and its end. Each law takes what a turn knows and says what the next one needs.
 -- Assumes nothing.
 use mathlib.Core.Bool.{Bool, true, false}
-use mathlib.Core.List.{List, [], _∷_}
-use mathlib.Core.Path.{_≡_, sym, ap, _∙_}
+use mathlib.Core.List.{List}
+use mathlib.Core.Path.{_≡_, sym, _∙_}
 use Prim.Native.Nat.{ℕ, suc, _+_, _-_, _<_, _≤_}
 use native.Mathlib.Numerals.{add-one}
 use native.Mathlib.Omega.{arith}
 use lib.ListN.{length, getD, set, drop, drop-of-length-le}
 use lib.Seq.{drop-cons}
-use Rattle.laws.specs.Lists.{same}
-use Rattle.laws.specs.Tab.{tab}
-use Rattle.book.specs.Entry.{numberOf}
 use Rattle.load.specs.Step.{some, firstAt, written}
 
 -- ---- some: from i on the test comes to b
@@ -46,35 +43,6 @@ module _ (f : ℕ → Bool) (g : ℕ → ℕ) (i n v : ℕ) (inv : firstAt f g i
 
 pub firstAt-start : (f : ℕ → Bool) (g : ℕ → ℕ) (n : ℕ) → firstAt f g 0 (n - 0) ≡ firstAt f g 0 n
 firstAt-start f g n = let e : n - 0 ≡ n = omega arith in rw e
-
--- ---- the number of a key: from i on it is found at e
-tab-more : {A : Type 0} (f : ℕ → A) (i n : ℕ) → i < n → tab f i (n - i) ≡ f i ∷ tab f (i + 1) (n - (i + 1))
-tab-more f i n h = let e : n - i ≡ suc (n - (i + 1)) = omega arith in rw (e, add-one)
-
-tab-end : {A : Type 0} (f : ℕ → A) (i n : ℕ) → n ≤ i → tab f i (n - i) ≡ []
-tab-end f i n h = let e : n - i ≡ 0 = omega arith in rw e
-
-module _ (f : ℕ → List ℕ) (k : List ℕ) (i n e : ℕ) (inv : i + numberOf (tab f i (n - i)) k ≡ e) where
-  pub number-hit : (r : Bool) (x : List ℕ) → r ≡ same x k → x ≡ f i → i < n → r ≡ true → i ≡ e
-  unfolding numberOf
-  number-hit r x q y h p =
-      let u : same (f i) k ≡ true = ap (λ (s : List ℕ). same s k) (sym y) ∙ sym q ∙ p in
-      let z = rw (tab-more f i n h, u) at inv in
-      omega (arith, z)
-
-  pub number-more : (r : Bool) (x : List ℕ) → r ≡ same x k → x ≡ f i → i < n → r ≡ false → i + 1 + numberOf (tab f (i + 1) (n - (i + 1))) k ≡ e
-  unfolding numberOf
-  number-more r x q y h p =
-      let u : same (f i) k ≡ false = ap (λ (s : List ℕ). same s k) (sym y) ∙ sym q ∙ p in
-      let z = rw (tab-more f i n h, u) at inv in
-      omega (arith, z)
-
-  pub number-end : i ≤ n → n ≤ i → n ≡ e
-  unfolding numberOf
-  number-end l h = let z = rw (tab-end f i n h) at inv in omega (arith, z)
-
-pub number-start : (f : ℕ → List ℕ) (k : List ℕ) (n : ℕ) → 0 + numberOf (tab f 0 (n - 0)) k ≡ numberOf (tab f 0 n) k
-number-start f k n = let e : n - 0 ≡ n = omega arith in rw e (omega arith)
 
 -- ---- writing a key: what is left to write gives v
 module _ (w k v : List ℕ) (a i : ℕ) (inv : written w (a + i) (drop i k) ≡ v) where

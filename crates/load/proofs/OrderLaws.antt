@@ -15,7 +15,8 @@ use Rattle.table.specs.declared.kind.ValueKind.{ValueKind}
 use Rattle.table.specs.declared.kind.ValueKind.the-variants.{Plain, Rule}
 use Rattle.table.specs.declared.kind.Scalar.the-variants.{Null, True, False, Str, Num, Int}
 use Rattle.table.specs.Kind.{codeOf}
-use Rattle.book.specs.Entry.{Form, obj, arr, Entry, edge, end-state, keysOf, numberOf, clash}
+use Rattle.table.specs.Keys.{numberOf}
+use Rattle.book.specs.Entry.{Form, obj, arr, Entry, edge, end-state, keysOf, clash}
 use Rattle.book.specs.Text.{isEmpty}
 use Rattle.book.specs.Load.{ruleOf, formIn, dangles, firstLine, clashes, firstClash}
 use Rattle.book.specs.Holds.{Edge, edgeAt, tableEdges, keyNumber, edgesFrom, edgesOf, formCode, ruleForm}

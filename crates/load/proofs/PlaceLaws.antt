@@ -6,17 +6,16 @@ use Prim.Native.Nat.{ℕ, suc, _+_, _*_, _%_, _/_, _-_, _^_, _<_, _≤_}
 use native.Mathlib.Omega.{arith}
 use lib.Bits.{bitOr}
 use lib.Dec.{eqb}
-use lib.ListN.{length, getD, set, take, drop, replicate, length-set, length-take, length-drop, List·getD-eq-default}
-use lib.Seq.{getD-set-same, getD-set-other, drop-set-lt, getD-take, getD-drop, ext-getD}
-use Rattle.laws.specs.Bits.{setBit}
-use Rattle.laws.specs.Lists.{same}
+use lib.ListN.{length, getD, set, take, drop, replicate, length-set, length-take, List·getD-eq-default}
+use lib.Seq.{getD-set-same, getD-set-other, drop-set-lt}
+use Rattle.laws.specs.Bits.{bitAt, setBit}
 use Rattle.table.specs.Table.{Table}
-use Rattle.table.specs.Flat.{part, tableIn}
+use Rattle.table.specs.Flat.{part, tableIn, emptyTable}
 use Rattle.table.specs.Slots.{slotSize, slotStart, slots, tableWith, putAt}
-use Rattle.table.proofs.SlotLaws.{tableIn-slots, put-slot, paired-set, length-counts, slots-zero, lines-zero}
-use Rattle.book.specs.Holds.{keyAt}
+use Rattle.table.proofs.FlatLaws.{getD-part}
+use Rattle.table.proofs.SlotLaws.{tableIn-slots, put-slot, paired-set, length-counts}
 use Rattle.load.specs.declared.store.Cell.{Cell}
-use Rattle.load.specs.Step.{Lens, sameAt, emptyTable, withEnd, withEdge, withKey, written}
+use Rattle.load.specs.Step.{sameAt, withEnd, withEdge, withKey, written}
 
 -- the two bytes of a number
 two-bytes : (n : ℕ) → n % 256 + 256 * (n / 256) ≡ n
@@ -69,28 +68,9 @@ edge-in-place l f c n at long q room r = tableIn-slots _ ∙ ap tableWith parts 
         rw (a, b, k, d, two-bytes (at + 1), paired-set (s 6) (s 7) at (n % 256) (n / 256), two-bytes n, tableIn-slots l, ← q′)
 
 -- ---- all bytes 0
-spare-zero : drop 3 (slots (replicate 7920 0) 0) ≡ replicate 13 0
-spare-zero = ap (λ (p : List ℕ). drop 3 p) (slots-zero 0 (omega arith))
-
 pub empty-in-place : (l : List ℕ) → l ≡ replicate 7920 0 → tableIn l ≡ emptyTable
 unfolding emptyTable
-empty-in-place l e =
-    ap tableIn e ∙ tableIn-slots (replicate 7920 0) ∙ rw (
-      spare-zero,
-      slots-zero 0 (omega arith),
-      slots-zero 1 (omega arith),
-      slots-zero 2 (omega arith),
-      slots-zero 3 (omega arith),
-      slots-zero 4 (omega arith),
-      slots-zero 5 (omega arith),
-      slots-zero 6 (omega arith),
-      slots-zero 7 (omega arith),
-      slots-zero 8 (omega arith),
-      slots-zero 9 (omega arith),
-      slots-zero 10 (omega arith),
-      slots-zero 11 (omega arith),
-      lines-zero,
-    )
+empty-in-place l e = ap tableIn e
 
 -- ---- one key more
 
@@ -143,46 +123,33 @@ key-in-place l w k at long q room m e = tableIn-slots _ ∙ ap tableWith parts �
         rw (a, b, d, r, m′, tableIn-slots l, ← q′)
 
 -- ---- one end state more
-pub end-in-place : (l : List ℕ) (r f q x y : ℕ) → r < 32 → q < 16 → x ≡ getD (tableIn l .ends) ((16 * r + q) / 8) 0 → y ≡ 2 ^ ((16 * r + q) % 8)
-    → tableIn (set (set l (7824 + (16 * r + q) / 8) (bitOr x y)) (7888 + r) f) ≡ withEnd (tableIn l) r f q
+
+-- a bit of the end states is a bit of the table's bytes
+pub bitAt-ends : (l : List ℕ) (i : ℕ) (b : Bool) → i < 512 → b ≡ bitAt l (62592 + i) → b ≡ bitAt (tableIn l .ends) i
+unfolding bitAt tableIn
+bitAt-ends l i b h e =
+    let q : (62592 + i) / 8 ≡ 7824 + i / 8 = omega arith in
+    let m : (62592 + i) % 8 ≡ i % 8 = omega arith in
+    e ∙ rw (q, m, getD-part l 7824 64 (i / 8) (omega arith))
+
+setBit-ends : (l : List ℕ) (i : ℕ) → i < 512 → setBit l (62592 + i) ≡ set l (7824 + i / 8) (bitOr (getD (slots l 10) (i / 8) 0) (2 ^ (i % 8)))
+unfolding setBit slots
+setBit-ends l i h =
+    let q : (62592 + i) / 8 ≡ 7824 + i / 8 = omega arith in
+    let m : (62592 + i) % 8 ≡ i % 8 = omega arith in
+    rw (q, m, getD-part l 7824 64 (i / 8) (omega arith))
+
+pub end-in-place : (l w : List ℕ) (r f q : ℕ) → r < 32 → q < 16 → w ≡ setBit l (62592 + (16 * r + q)) → tableIn (set w (7888 + r) f) ≡ withEnd (tableIn l) r f q
 unfolding setBit
-end-in-place l r f q x y a b p z =
-    tableIn-slots _ ∙ ap tableWith parts ∙ whole
+end-in-place l w r f q a b e = tableIn-slots _ ∙ ap tableWith parts ∙ rw (tableIn-slots l)
   where
-    s : ℕ → List ℕ
-    s = slots l
+    i : ℕ
+    i = 16 * r + q
 
-    parts : slots (set (set l (7824 + (16 * r + q) / 8) (bitOr x y)) (7888 + r) f) ≡ putAt (putAt s 10 ((16 * r + q) / 8) (bitOr x y)) 11 r f
-    parts = rw (put-slot _ 11 r _ a, put-slot _ 10 ((16 * r + q) / 8) _ (omega arith))
+    parts : slots (set w (7888 + r) f) ≡ putAt (putAt (slots l) 10 (i / 8) (bitOr (getD (slots l 10) (i / 8) 0) (2 ^ (i % 8)))) 11 r f
+    parts = rw (put-slot _ 11 r _ a, e ∙ setBit-ends l i (omega arith), put-slot _ 10 (i / 8) _ (omega arith))
 
-    whole : tableWith (putAt (putAt s 10 ((16 * r + q) / 8) (bitOr x y)) 11 r f) ≡ withEnd (tableIn l) r f q
-    whole =
-        let p′ : x ≡ getD (s 10) ((16 * r + q) / 8) 0 = p ∙ ap (λ (t : Table). getD (t .ends) ((16 * r + q) / 8) 0) (tableIn-slots l) in
-        rw (p′, z, tableIn-slots l)
-
--- ---- keys and edges as they are read
-part-part : (l : List ℕ) (a n b m : ℕ) → b + m ≤ n → take m (drop (a + b) l) ≡ take m (drop b (take n (drop a l)))
-part-part l a n b m h =
-    ext-getD 0 (take m (drop (a + b) l)) (take m (drop b (take n (drop a l)))) long
-    (λ i u. let v : i < m = omega (arith, length-take m (drop (a + b) l)) in
-    let e : a + b + i ≡ a + (b + i) = omega arith in
-    getD-take m (drop (a + b) l) i 0 v ∙ getD-drop (a + b) l i 0 ∙ ap (λ (x : ℕ). getD l x 0) e
-    ∙ sym (getD-take m (drop b (take n (drop a l))) i 0 v ∙ getD-drop b (take n (drop a l)) i 0 ∙ getD-take n (drop a l) (b + i) 0 (omega arith) ∙ getD-drop a l (b + i) 0))
-  where
-    long : length (take m (drop (a + b) l)) ≡ length (take m (drop b (take n (drop a l))))
-    long = omega (arith, length-take m (drop (a + b) l), length-drop (a + b) l, length-take m (drop b (take n (drop a l))), length-drop b (take n (drop a l)), length-take n (drop a l), length-drop a l)
-
-pub flat-key : (l k : List ℕ) (i w x : ℕ) (r : Bool) → i < 128 → Lens (tableIn l .«key_len») → x ≡ getD (tableIn l .«key_len») i 0 → w ≡ x
-    → r ≡ same (take (3600 + 32 * i + w - (3600 + 32 * i)) (drop (3600 + 32 * i) l)) k → r ≡ same (keyAt (tableIn l .«key_bytes») (tableIn l .«key_len») i) k
-unfolding tableIn part
-flat-key l k i w x r h lens e q p =
-    let z = lens .at i in
-    let u : 3600 + 32 * i + w - (3600 + 32 * i) ≡ w = omega arith in
-    p ∙ ap (λ (b : List ℕ). same b k) (rw u (part-part l 3600 4096 (32 * i) w (omega (arith, z)) ∙ ap (λ (m : ℕ). take m (drop (32 * i) (take 4096 (drop 3600 l)))) (q ∙ e)))
-
-pub key-room-flat : (l : List ℕ) (i w x : ℕ) → i < 128 → Lens (tableIn l .«key_len») → x ≡ getD (tableIn l .«key_len») i 0 → w ≡ x → 3600 + 32 * i + w ≤ 7920
-key-room-flat l i w x h lens e q = let z = lens .at i in omega (arith, z)
-
+-- ---- edges as they are read
 pub sameAt-read : (rules states keys kinds nexts : List ℕ) (c : Cell) (e r q k v m : ℕ) (b : Bool) → r ≡ getD rules e 0 → q ≡ getD states e 0 → k ≡ getD keys e 0
     → v ≡ getD kinds e 0 → m ≡ getD nexts e 0 → b ≡ (eqb (c .rule) r && (eqb (c .state) q && (eqb (c .key) k && (eqb (c .kind) v && eqb (c .next) m))))
     → b ≡ sameAt rules states keys kinds nexts c e

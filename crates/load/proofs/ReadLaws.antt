@@ -11,6 +11,7 @@ use lib.Seq.{length-take-le}
 use borrow.Author.Tests.{eq-eqb, ne-eqb, lt-ltb, le-ltb}
 use Rattle.laws.specs.Lists.{same}
 use Rattle.table.specs.Table.{Table}
+use Rattle.table.specs.Flat.{emptyTable}
 use Rattle.book.specs.Text.{isEmpty, split}
 use Rattle.book.specs.Line.{bad, good, sayLine}
 use Rattle.book.specs.Load.{names}
@@ -22,7 +23,7 @@ use Rattle.line.proofs.SplitLaws.{split-more, split-last, split-some}
 use Rattle.load.specs.declared.Answer.{Answer}
 use Rattle.load.specs.declared.Answer.the-variants.{Size, Names, Malformed}
 use Rattle.load.specs.Proper.{Proper, ProperSaid}
-use Rattle.load.specs.Step.{Loaded, Taken, emptyTable, taken, takeEntry, takeSaid, lineRefusal, loaded, refusal, takeOn, takeLines, takeBook}
+use Rattle.load.specs.Step.{Loaded, Taken, taken, takeEntry, takeSaid, lineRefusal, loaded, refusal, takeOn, takeLines, takeBook}
 use Rattle.load.proofs.ProperLaws.{sayLine-proper}
 
 -- ---- a line

@@ -2,47 +2,34 @@
 use mathlib.Core.Bool.{Bool, true, false, cond}
 use mathlib.Core.List.{List, [], _∷_}
 use mathlib.Core.Path.{_≡_, refl, sym, ap, _∙_}
-use Prim.Native.Nat.{ℕ, zero, suc, _+_, _*_, _<_, _≤_}
+use Prim.Native.Nat.{ℕ, _+_, _*_, _<_, _≤_}
 use native.Mathlib.Omega.{arith}
 use lib.Dec.{ltb}
 use lib.ListN.{length, getD}
 use borrow.Author.Tests.{lt-ltb, le-ltb, le-leb, lt-leb}
 use Rattle.laws.specs.Bits.{bitAt}
-use Rattle.laws.specs.Lists.{same}
-use Rattle.laws.specs.Tab.{tab}
 use Rattle.table.specs.Table.{Table}
 use Rattle.table.specs.Kind.{kindOf}
-use Rattle.table.specs.Limits.{WithinLimits}
 use Rattle.table.proofs.KindLaws.{codeOf-kindOf}
-use Rattle.book.specs.Entry.{edge, end-state, numberOf}
-use Rattle.book.specs.Holds.{keyAt, keyNumber, tableKeys, formCode}
+use Rattle.table.specs.Keys.{tableKeys, numberOf}
+use Rattle.book.specs.Entry.{edge, end-state}
+use Rattle.book.specs.Holds.{keyNumber, formCode}
 use Rattle.line.specs.declared.Line.{Line}
 use Rattle.line.specs.Line.{formWith, entryWith}
 use Rattle.load.specs.declared.store.Cell.{Cell}
 use Rattle.load.specs.Proper.{Proper}
-use Rattle.load.specs.Step.{Taken, hasCell, withEnd, withEdge, withKey, isNew, formChanges, taken, takeEdge, takeEnd, takeEntry, Lens}
+use Rattle.load.specs.Step.{Taken, hasCell, withEnd, withEdge, withKey, isNew, formChanges, taken, takeEdge, takeEnd, takeEntry}
 
 -- ---- keys
--- a key has a number up to how many keys there are
-pub numberOf-tab-le : (f : ℕ → List ℕ) (i n : ℕ) (k : List ℕ) → numberOf (tab f i n) k ≤ n
-unfolding numberOf
-numberOf-tab-le f i zero k = omega arith
-numberOf-tab-le f i (suc n) k = go (same (f i) k) (numberOf-tab-le f (suc i) n k)
-  where
-    go : (b : Bool) → numberOf (tab f (suc i) n) k ≤ n → cond b 0 (suc (numberOf (tab f (suc i) n) k)) ≤ suc n
-    go true h = omega arith
-    go false h = omega arith
-
-pub keyNumber-none : (ks : List (List ℕ)) (k : List ℕ) → length k ≡ 0 → (128 ≡ keyNumber ks k) × (128 ≤ 128)
+pub keyNumber-none : (ks : List (List ℕ)) (k : List ℕ) → length k ≡ 0 → 128 ≡ keyNumber ks k
 unfolding keyNumber
-keyNumber-none ks [] e = (refl, omega arith)
+keyNumber-none ks [] e = refl
 keyNumber-none ks (x ∷ k) e = absurd (omega arith)
 
-pub keyNumber-some : (f : ℕ → List ℕ) (n : ℕ) (k : List ℕ) (r : ℕ) → n ≤ 128 → (length k ≡ 0 → ⊥) → r ≡ numberOf (tab f 0 n) k
-    → (r ≡ keyNumber (tab f 0 n) k) × (r ≤ 128)
+pub keyNumber-some : (ks : List (List ℕ)) (k : List ℕ) (r : ℕ) → (length k ≡ 0 → ⊥) → r ≡ numberOf ks k → r ≡ keyNumber ks k
 unfolding keyNumber
-keyNumber-some f n [] r h e q = absurd (e refl)
-keyNumber-some f n (x ∷ k) r h e q = (q, omega (arith, numberOf-tab-le f 0 n (x ∷ k)))
+keyNumber-some ks [] r e q = absurd (e refl)
+keyNumber-some ks (x ∷ k) r e q = q
 
 -- ---- end lines
 module _ (t : Table) (r f q : ℕ) (b : Bool) (p : b ≡ bitAt (t .ends) (16 * r + q)) where
@@ -82,10 +69,6 @@ module _ (n : ℕ) (t : Table) (f : ℕ) (c : Cell) (k : List ℕ) (b : Bool) (p
       unfolding takeEdge
       takeEdge-old v e y = rw (sym p ∙ nb, lt-leb 512 (t .edges) (omega arith), test e, y)
 
--- the limits of a table bound the lengths of its keys
-pub lens-of-limits : (t : Table) → WithinLimits t → Lens (t .«key_len»)
-lens-of-limits t w = record { at = w .len }
-
 -- ---- entries
 module _ (l : Line) (k : List ℕ) where
   -- an edge
@@ -95,8 +78,8 @@ module _ (l : Line) (k : List ℕ) where
   pub entryWith-end : 38 ≤ l .kind → entryWith l k ≡ end-state (l .rule) (formWith (l .obj)) (l .state)
   entryWith-end h = rw (le-ltb (l .kind) 38 h)
 
-  -- the rule and state of an entry within its limits
-  pub proper-numbers : Proper (entryWith l k) → (l .rule < 32) × (l .state < 16)
+  -- the numbers of an entry within the limits of its fields
+  proper-numbers : Proper (entryWith l k) → (l .rule < 32) × (l .state < 16)
   proper-numbers = go (ltb (l .kind) 38)
     where
       go : (b : Bool)
@@ -104,6 +87,12 @@ module _ (l : Line) (k : List ℕ) where
           → (l .rule < 32) × (l .state < 16)
       go true p = (p .rule, p .state)
       go false p = p
+
+  pub proper-rule : Proper (entryWith l k) → l .rule < 32
+  proper-rule p = proper-numbers p .0
+
+  pub proper-state : Proper (entryWith l k) → l .state < 16
+  proper-state p = proper-numbers p .1
 
   pub proper-len : l .kind < 38 → Proper (entryWith l k) → length k ≤ 32
   proper-len h p = let q : Proper (edge (l .rule) (formWith (l .obj)) (l .state) k (kindOf (l .kind)) (l .next)) = rw (entryWith-edge h) at p in q .len
@@ -128,12 +117,10 @@ module _ (n : ℕ) (t : Table) (l : Line) (k : List ℕ) (f : ℕ) (qf : f ≡ f
     same-form : formChanges (getD (t .forms) (l .rule) 0) (formCode (formWith (l .obj))) ≡ false
     same-form = sym (ap (formChanges (getD (t .forms) (l .rule) 0)) qf) ∙ sym qb ∙ nb
 
-    pub takeEntry-edge : (m n′ : ℕ) (v : Taken) → l .kind < 38 → n′ ≡ t .keys → m ≡ keyNumber (tab (keyAt (t .«key_bytes») (t .«key_len»)) 0 n′) k
+    pub takeEntry-edge : (m : ℕ) (v : Taken) → l .kind < 38 → m ≡ keyNumber (tableKeys t) k
         → v ≡ takeEdge n t f (record { rule = l .rule; state = l .state; key = m; kind = l .kind; next = l .next }) k → v ≡ takeEntry n t (entryWith l k)
-    unfolding takeEntry tableKeys
-    takeEntry-edge m n′ v h qn qm′ w =
-        let qm : m ≡ keyNumber (tab (keyAt (t .«key_bytes») (t .«key_len»)) 0 (t .keys)) k = qm′ ∙ ap (λ (i : ℕ). keyNumber (tab (keyAt (t .«key_bytes») (t .«key_len»)) 0 i) k) qn in
-        w ∙ rw (entryWith-edge l k h, same-form, codeOf-kindOf (l .kind), sym qm, qf)
+    unfolding takeEntry
+    takeEntry-edge m v h qm w = w ∙ rw (entryWith-edge l k h, same-form, codeOf-kindOf (l .kind), sym qm, qf)
 
     pub takeEntry-end : (v : Taken) → 38 ≤ l .kind → v ≡ takeEnd t (l .rule) f (l .state) → v ≡ takeEntry n t (entryWith l k)
     unfolding takeEntry

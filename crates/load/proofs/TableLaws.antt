@@ -14,10 +14,13 @@ use Rattle.laws.specs.Tab.{tab}
 use Rattle.laws.proofs.BitLaws.{length-setBit}
 use Rattle.laws.proofs.TabLaws.{length-tab}
 use Rattle.table.specs.Table.{Table}
-use Rattle.table.specs.Limits.{WithinLimits}
-use Rattle.book.specs.Holds.{Edge, edgeAt, tableEdges, keyAt, tableKeys}
+use Rattle.table.specs.Flat.{emptyTable}
+use Rattle.table.specs.Keys.{keyAt, tableKeys}
+use Rattle.table.proofs.SlotLaws.{emptyTable-parts, lines-zero}
+use Rattle.book.specs.Holds.{Edge, edgeAt, tableEdges}
 use Rattle.load.specs.declared.store.Cell.{Cell}
-use Rattle.load.specs.Step.{some, sameAt, hasCell, emptyTable, withEnd, withEdge, withKey, written}
+use Rattle.load.specs.Ranges.{Ranges}
+use Rattle.load.specs.Step.{some, sameAt, hasCell, withEnd, withEdge, withKey, written}
 
 -- ---- computed lists
 
@@ -63,20 +66,20 @@ pub record Sized (t : Table) : Type 0 where
   pub spare : t .spare ≡ replicate 13 0
 
 pub sized-empty : Sized emptyTable
-unfolding emptyTable
-sized-empty = record {
+sized-empty =
+    rw emptyTable-parts (record {
   rule = length-replicate {A = ℕ} 512 0;
   state = length-replicate {A = ℕ} 512 0;
   key = length-replicate {A = ℕ} 512 0;
   kind = length-replicate {A = ℕ} 512 0;
   next = length-replicate {A = ℕ} 512 0;
-  line = length-replicate {A = ℕ} 512 0;
+  line = rw lines-zero (length-replicate {A = ℕ} 512 0);
   bytes = length-replicate {A = ℕ} 4096 0;
   lens = length-replicate {A = ℕ} 128 0;
   ends = length-replicate {A = ℕ} 64 0;
   forms = length-replicate {A = ℕ} 32 0;
   spare = refl;
-}
+})
 
 written-sets : (w : List ℕ) (a : ℕ) (k : List ℕ) → written w a k ≡ sets w a k
 unfolding written
@@ -192,7 +195,7 @@ module _ (w : List ℕ) (a : ℕ) (k : List ℕ) (fits : a + length k ≤ length
       ∙ sym (ap (take m) (ap (drop b) (sym (take-append-drop a w)) ∙ drop-append-le b (take a w) (drop a w) (omega arith))
       ∙ take-append-le m (drop b (take a w)) (drop a w) (rw length-drop (omega arith))))
 
-pub tableKeys-withKey : (t : Table) (k : List ℕ) → Sized t → WithinLimits t → t .keys < 128 → length k ≤ 32 → tableKeys (withKey t k) ≡ tableKeys t ++ (k ∷ [])
+pub tableKeys-withKey : (t : Table) (k : List ℕ) → Sized t → Ranges t → t .keys < 128 → length k ≤ 32 → tableKeys (withKey t k) ≡ tableKeys t ++ (k ∷ [])
 unfolding tableKeys
 tableKeys-withKey t k s w h l =
     let sb = s .bytes in
@@ -203,10 +206,6 @@ tableKeys-withKey t k s w h l =
     rw (earlier (t .«key_len») (t .keys) i (length k) b)
     (written-before (t .«key_bytes») (32 * t .keys) k (omega arith) (32 * i) (getD (t .«key_len») i 0) (omega (arith, q))))
     (rw (getD-set-same (t .«key_len») (t .keys) (length k) 0 (omega arith)) (written-here (t .«key_bytes») (32 * t .keys) k (omega arith)))
-
-pub length-tableKeys : (t : Table) → length (tableKeys t) ≡ t .keys
-unfolding tableKeys
-length-tableKeys t = length-tab (keyAt (t .«key_bytes») (t .«key_len»)) 0 (t .keys)
 
 -- ---- what does not change
 pub tableKeys-withEdge : (t : Table) (f : ℕ) (c : Cell) (n : ℕ) → tableKeys (withEdge t f c n) ≡ tableKeys t

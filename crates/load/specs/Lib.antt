@@ -3,3 +3,4 @@ pub mod Step
 pub mod Check
 pub mod Proper
 pub mod Loads
+pub mod Ranges

@@ -2,18 +2,20 @@
 -- `readBook` of the book. Assumes nothing.
 use mathlib.Core.Bool.{Bool, false, not, cond, _&&_, _||_}
 use mathlib.Core.List.{List, [], _∷_}
-use Prim.Native.Nat.{ℕ, zero, suc, _+_, _*_, _≤_}
+use Prim.Native.Nat.{ℕ, zero, suc, _+_, _*_}
 use lib.Dec.{leb, ltb, eqb}
-use lib.ListN.{length, getD, set, take, drop, replicate}
+use lib.ListN.{length, getD, set, take, drop}
 use Rattle.laws.specs.Bits.{bitAt, setBit}
 use Rattle.laws.specs.Lists.{same}
 use Rattle.table.specs.Table.{Table}
+use Rattle.table.specs.Flat.{emptyTable}
 use Rattle.table.specs.Kind.{codeOf}
+use Rattle.table.specs.Keys.{tableKeys}
 use Rattle.book.specs.Entry.{Entry, edge, end-state}
 use Rattle.book.specs.Text.{isEmpty, split}
 use Rattle.book.specs.Line.{Said, bad, good, sayLine}
 use Rattle.book.specs.Load.{names}
-use Rattle.book.specs.Holds.{tableKeys, keyNumber, formCode}
+use Rattle.book.specs.Holds.{keyNumber, formCode}
 use Rattle.load.specs.declared.Answer.{Answer}
 use Rattle.load.specs.declared.Answer.the-variants.{Accepted, Size, Names, Malformed, AboveLimit, TooMany, FormChanged, Repeated}
 use Rattle.load.specs.declared.store.Cell.{Cell}
@@ -31,24 +33,6 @@ firstAt f g i zero = 0
 firstAt f g i (suc n) = cond (f i) (g i) (firstAt f g (suc i) n)
 
 -- ---- tables
-
--- the table of a refusal
-unfoldable pub emptyTable : Table
-emptyTable = record {
-  edges = 0;
-  keys = 0;
-  spare = replicate 13 0;
-  «edge_rule» = replicate 512 0;
-  «edge_state» = replicate 512 0;
-  «edge_key» = replicate 512 0;
-  «edge_kind» = replicate 512 0;
-  «edge_next» = replicate 512 0;
-  «edge_line» = replicate 512 0;
-  «key_bytes» = replicate 4096 0;
-  «key_len» = replicate 128 0;
-  ends = replicate 64 0;
-  forms = replicate 32 0;
-}
 
 -- one end state more, of a rule with form f
 abbrev pub withEnd : Table → ℕ → ℕ → ℕ → Table
@@ -112,10 +96,6 @@ withKeyIn t w n = record {
 -- one key more
 abbrev pub withKey : Table → List ℕ → Table
 withKey t k = withKeyIn t (written (t .«key_bytes») (32 * t .keys) k) (length k)
-
--- all lengths of keys are at most 32
-pub record Lens (lens : List ℕ) : Type 0 where
-  pub at : (i : ℕ) → getD lens i 0 ≤ 32
 
 -- ---- one line
 

@@ -3,12 +3,13 @@ ghost use mathlib.Core.Path.{_≡_};
 ghost use Prim.Native.Nat.{_≤_};
 ghost use lib.ListN.{length, drop};
 ghost use Rattle.book.specs.Text.{split};
-ghost use Rattle.table.specs.Flat.{tableIn};
+ghost use Rattle.table.specs.Flat.{tableIn, emptyTable};
 ghost use Rattle.table.specs.Limits.{WithinLimits};
 ghost use Rattle.book.specs.Line.{sayLine};
-ghost use Rattle.load.specs.Step.{emptyTable, taken, loadedAs, refusal as refusalOf, lineRefusal, takeSaid, takeLines, takeBook};
+ghost use Rattle.load.specs.Step.{taken, loadedAs, refusal as refusalOf, lineRefusal, takeSaid, takeLines, takeBook};
 use crate::Answer;
 use crate::store;
+use table::bytes;
 
 const NAMES: [u8; 31] = *b"rule form state key value next\n";
 
@@ -90,7 +91,7 @@ pub fn take_book(table: &mut [u8; 7920], b: &[u8]) -> Answer
     if b.len() < 31 {
         return refusal(table, Answer::Names);
     }
-    if scan::equal(&b[0..31], &NAMES) {
+    if bytes::equal(&b[0..31], &NAMES) {
         return take_lines(table, b);
     }
     refusal(table, Answer::Names)

@@ -5,17 +5,17 @@ ghost use Prim.Native.Nat.{_+_, _*_, _<_, _≤_};
 ghost use lib.Dec.{eqb};
 ghost use lib.ListN.{length};
 ghost use Rattle.laws.specs.Bits.{bitAt};
-ghost use Rattle.laws.specs.Lists.{same};
-ghost use Rattle.laws.specs.Tab.{tab};
-ghost use Rattle.table.specs.Flat.{tableIn};
+ghost use Rattle.table.specs.Flat.{tableIn, emptyTable};
 ghost use Rattle.table.specs.Limits.{WithinLimits};
-ghost use Rattle.book.specs.Entry.{numberOf};
-ghost use Rattle.book.specs.Holds.{keyAt, keyNumber, formCode};
+ghost use Rattle.table.specs.Keys.{tableKeys};
+ghost use Rattle.book.specs.Holds.{keyNumber, formCode};
 ghost use Rattle.line.specs.Line.{formWith, entryWith};
 ghost use Rattle.load.specs.Proper.{Proper};
-ghost use Rattle.load.specs.Step.{sameAt, hasCell, emptyTable, withEnd, withEdge, written, withKey, isNew, formChanges, taken, takeEdge, takeEnd, takeEntry, Lens};
+ghost use Rattle.load.specs.Step.{sameAt, hasCell, withEnd, withEdge, written, withKey, isNew, formChanges, taken, takeEdge, takeEnd, takeEntry};
 use line::Line;
+use table::bits;
 use table::flat;
+use table::keys;
 
 // The numbers of an edge, but for its line.
 pub struct Cell {
@@ -109,41 +109,15 @@ fn with_edge(table: &mut [u8; 7920], form: u8, c: Cell, line: u16)
 
 // ---- keys
 
-// Key i has these bytes.
-fn key_is<'a>(table: &'a [u8; 7920], i: usize, key: &'a [u8]) -> bool
-    requires { ⌜ (i < 128) × Lens (tableIn (now table) .«key_len») ⌝ }
-    ensures { λ r. ⌜ r ≡ same (keyAt (tableIn (now (table .entry)) .«key_bytes») (tableIn (now (table .entry)) .«key_len») i) (now (key .entry)) ⌝ }
-{
-    let bytes: &[u8] = table;
-    let a = flat::KEY_BYTES + 32 * i;
-    let b = a + wide(flat::len(table, i));
-    scan::equal(&bytes[a..b], key)
-}
-
-// The number of a key among the first n, or n where it is new.
-pub fn find_key<'a>(table: &'a [u8; 7920], n: usize, key: &'a [u8]) -> usize
-    requires { ⌜ (n ≤ 128) × Lens (tableIn (now table) .«key_len») ⌝ }
-    ensures { λ r. ⌜ r ≡ numberOf (tab (keyAt (tableIn (now (table .entry)) .«key_bytes») (tableIn (now (table .entry)) .«key_len»)) 0 n) (now (key .entry)) ⌝ }
-{
-    let mut i = 0;
-    while i < n {
-        if key_is(table, i, key) {
-            return i;
-        }
-        i += 1;
-    }
-    n
-}
-
 // The number of a key, 128 where there is none.
-fn key_number<'a>(table: &'a [u8; 7920], n: usize, key: &'a [u8]) -> usize
-    requires { ⌜ (n ≤ 128) × Lens (tableIn (now table) .«key_len») ⌝ }
-    ensures { λ r. ⌜ (r ≡ keyNumber (tab (keyAt (tableIn (now (table .entry)) .«key_bytes») (tableIn (now (table .entry)) .«key_len»)) 0 n) (now (key .entry))) × (r ≤ 128) ⌝ }
+fn key_number<'a>(table: &'a [u8; 7920], key: &'a [u8]) -> usize
+    requires { ⌜ tableIn (now table) .keys ≤ 128 ⌝ }
+    ensures { λ r. ⌜ (r ≡ keyNumber (tableKeys (tableIn (now (table .entry)))) (now (key .entry))) × (r ≤ 128) ⌝ }
 {
     if key.len() == 0 {
         return 128;
     }
-    find_key(table, n, key)
+    keys::find(table, key)
 }
 
 // The bytes from place a on become those of the key.
@@ -182,11 +156,12 @@ fn is_new(n: usize, k: usize, m: usize) -> bool
 
 // ---- end states
 
-fn bit_at(table: &[u8; 7920], i: usize) -> bool
+// State q of rule r is an end state, at i = 16 r + q.
+fn is_end(table: &[u8; 7920], i: usize) -> bool
     requires { ⌜ i < 512 ⌝ }
     ensures { λ r. ⌜ r ≡ bitAt (tableIn (now (table .entry)) .ends) i ⌝ }
 {
-    (flat::end(table, i / 8) >> (i % 8)) % 2 == 1
+    bits::get_bit(table, 8 * flat::END + i)
 }
 
 // One end state more.
@@ -196,9 +171,7 @@ fn with_end(table: &mut [u8; 7920], rule: u8, form: u8, state: u8)
 {
     let r = rule as usize;
     let q = state as usize;
-    let i = 16 * r + q;
-    let old = flat::end(table, i / 8);
-    table[flat::END + i / 8] = old | (1 << (i % 8));
+    bits::set_if(true, table, 8 * flat::END + (16 * r + q));
     table[flat::FORM + r] = form;
 }
 
@@ -226,7 +199,7 @@ fn take_end(table: &mut [u8; 7920], rule: u8, form: u8, state: u8) -> u8
 {
     let r = rule as usize;
     let q = state as usize;
-    if bit_at(table, 16 * r + q) {
+    if is_end(table, 16 * r + q) {
         return 7;
     }
     with_end(table, rule, form, state);
@@ -269,8 +242,7 @@ pub fn take_entry(table: &mut [u8; 7920], line: u16, l: Line, key: &[u8]) -> u8
         return 6;
     }
     if l.kind < 38 {
-        let keys = flat::keys(table);
-        let k = key_number(table, keys, key);
+        let k = key_number(table, key);
         let c = Cell {
             rule: l.rule,
             state: l.state,

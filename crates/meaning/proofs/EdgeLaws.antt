@@ -16,9 +16,10 @@ use Rattle.table.specs.Table.{Table}
 use Rattle.table.specs.declared.kind.Finished.{Finished}
 use Rattle.table.specs.declared.kind.ValueKind.{ValueKind}
 use Rattle.table.proofs.KindLaws.{kindOf-codeOf}
-use Rattle.book.specs.Entry.{Form, obj, arr, Entry, edge, end-state, keysOf, numberOf}
+use Rattle.table.specs.Keys.{keyAt, tableKeys, numberOf}
+use Rattle.book.specs.Entry.{Form, obj, arr, Entry, edge, end-state, keysOf}
 use Rattle.book.specs.Load.{ruleOf, formIn}
-use Rattle.book.specs.Holds.{Edge, edgeAt, tableEdges, keyAt, tableKeys, keyNumber, edgesFrom, edgesOf, formCode}
+use Rattle.book.specs.Holds.{Edge, edgeAt, tableEdges, keyNumber, edgesFrom, edgesOf, formCode}
 use Rattle.runs.specs.Walk.{asks, ofArray, hasKey, keyCount}
 use Rattle.runs.proofs.EdgeLaws.{EdgeFrom, this-edge, past-edge, past-end, le-of-edge, member-of-edge}
 use Rattle.frame.specs.Edges.{hasForm, fitsCode}

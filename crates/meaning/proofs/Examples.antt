@@ -14,9 +14,10 @@ use Rattle.laws.proofs.TestLaws.{eq-of-beq, T-and-left, T-and-right}
 use Rattle.table.specs.Kind.{codeOf}
 use Rattle.table.specs.Table.{Table}
 use Rattle.table.specs.declared.kind.ValueKind.{ValueKind}
-use Rattle.book.specs.Entry.{Form, obj, arr, sameForm, Entry, edge, end-state, withKey, keysFrom, keysOf, numberOf}
+use Rattle.table.specs.Keys.{tableKeys, numberOf}
+use Rattle.book.specs.Entry.{Form, obj, arr, sameForm, Entry, edge, end-state, withKey, keysFrom, keysOf}
 use Rattle.book.specs.Load.{ruleOf, formIn, changesForm}
-use Rattle.book.specs.Holds.{tableEdges, tableKeys, keyNumber, edgesFrom, edgesOf, formCode, ruleForm, endsAt, Holds}
+use Rattle.book.specs.Holds.{tableEdges, keyNumber, edgesFrom, edgesOf, formCode, ruleForm, endsAt, Holds}
 use Rattle.runs.specs.Examples.{bookB}
 use Rattle.laws.proofs.ListLaws.{T-of-all}
 use Rattle.meaning.specs.Shows.{EdgeLimits, Kept}

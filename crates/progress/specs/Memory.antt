@@ -4,7 +4,7 @@ use mathlib.Core.Bool.{Bool, true, false, cond, _&&_}
 use mathlib.Core.List.{List, [], _∷_}
 use Prim.Native.Nat.{ℕ, _+_, _-_}
 use lib.Dec.{eqb, ltb}
-use lib.ListN.{set, take}
+use lib.ListN.{set}
 use Rattle.json.specs.Lexer.{stepOf}
 use Rattle.json.specs.declared.lexer.Top.{Top}
 use Rattle.json.specs.declared.lexer.Top.the-variants as Top
@@ -12,8 +12,7 @@ use Rattle.table.specs.Table.{Table}
 use Rattle.table.specs.declared.kind.Finished.{Finished}
 use Rattle.table.specs.declared.kind.Finished.the-variants as Done
 use Rattle.table.specs.Kind.{ruleFits}
-use Rattle.book.specs.Entry.{numberOf}
-use Rattle.book.specs.Holds.{tableKeys}
+use Rattle.table.specs.Keys.{keyFound}
 use Rattle.frame.specs.Frame.{frameAt, putFrame, isObject}
 use Rattle.frame.specs.Edges.{edgesOf}
 use Rattle.frame.specs.Ops.{opened, keyed, valued, closed}
@@ -36,14 +35,6 @@ mem x root key work = record { lex = x; root = root; key = key; work = work }
 -- the kind of the innermost open value, by its frame
 unfoldable pub topAt : List ℕ → ℕ → Top
 topAt w l = cond (eqb l 0) Top.Bare (cond (isObject (frameAt w l)) Top.Object Top.Array)
-
--- the number of the key with these characters; 255 where the book does not have it
-unfoldable pub orUnknown : ℕ → ℕ → ℕ
-orUnknown n keys = cond (ltb n keys) n 255
-
--- the number of the key of which len characters are kept; a key of more than 32 characters is none of a book
-unfoldable pub keyFound : Table → List ℕ → ℕ → ℕ
-keyFound t key len = cond (ltb 32 len) 255 (orUnknown (numberOf (tableKeys t) (take len key)) (t .keys))
 
 -- a finished value at a level
 unfoldable pub valueAt : Table → List ℕ → ℕ → Finished → List ℕ

@@ -8,7 +8,8 @@ use Rattle.laws.proofs.TestLaws.{T-and-left, T-and-right, eq-of-beq}
 use Rattle.laws.proofs.ListLaws.{T-of-all}
 use Rattle.json.specs.Meaning.{meaning}
 use Rattle.table.specs.declared.kind.ValueKind.the-variants.{Rule}
-use Rattle.book.specs.Entry.{sameForm, withKey, keysFrom, keysOf, numberOf, clash}
+use Rattle.table.specs.Keys.{numberOf}
+use Rattle.book.specs.Entry.{sameForm, withKey, keysFrom, keysOf, clash}
 use Rattle.runs.specs.Runs.{beginsPart, Valid}
 use Rattle.runs.specs.Sound.{isKeyed, isSound}
 use Rattle.runs.specs.Walk.{ofScalar, ofRules, ofWord, isOf, asks, ofArray, hasKey, anyEdge, leads, endsIn, startOf, moved, ended, afterElement, keyCount, numberIn, atOpening, afterKey, fitsEdge, afterValue, useKey, walk, objectFits, judging}

@@ -9,8 +9,8 @@ use native.Mathlib.Omega.{arith}
 use lib.Dec.{T, eqb, ltb, ltb→lt}
 use Rattle.laws.proofs.TestLaws.{T-and-right, T-or-elim}
 use Rattle.table.specs.declared.kind.ValueKind.{ValueKind}
+use Rattle.table.proofs.KeyLaws.{numberOf-le}
 use Rattle.book.specs.Entry.{Entry, keysOf}
-use Rattle.book.proofs.EntryLaws.{numberOf-le}
 use Rattle.runs.specs.Walk.{States, OpenObject, keyCount, numberIn, atOpening, afterKey, afterValue, useKey, walk}
 
 module _ (es : List Entry) where

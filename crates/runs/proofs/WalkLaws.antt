@@ -12,7 +12,8 @@ use Rattle.laws.proofs.TestLaws.{T-and, T-and-left, T-and-right, T-of-true}
 use Rattle.json.specs.Tree.{Json, Pairs, no-pairs, pairs}
 use Rattle.json.specs.Meaning.{meaning, members}
 use Rattle.table.specs.declared.kind.ValueKind.{ValueKind}
-use Rattle.book.specs.Entry.{obj, arr, Entry, edge, keysOf, numberOf}
+use Rattle.table.specs.Keys.{numberOf}
+use Rattle.book.specs.Entry.{obj, arr, Entry, edge, keysOf}
 use Rattle.runs.specs.Runs.{_∈_, Fits, ObjectRun, object-end, object-edge, Insert, in-front, OrderPairs, order-no-pairs, Among, first, later, KeyTwice, FitsInSomeOrder, in-order}
 use Rattle.runs.specs.Sound.{Sound}
 use Rattle.runs.specs.Walk.{asks, hasKey, States, OpenObject, startOf, moved, ended, keyCount, numberIn, atOpening, useKey, walk, objectFits, judging}

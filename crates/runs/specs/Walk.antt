@@ -13,7 +13,8 @@ use Rattle.table.specs.declared.kind.Scalar.{Scalar}
 use Rattle.table.specs.declared.kind.Scalar.the-variants.{Null, True, False, Str, Num, Int}
 use Rattle.table.specs.declared.kind.ValueKind.{ValueKind}
 use Rattle.table.specs.declared.kind.ValueKind.the-variants.{Plain, Rule}
-use Rattle.book.specs.Entry.{Form, obj, arr, sameForm, Entry, edge, end-state, keysOf, numberOf}
+use Rattle.table.specs.Keys.{numberOf}
+use Rattle.book.specs.Entry.{Form, obj, arr, sameForm, Entry, edge, end-state, keysOf}
 use Rattle.runs.specs.Runs.{beginsPart}
 
 -- ---- finished values: which kinds each fits

@@ -1,15 +1,15 @@
 -- One turn of each scan of bytes, and its end. Each law takes what a turn knows and says what the next one needs. Assumes nothing.
 use mathlib.Core.Bool.{Bool, true, false, not, cond}
 use mathlib.Core.List.{List, [], _∷_}
-use mathlib.Core.Path.{_≡_, refl, sym, ap, _∙_}
+use mathlib.Core.Path.{_≡_, refl, sym, _∙_}
 use Prim.Native.Nat.{ℕ, _+_, _*_, _-_, _<_, _≤_}
 use native.Mathlib.Numerals.{add-one}
 use native.Mathlib.Omega.{arith}
-use lib.Dec.{eqb, ltb}
-use lib.ListN.{length, getD, drop, drop-of-length-le, length-drop}
+use lib.Dec.{ltb}
+use lib.ListN.{length, getD, drop, drop-of-length-le}
 use lib.Seq.{drop-cons}
 use borrow.Author.Tests.{eq-eqb, ne-eqb, lt-ltb, le-ltb, ltb-false, not-true, not-false}
-use Rattle.laws.specs.Lists.{same, all}
+use Rattle.laws.specs.Lists.{all}
 use Rattle.book.specs.Text.{numberFrom}
 use Rattle.scan.specs.Scan.{until, capped}
 
@@ -26,28 +26,6 @@ module _ (s : List ℕ) (c i e : ℕ) (inv : i + until c (drop i s) ≡ e) where
   pub until-end : length s ≤ i → i ≡ e
   unfolding until
   until-end h = let k = rw (drop-of-length-le s h) at inv in omega (arith, k)
-
--- ---- same: from place i on the two compare as b
-module _ (s t : List ℕ) (i : ℕ) (b : Bool) (inv : same (drop i s) (drop i t) ≡ b) where
-  pub same-differ : i < length s → i < length t → (getD s i 0 ≡ getD t i 0 → ⊥) → false ≡ b
-  unfolding same
-  same-differ h k q = rw (drop-cons s i 0, drop-cons t i 0, ne-eqb (getD s i 0) (getD t i 0) q) at inv
-
-  pub same-short : i < length s → length t ≤ i → false ≡ b
-  unfolding same
-  same-short h k = rw (drop-cons s i 0, drop-of-length-le t k) at inv
-
-  pub same-more : i < length s → i < length t → getD s i 0 ≡ getD t i 0 → same (drop (i + 1) s) (drop (i + 1) t) ≡ b
-  unfolding same
-  same-more h k q = rw add-one (rw (drop-cons s i 0, drop-cons t i 0, eq-eqb (getD s i 0) (getD t i 0) q) at inv)
-
-  pub same-end : length s ≤ i → i ≤ length t → eqb i (length t) ≡ b
-  unfolding same
-  same-end h k = go (drop i t) refl (rw (drop-of-length-le s h) at inv)
-    where
-      go : (u : List ℕ) → drop i t ≡ u → same [] u ≡ b → eqb i (length t) ≡ b
-      go [] e f = eq-eqb i (length t) (omega (arith, length-drop i t, ap length e)) ∙ f
-      go (x ∷ u) e f = ne-eqb i (length t) (λ q. omega (arith, length-drop i t, ap length e)) ∙ f
 
 -- ---- all: from place i on the test comes to b
 module _ (f : ℕ → Bool) (s : List ℕ) (i : ℕ) (b : Bool) (inv : all f (drop i s) ≡ b) where

@@ -4,11 +4,12 @@ ghost use mathlib.Core.Bool.{cond};
 ghost use Prim.Native.Nat.{_+_, _*_, _-_, _≤_};
 ghost use lib.Dec.{ltb};
 ghost use lib.ListN.{drop};
-ghost use Rattle.laws.specs.Lists.{same, all};
+ghost use Rattle.laws.specs.Lists.{all};
 ghost use Rattle.table.specs.Kind.{codeOf};
 ghost use Rattle.book.specs.Text.{between, isNumber, number};
 ghost use Rattle.book.specs.Line.{isKey, isKind, isForm, kindIn};
 ghost use Rattle.scan.specs.Scan.{until, capped, plainCode};
+use table::bytes;
 
 const OBJ: [u8; 3] = *b"obj";
 
@@ -40,24 +41,6 @@ pub fn find(s: &[u8], from: usize, c: u8) -> usize
         i += 1;
     }
     i
-}
-
-// The two are the same bytes.
-pub fn equal(s: &[u8], t: &[u8]) -> bool
-    ensures { λ r. ⌜ r ≡ same (now (s .entry)) (now (t .entry)) ⌝ }
-{
-    let mut i = 0;
-    while i < s.len() {
-        if i < t.len() {
-            if s[i] != t[i] {
-                return false;
-            }
-        } else {
-            return false;
-        }
-        i += 1;
-    }
-    i == t.len()
 }
 
 fn is_between(low: u8, high: u8, b: u8) -> bool
@@ -147,29 +130,29 @@ pub fn is_key(s: &[u8]) -> bool
     if !all_between(s, 0, 0x21, 0x7E) {
         return false;
     }
-    !equal(s, &DASH)
+    !bytes::equal(s, &DASH)
 }
 
 // The code of the plain kind, or 6.
 fn plain_code(s: &[u8]) -> u8
     ensures { λ r. ⌜ r ≡ plainCode (now (s .entry)) ⌝ }
 {
-    if equal(s, &NULL) {
+    if bytes::equal(s, &NULL) {
         return 0;
     }
-    if equal(s, &TRUE) {
+    if bytes::equal(s, &TRUE) {
         return 1;
     }
-    if equal(s, &FALSE) {
+    if bytes::equal(s, &FALSE) {
         return 2;
     }
-    if equal(s, &STR) {
+    if bytes::equal(s, &STR) {
         return 3;
     }
-    if equal(s, &NUM) {
+    if bytes::equal(s, &NUM) {
         return 4;
     }
-    if equal(s, &INT) {
+    if bytes::equal(s, &INT) {
         return 5;
     }
     6
@@ -212,8 +195,8 @@ pub fn kind_code(s: &[u8]) -> u8
 pub fn is_form(s: &[u8]) -> bool
     ensures { λ r. ⌜ r ≡ isForm (now (s .entry)) ⌝ }
 {
-    if equal(s, &OBJ) {
+    if bytes::equal(s, &OBJ) {
         return true;
     }
-    equal(s, &ARR)
+    bytes::equal(s, &ARR)
 }

@@ -11,7 +11,7 @@ use lib.Dec.{eqb}
 use lib.ListN.{length, getD, set, take, drop, replicate, length-take, length-drop, length-replicate, getD-replicate}
 use lib.Seq.{take-set-le, take-set-lt, drop-set-lt, drop-set-add, ext-getD, getD-take, getD-drop}
 use borrow.Author.Tests.{eqb-true, eqb-false}
-use Rattle.table.specs.Flat.{part, paired, tableIn}
+use Rattle.table.specs.Flat.{part, paired, tableIn, emptyTable}
 use Rattle.table.proofs.FlatLaws.{getD-part}
 use Rattle.table.specs.Slots.{slotSize, slotStart, slots, tableWith, putAt}
 
@@ -137,9 +137,29 @@ paired-replicate zero = refl
 paired-replicate (suc n) = ap (λ (t : List ℕ). 0 ∷ t) (paired-replicate n)
 
 -- what the parts of bytes that are all 0 are
-pub slots-zero : (k : ℕ) → slotStart k + slotSize k ≤ 7920 → slots (replicate 7920 0) k ≡ replicate (slotSize k) 0
+slots-zero : (k : ℕ) → slotStart k + slotSize k ≤ 7920 → slots (replicate 7920 0) k ≡ replicate (slotSize k) 0
 unfolding slots
 slots-zero k h = part-replicate 7920 (slotStart k) (slotSize k) h
 
+-- the parts of the empty table
+pub emptyTable-parts : emptyTable ≡ tableWith (λ k. replicate (slotSize k) 0)
+unfolding emptyTable
+emptyTable-parts =
+    tableIn-slots (replicate 7920 0) ∙ rw (
+      slots-zero 0 (omega arith),
+      slots-zero 1 (omega arith),
+      slots-zero 2 (omega arith),
+      slots-zero 3 (omega arith),
+      slots-zero 4 (omega arith),
+      slots-zero 5 (omega arith),
+      slots-zero 6 (omega arith),
+      slots-zero 7 (omega arith),
+      slots-zero 8 (omega arith),
+      slots-zero 9 (omega arith),
+      slots-zero 10 (omega arith),
+      slots-zero 11 (omega arith),
+    )
+
+-- the lines of its edges
 pub lines-zero : paired (replicate 512 0) (replicate 512 0) ≡ replicate 512 0
 lines-zero = paired-replicate 512

@@ -1,7 +1,7 @@
 -- A table as the bytes that a caller lends: where each of its arrays stands, and the table that the bytes mean. Stated. Assumes nothing.
 use mathlib.Core.List.{List, [], _∷_}
 use Prim.Native.Nat.{ℕ, _+_, _*_}
-use lib.ListN.{getD, take, drop}
+use lib.ListN.{getD, take, drop, replicate}
 use Rattle.table.specs.Table.{Table}
 
 -- n bytes from place a on
@@ -31,3 +31,7 @@ tableIn l = record {
   ends = part l 7824 64;
   forms = part l 7888 32;
 }
+
+-- the empty table, which a refused book has: all bytes 0
+unfoldable pub emptyTable : Table
+emptyTable = tableIn (replicate 7920 0)

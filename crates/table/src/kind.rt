@@ -49,59 +49,101 @@ pub fn kind_of(code: u8) -> ValueKind
     ValueKind::Rule(code - 6)
 }
 
+// The scalar is null.
+fn is_null(s: Scalar) -> bool
+    ensures { λ r. ⌜ r ≡ scalarFits Scalar.Null s ⌝ }
+{
+    match s {
+        Scalar::Null => true,
+        Scalar::True => false,
+        Scalar::False => false,
+        Scalar::Str => false,
+        Scalar::Num => false,
+        Scalar::Int => false,
+    }
+}
+
+// The scalar is true.
+fn is_true(s: Scalar) -> bool
+    ensures { λ r. ⌜ r ≡ scalarFits Scalar.True s ⌝ }
+{
+    match s {
+        Scalar::Null => false,
+        Scalar::True => true,
+        Scalar::False => false,
+        Scalar::Str => false,
+        Scalar::Num => false,
+        Scalar::Int => false,
+    }
+}
+
+// The scalar is false.
+fn is_false(s: Scalar) -> bool
+    ensures { λ r. ⌜ r ≡ scalarFits Scalar.False s ⌝ }
+{
+    match s {
+        Scalar::Null => false,
+        Scalar::True => false,
+        Scalar::False => true,
+        Scalar::Str => false,
+        Scalar::Num => false,
+        Scalar::Int => false,
+    }
+}
+
+// The scalar is a string.
+fn is_str(s: Scalar) -> bool
+    ensures { λ r. ⌜ r ≡ scalarFits Scalar.Str s ⌝ }
+{
+    match s {
+        Scalar::Null => false,
+        Scalar::True => false,
+        Scalar::False => false,
+        Scalar::Str => true,
+        Scalar::Num => false,
+        Scalar::Int => false,
+    }
+}
+
+// The scalar is a number.
+fn is_num(s: Scalar) -> bool
+    ensures { λ r. ⌜ r ≡ scalarFits Scalar.Num s ⌝ }
+{
+    match s {
+        Scalar::Null => false,
+        Scalar::True => false,
+        Scalar::False => false,
+        Scalar::Str => false,
+        Scalar::Num => true,
+        Scalar::Int => true,
+    }
+}
+
+// The scalar is a number written without fraction and exponent part.
+fn is_int(s: Scalar) -> bool
+    ensures { λ r. ⌜ r ≡ scalarFits Scalar.Int s ⌝ }
+{
+    match s {
+        Scalar::Null => false,
+        Scalar::True => false,
+        Scalar::False => false,
+        Scalar::Str => false,
+        Scalar::Num => false,
+        Scalar::Int => true,
+    }
+}
+
 // A scalar fits a plain kind.
 pub fn scalar_fits(kind: Scalar, s: Scalar) -> bool
     ensures { λ r. ⌜ r ≡ scalarFits kind s ⌝ }
 {
     match kind {
-        Scalar::Null => match s {
-            Scalar::Null => true,
-            Scalar::True => false,
-            Scalar::False => false,
-            Scalar::Str => false,
-            Scalar::Num => false,
-            Scalar::Int => false,
-        },
-        Scalar::True => match s {
-            Scalar::Null => false,
-            Scalar::True => true,
-            Scalar::False => false,
-            Scalar::Str => false,
-            Scalar::Num => false,
-            Scalar::Int => false,
-        },
-        Scalar::False => match s {
-            Scalar::Null => false,
-            Scalar::True => false,
-            Scalar::False => true,
-            Scalar::Str => false,
-            Scalar::Num => false,
-            Scalar::Int => false,
-        },
-        Scalar::Str => match s {
-            Scalar::Null => false,
-            Scalar::True => false,
-            Scalar::False => false,
-            Scalar::Str => true,
-            Scalar::Num => false,
-            Scalar::Int => false,
-        },
-        Scalar::Num => match s {
-            Scalar::Null => false,
-            Scalar::True => false,
-            Scalar::False => false,
-            Scalar::Str => false,
-            Scalar::Num => true,
-            Scalar::Int => true,
-        },
-        Scalar::Int => match s {
-            Scalar::Null => false,
-            Scalar::True => false,
-            Scalar::False => false,
-            Scalar::Str => false,
-            Scalar::Num => false,
-            Scalar::Int => true,
-        },
+        Scalar::Null => is_null(s),
+        Scalar::True => is_true(s),
+        Scalar::False => is_false(s),
+        Scalar::Str => is_str(s),
+        Scalar::Num => is_num(s),
+        Scalar::Int => is_int(s),
     }
 }
 

@@ -2,13 +2,12 @@
 use mathlib.Core.Bool.{Bool, true, false, cond}
 use mathlib.Core.List.{List}
 use mathlib.Core.Path.{_≡_, refl, sym, ap, _∙_}
-use Prim.Native.Nat.{ℕ, _-_, _%_, _<_, _≤_}
+use Prim.Native.Nat.{ℕ, _-_, _≤_}
 use native.Mathlib.Omega.{arith}
-use lib.Dec.{eqb, ltb}
-use lib.ListN.{length, set, take}
+use lib.Dec.{eqb}
+use lib.ListN.{length, set}
 use lib.Seq.{set-out}
-use borrow.Author.Tests.{eq-eqb, ne-eqb, lt-ltb, le-ltb}
-use Rattle.laws.specs.Tab.{tab}
+use borrow.Author.Tests.{eq-eqb, ne-eqb}
 use Rattle.json.specs.Lexer.{stepOf}
 use Rattle.json.specs.declared.lexer.Top.the-variants as Is
 use Rattle.json.specs.declared.lexer.Step.{Step}
@@ -16,8 +15,7 @@ use Rattle.table.specs.Table.{Table}
 use Rattle.table.specs.declared.kind.Scalar.{Scalar}
 use Rattle.table.specs.declared.kind.Finished.the-variants as Done
 use Rattle.table.specs.Kind.{ruleFits}
-use Rattle.book.specs.Entry.{numberOf}
-use Rattle.book.specs.Holds.{keyAt, tableKeys}
+use Rattle.table.specs.Keys.{keyFound}
 use Rattle.frame.specs.Frame.{frameAt, putFrame, isObject, kindNumber}
 use Rattle.frame.specs.Edges.{edgesOf}
 use Rattle.frame.specs.Ops.{opened, keyed, valued, closed}
@@ -26,7 +24,7 @@ use Rattle.progress.specs.declared.Task.{Task}
 use Rattle.progress.specs.declared.Task.the-variants as To
 use Rattle.progress.specs.declared.Advanced.{Advanced}
 use Rattle.progress.specs.Lex.{advanced}
-use Rattle.progress.specs.Memory.{Mem, mem, topAt, orUnknown, keyFound, valueAt, rulesAt, closeAt, perform, stepMem}
+use Rattle.progress.specs.Memory.{Mem, mem, topAt, valueAt, rulesAt, closeAt, perform, stepMem}
 use Rattle.turn.specs.Turn.{ClosedTo, turned}
 
 -- ---- the innermost open value
@@ -55,27 +53,6 @@ top-array w l k n e f = simp (ne-eqb l 0 n, array-of-kind (isObject (frameAt w l
 
 pub put-past : (key : List ℕ) (len c : ℕ) → length key ≤ len → key ≡ set key len c
 put-past key len c h = sym (set-out key len c h)
-
-module _ (t : Table) (key : List ℕ) (len : ℕ) where
-  pub found-long : 32 < len → 255 ≡ keyFound t key len
-  unfolding keyFound
-  found-long h = rw (lt-ltb 32 len h)
-
-  -- n: the count of keys as it was read
-  module _ (n k : ℕ) (h : len ≤ 32) (e : n ≡ t .keys) (f : k ≡ numberOf (tab (keyAt (t .«key_bytes») (t .«key_len»)) 0 n) (take len key)) where
-    found : k ≡ numberOf (tableKeys t) (take len key)
-    unfolding tableKeys
-    found = f ∙ ap (λ (i : ℕ). numberOf (tab (keyAt (t .«key_bytes») (t .«key_len»)) 0 i) (take len key)) e
-
-    pub found-known : t .keys ≤ 128 → k < n → k % 256 ≡ keyFound t key len
-    unfolding keyFound orUnknown
-    found-known m l =
-        let small : k % 256 ≡ k = omega arith in
-        rw small (simp (le-ltb 32 len h, sym found, lt-ltb k (t .keys) (omega arith)))
-
-    pub found-unknown : n ≤ k → 255 ≡ keyFound t key len
-    unfolding keyFound orUnknown
-    found-unknown l = simp (le-ltb 32 len h, sym found, le-ltb k (t .keys) (omega arith))
 
 -- ---- closing
 

@@ -3,14 +3,13 @@ ghost use mathlib.Core.Path.{_≡_};
 ghost use Prim.Native.Nat.{_-_, _≤_};
 ghost use lib.ListN.{length, set};
 ghost use Rattle.table.specs.Flat.{tableIn};
-ghost use Rattle.load.specs.Step.{Lens};
-ghost use Rattle.progress.specs.Memory.{mem, topAt, keyFound};
+ghost use Rattle.progress.specs.Memory.{mem, topAt};
 ghost use Rattle.turn.specs.Turn.{ClosedTo, turned};
 use json::lexer::Step;
 use json::lexer::Top;
 use progress::Lex;
 use progress::Task;
-use table::flat;
+use table::keys;
 use table::kind;
 use table::kind::Finished;
 
@@ -41,23 +40,6 @@ pub fn put_char(key: &mut [u8], len: u8, c: u8)
     if at < key.len() {
         key[at] = c;
     }
-}
-
-// The number of the key in the book, or 255.
-fn key_found<'a>(table: &'a [u8; 7920], key: &'a [u8], len: u8) -> u8
-    requires { ⌜ (tableIn (now table) .keys ≤ 128) × Lens (tableIn (now table) .«key_len») × (length (now key) ≡ 32) ⌝ }
-    ensures { λ r. ⌜ r ≡ keyFound (tableIn (now (table .entry))) (now (key .entry)) len ⌝ }
-{
-    let n = len as usize;
-    if 32 < n {
-        return 255;
-    }
-    let keys = flat::keys(table);
-    let k = load::store::find_key(table, keys, &key[..n]);
-    if k < keys {
-        return (k % 256) as u8;
-    }
-    255
 }
 
 // One level less; without an open value there is none to close.
@@ -93,7 +75,7 @@ pub fn turn(
     table: &[u8; 7920],
     b: u8,
 ) -> Turned
-    requires { ⌜ (tableIn (now table) .keys ≤ 128) × Lens (tableIn (now table) .«key_len») × (length (now key) ≡ 32) ⌝ }
+    requires { ⌜ (tableIn (now table) .keys ≤ 128) × (length (now key) ≡ 32) ⌝ }
     ensures { λ r. ⌜ mem (r .lex) (r .root) (now (key .exit)) (now (work .exit)) ≡ turned (tableIn (now (table .entry))) frames (mem x root (now (key .entry)) (now (work .entry))) b st ⌝ }
 {
     let level = x.level;
@@ -115,7 +97,7 @@ pub fn turn(
             }
         }
         Task::Named => {
-            let k = key_found(table, key, len);
+            let k = keys::number(table, key, len);
             frame::key_level(work, level, k);
             Turned {
                 lex: next,

@@ -8,7 +8,8 @@ use Rattle.json.specs.Grammar.{spelling}
 use Rattle.json.specs.Numbers.{isDigit, isDigit1-9, isE}
 use Rattle.json.specs.Lexer.{escapeMove, hexOf, anyHex, unit1, unitD, ranged, hexBits, orExp, afterZero, afterInt, afterFrac, digitOnly, letterMove, valueStart, atValue, atFirstElement, atFirstKey, atKey, atColon, afterRoot, afterElement as behindElement, afterPair}
 use Rattle.json.specs.Machine.{step}
-use Rattle.book.specs.Entry.{sameForm, withKey, keysFrom, keysOf, numberOf, clash}
+use Rattle.table.specs.Keys.{numberOf}
+use Rattle.book.specs.Entry.{sameForm, withKey, keysFrom, keysOf, clash}
 use Rattle.runs.specs.Runs.{beginsPart}
 use Rattle.runs.specs.Sound.{Sound, isKeyed, isSound}
 use Rattle.runs.specs.Walk.{ofScalar, ofRules, isOf, asks, ofArray, hasKey, anyEdge, leads, endsIn, startOf, moved, ended, afterElement, keyCount, numberIn, atOpening, afterKey, fitsEdge, afterValue, useKey, walk, objectFits}

@@ -1,12 +1,12 @@
 -- `load` meets its contract: what is read agrees with the paper, and what is accepted is checked. Assumes nothing.
-use Rattle.load.proofs.AgreeLaws.{book-within, load-checked, load-refused}
+use Rattle.load.proofs.AgreeLaws.{book-ranges, load-checked, load-refused}
 use Rattle.load.proofs.BlankLaws.{loads-blank}
 use borrow.Author.Needs.{needs}
 use Rattle.load.proofs.load.Statement.{statement}
 use Rattle.load.proofs.load.Tie as tie
 
 check-table-requires : tie.Need-check-table-requires
-check-table-requires c κs = book-within _ _ (c .before .before .before .take-book .ensures) .edges
+check-table-requires c κs = book-ranges _ _ (c .before .before .before .take-book .ensures) .edges
 
 returns : tie.Need-returns
 returns c = loads-blank _ _ _ (search (needs, load-checked))

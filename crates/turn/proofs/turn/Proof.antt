@@ -30,7 +30,7 @@ returns-3 c =
     let t : Table = tableIn (g .table .now) in
     let m : Mem = mem (g .x) (g .root) (g .key .now) (g .work .now) in
     let a = c .before .before .before .before .before .before .before .before .before .advance .result in
-    turn-by t (g .frames) m (g .b) (g .st) a (c .before .before .before .before .before .before .before .before .before .advance .ensures) _ _ (c .before .before .before .before .before .before .enum-told2 .given .1) (named-done t m (a .lex) _ _ (c .before .before .before .before .key-found .ensures) (c .before .before .key-level .ensures))
+    turn-by t (g .frames) m (g .b) (g .st) a (c .before .before .before .before .before .before .before .before .before .advance .ensures) _ _ (c .before .before .before .before .before .before .enum-told2 .given .1) (named-done t m (a .lex) _ _ (c .before .before .before .before .number .ensures) (c .before .before .key-level .ensures))
 
 returns-4 : tie.Need-returns-4
 returns-4 c =

@@ -5,10 +5,10 @@ use Rattle.load.proofs.store.key_number.Statement.{statement}
 use Rattle.load.proofs.store.key_number.Tie as tie
 
 returns : tie.Need-returns
-returns c = keyNumber-none _ _ (c .if1 .taken)
+returns c = (search (needs, keyNumber-none), search needs)
 
 returns-2 : tie.Need-returns-2
-returns-2 c = keyNumber-some _ _ _ _ (c .before .before .before .pre .0) (c .before .if1 .left) (c .find-key .ensures)
+returns-2 c = (search (needs, keyNumber-some), search needs)
 
 pub key-number-spec : {M : Type 1} → statement M
 key-number-spec = tie.close (tie.spec returns (λ c κs. search needs) returns-2)

@@ -5,8 +5,8 @@ use Rattle.laws.specs.Bits.{setBit}
 use borrow.Author.Needs.{needs}
 use mathlib.Core.Path.{sym}
 use native.Mathlib.Omega.{arith}
-use Rattle.frame.proofs.bits.set_if.Statement.{statement}
-use Rattle.frame.proofs.bits.set_if.Tie as tie
+use Rattle.table.proofs.bits.set_if.Statement.{statement}
+use Rattle.table.proofs.bits.set_if.Tie as tie
 
 returns : tie.Need-returns
 unfolding setBit

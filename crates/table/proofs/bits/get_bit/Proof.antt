@@ -3,8 +3,8 @@ use Rattle.laws.proofs.BitLaws.{bitAt-out}
 use Rattle.laws.specs.Bits.{bitAt}
 use borrow.Author.Needs.{needs}
 use mathlib.Core.Path.{sym}
-use Rattle.frame.proofs.bits.get_bit.Statement.{statement}
-use Rattle.frame.proofs.bits.get_bit.Tie as tie
+use Rattle.table.proofs.bits.get_bit.Statement.{statement}
+use Rattle.table.proofs.bits.get_bit.Tie as tie
 
 returns : tie.Need-returns
 unfolding bitAt

@@ -1,9 +1,9 @@
 -- `bits::quiet` meets its contract: bytes whose bits together are 0 are 0 each. Assumes nothing.
-use Rattle.frame.proofs.QuietLaws.{quiet-eight}
+use Rattle.table.proofs.ByteLaws.{quiet-eight}
 use borrow.Author.Needs.{needs}
 use borrow.Author.Tests.{eqb-true}
-use Rattle.frame.proofs.bits.quiet.Statement.{statement}
-use Rattle.frame.proofs.bits.quiet.Tie as tie
+use Rattle.table.proofs.bits.quiet.Statement.{statement}
+use Rattle.table.proofs.bits.quiet.Tie as tie
 
 returns : tie.Need-returns
 returns c = let g = c .before .before .before .before .before .before .before .before .args in λ e. quiet-eight (g .s .now) (g .a) (eqb-true _ _ e)

@@ -1,4 +1,4 @@
--- A table stays within its limits as entries are taken. Assumes nothing.
+-- The numbers of a table stay in their ranges as entries are taken. Assumes nothing.
 use mathlib.Core.Bool.{Bool, true, false, cond}
 use mathlib.Core.List.{List, [], _∷_}
 use mathlib.Core.Path.{_≡_, refl, ap}
@@ -9,16 +9,24 @@ use lib.ListN.{length, getD, set, replicate}
 use borrow.Author.Tests.{leb-false}
 use Rattle.laws.specs.Bits.{bitAt}
 use Rattle.table.specs.Table.{Table}
+use Rattle.table.specs.Flat.{emptyTable}
 use Rattle.table.specs.Kind.{codeOf}
 use Rattle.table.specs.Limits.{WithinLimits}
+use Rattle.table.specs.Keys.{tableKeys}
+use Rattle.table.proofs.KeyLaws.{numberOf-le, length-tableKeys}
+use Rattle.table.proofs.SlotLaws.{emptyTable-parts}
 use Rattle.book.specs.Entry.{Form, obj, arr, Entry, edge, end-state}
 use Rattle.book.specs.Line.{Said, bad, good, sayLine}
-use Rattle.book.specs.Holds.{keyAt, keyNumber, tableKeys, formCode}
+use Rattle.book.specs.Holds.{keyNumber, formCode}
 use Rattle.load.specs.declared.store.Cell.{Cell}
 use Rattle.load.specs.Proper.{Proper, ProperSaid}
-use Rattle.load.specs.Step.{Taken, emptyTable, hasCell, withEnd, withEdge, withKey, isNew, formChanges, taken, cellFor, takeEdge, takeEnd, takeEntry, takeSaid}
-use Rattle.load.proofs.StoreLaws.{numberOf-tab-le}
+use Rattle.load.specs.Ranges.{Ranges}
+use Rattle.load.specs.Step.{Taken, hasCell, withEnd, withEdge, withKey, isNew, formChanges, taken, cellFor, takeEdge, takeEnd, takeEntry, takeSaid}
 use Rattle.load.proofs.ProperLaws.{sayLine-proper}
+
+-- the ranges of the counts are their limits
+pub withinLimits-of-ranges : (t : Table) → Ranges t → WithinLimits t
+withinLimits-of-ranges t w = record { edges = w .edges; keys = w .keys }
 
 -- a store of a number that is at most m keeps all numbers at most m
 pub set-le : (m : ℕ) (l : List ℕ) (i a : ℕ) → a ≤ m → ((j : ℕ) → getD l j 0 ≤ m) → (j : ℕ) → getD (set l i a) j 0 ≤ m
@@ -34,9 +42,9 @@ zeros-le (suc n) m zero = omega arith
 zeros-le (suc n) m (suc j) = zeros-le n m j
 
 -- the table of a refusal
-pub within-empty : WithinLimits emptyTable
-unfolding emptyTable
-within-empty = record {
+pub ranges-empty : Ranges emptyTable
+ranges-empty =
+    rw emptyTable-parts (record {
   edges = omega arith;
   keys = omega arith;
   rule = zeros-le 512 31;
@@ -46,7 +54,7 @@ within-empty = record {
   next = zeros-le 512 15;
   len = zeros-le 128 32;
   form = zeros-le 32 2;
-}
+})
 
 formCode-le : (f : Form) → formCode f ≤ 2
 unfolding formCode
@@ -54,13 +62,13 @@ formCode-le obj = omega arith
 formCode-le arr = omega arith
 
 keyNumber-le : (t : Table) (k : List ℕ) → t .keys ≤ 128 → keyNumber (tableKeys t) k ≤ 128
-unfolding keyNumber tableKeys
+unfolding keyNumber
 keyNumber-le t [] h = omega arith
-keyNumber-le t (b ∷ k) h = omega (arith, numberOf-tab-le (keyAt (t .«key_bytes») (t .«key_len»)) 0 (t .keys) (b ∷ k))
+keyNumber-le t (b ∷ k) h = omega (arith, numberOf-le (tableKeys t) (b ∷ k), length-tableKeys t)
 
-pub within-withEdge : (t : Table) → WithinLimits t → (f n : ℕ) (c : Cell) → t .edges < 512 → f ≤ 2 → c .rule ≤ 31 → c .state ≤ 15 → c .key ≤ 128 → c .kind ≤ 37 → c .next ≤ 15
-    → WithinLimits (withEdge t f c n)
-within-withEdge t w f n c h a b d e g i = record {
+pub ranges-withEdge : (t : Table) → Ranges t → (f n : ℕ) (c : Cell) → t .edges < 512 → f ≤ 2 → c .rule ≤ 31 → c .state ≤ 15 → c .key ≤ 128 → c .kind ≤ 37 → c .next ≤ 15
+    → Ranges (withEdge t f c n)
+ranges-withEdge t w f n c h a b d e g i = record {
   edges = omega arith;
   keys = w .keys;
   rule = set-le 31 (t .«edge_rule») (t .edges) (c .rule) b (w .rule);
@@ -72,9 +80,9 @@ within-withEdge t w f n c h a b d e g i = record {
   form = set-le 2 (t .forms) (c .rule) f a (w .form);
 }
 
-module _ (t : Table) (w : WithinLimits t) where
-  pub within-withKey : (k : List ℕ) → t .keys < 128 → length k ≤ 32 → WithinLimits (withKey t k)
-  within-withKey k h l = record {
+module _ (t : Table) (w : Ranges t) where
+  pub ranges-withKey : (k : List ℕ) → t .keys < 128 → length k ≤ 32 → Ranges (withKey t k)
+  ranges-withKey k h l = record {
     edges = w .edges;
     keys = omega arith;
     rule = w .rule;
@@ -86,11 +94,11 @@ module _ (t : Table) (w : WithinLimits t) where
     form = w .form;
   }
 
-  within-takeEnd : (r f q : ℕ) → f ≤ 2 → WithinLimits (takeEnd t r f q .table)
+  ranges-takeEnd : (r f q : ℕ) → f ≤ 2 → Ranges (takeEnd t r f q .table)
   unfolding takeEnd
-  within-takeEnd r f q h = go (bitAt (t .ends) (16 * r + q))
+  ranges-takeEnd r f q h = go (bitAt (t .ends) (16 * r + q))
     where
-      go : (b : Bool) → WithinLimits (cond b (taken 7 t) (taken 0 (withEnd t r f q)) .table)
+      go : (b : Bool) → Ranges (cond b (taken 7 t) (taken 0 (withEnd t r f q)) .table)
       go true = w
       go false = record {
         edges = w .edges;
@@ -104,44 +112,44 @@ module _ (t : Table) (w : WithinLimits t) where
         form = set-le 2 (t .forms) r f h (w .form);
       }
 
-  within-takeEdge : (n f : ℕ) (c : Cell) (k : List ℕ) → length k ≤ 32 → f ≤ 2 → c .rule ≤ 31 → c .state ≤ 15 → c .key ≤ 128 → c .kind ≤ 37 → c .next ≤ 15
-      → WithinLimits (takeEdge n t f c k .table)
+  ranges-takeEdge : (n f : ℕ) (c : Cell) (k : List ℕ) → length k ≤ 32 → f ≤ 2 → c .rule ≤ 31 → c .state ≤ 15 → c .key ≤ 128 → c .kind ≤ 37 → c .next ≤ 15
+      → Ranges (takeEdge n t f c k .table)
   unfolding takeEdge
-  within-takeEdge n f c k l a b d e g i = go (hasCell t c) (leb 512 (t .edges)) (isNew (length k) (c .key) (t .keys)) (leb 128 (t .keys)) refl refl
+  ranges-takeEdge n f c k l a b d e g i = go (hasCell t c) (leb 512 (t .edges)) (isNew (length k) (c .key) (t .keys)) (leb 128 (t .keys)) refl refl
     where
       go : (p q r s : Bool) → leb 512 (t .edges) ≡ q → leb 128 (t .keys) ≡ s
-          → WithinLimits
+          → Ranges
           (cond p (taken 7 t) (cond q (taken 5 t) (cond r (cond s (taken 5 t) (taken 0 (withEdge (withKey t k) f c n))) (taken 0 (withEdge t f c n)))) .table)
       go true q r s x y = w
       go false true r s x y = w
       go false false true true x y = w
       go false false true false x y =
-          within-withEdge (withKey t k) (within-withKey k (leb-false 128 (t .keys) y) l) f n c (leb-false 512 (t .edges) x) a b d e g i
-      go false false false s x y = within-withEdge t w f n c (leb-false 512 (t .edges) x) a b d e g i
+          ranges-withEdge (withKey t k) (ranges-withKey k (leb-false 128 (t .keys) y) l) f n c (leb-false 512 (t .edges) x) a b d e g i
+      go false false false s x y = ranges-withEdge t w f n c (leb-false 512 (t .edges) x) a b d e g i
 
--- taking an entry keeps a table within its limits
-pub within-takeEntry : (n : ℕ) (t : Table) (e : Entry) → WithinLimits t → Proper e → WithinLimits (takeEntry n t e .table)
+-- taking an entry keeps them
+pub ranges-takeEntry : (n : ℕ) (t : Table) (e : Entry) → Ranges t → Proper e → Ranges (takeEntry n t e .table)
 unfolding takeEntry
-within-takeEntry n t (edge r f q k v m) w p = go (formChanges (getD (t .forms) r 0) (formCode f))
+ranges-takeEntry n t (edge r f q k v m) w p = go (formChanges (getD (t .forms) r 0) (formCode f))
   where
-    go : (b : Bool) → WithinLimits (cond b (taken 6 t) (takeEdge n t (formCode f) (cellFor t r q k (codeOf v) m) k) .table)
+    go : (b : Bool) → Ranges (cond b (taken 6 t) (takeEdge n t (formCode f) (cellFor t r q k (codeOf v) m) k) .table)
     go true = w
     go false =
-        within-takeEdge t w n (formCode f) (cellFor t r q k (codeOf v) m) k (p .len) (formCode-le f)
+        ranges-takeEdge t w n (formCode f) (cellFor t r q k (codeOf v) m) k (p .len) (formCode-le f)
         (omega (arith, p .rule)) (omega (arith, p .state)) (keyNumber-le t k (w .keys)) (omega (arith, p .kind)) (omega (arith, p .next))
-within-takeEntry n t (end-state r f q) w p = go (formChanges (getD (t .forms) r 0) (formCode f))
+ranges-takeEntry n t (end-state r f q) w p = go (formChanges (getD (t .forms) r 0) (formCode f))
   where
-    go : (b : Bool) → WithinLimits (cond b (taken 6 t) (takeEnd t r (formCode f) q) .table)
+    go : (b : Bool) → Ranges (cond b (taken 6 t) (takeEnd t r (formCode f) q) .table)
     go true = w
-    go false = within-takeEnd t w r (formCode f) q (formCode-le f)
+    go false = ranges-takeEnd t w r (formCode f) q (formCode-le f)
 
-within-takeSaid : (n : ℕ) (t : Table) (s : Said) → WithinLimits t → ProperSaid s → WithinLimits (takeSaid n t s .table)
+ranges-takeSaid : (n : ℕ) (t : Table) (s : Said) → Ranges t → ProperSaid s → Ranges (takeSaid n t s .table)
 unfolding takeSaid
-within-takeSaid n t (bad k) w p = w
-within-takeSaid n t (good e) w p = within-takeEntry n t e w p
+ranges-takeSaid n t (bad k) w p = w
+ranges-takeSaid n t (good e) w p = ranges-takeEntry n t e w p
 
--- taking a line does
-pub within-line : (n : ℕ) (t : Table) (l : List ℕ) (x : ℕ) (y : Table) → taken x y ≡ takeSaid n t (sayLine l) → WithinLimits t → WithinLimits y
-within-line n t l x y q w =
+-- taking a line keeps them
+pub ranges-line : (n : ℕ) (t : Table) (l : List ℕ) (x : ℕ) (y : Table) → taken x y ≡ takeSaid n t (sayLine l) → Ranges t → Ranges y
+ranges-line n t l x y q w =
     let d : y ≡ takeSaid n t (sayLine l) .table = ap (λ (v : Taken). v .table) q in
-    rw d (within-takeSaid n t (sayLine l) w (sayLine-proper l))
+    rw d (ranges-takeSaid n t (sayLine l) w (sayLine-proper l))

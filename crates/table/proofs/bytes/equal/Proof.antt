@@ -1,12 +1,12 @@
--- `equal` meets its contract: what is left compares as the whole. Assumes nothing.
+-- `bytes::equal` meets its contract: what is left compares as the whole. Assumes nothing.
 use mathlib.Core.Path.{_≡_, refl}
 use Prim.Native.Nat.{_≤_, _-_}
 use lib.ListN.{length, drop}
 use Rattle.laws.specs.Lists.{same}
-use Rattle.scan.proofs.ScanLaws.{same-differ, same-short, same-more, same-end}
+use Rattle.table.proofs.ByteLaws.{same-differ, same-short, same-more, same-end}
 use borrow.Author.Needs.{needs}
-use Rattle.scan.proofs.equal.Statement.{statement}
-use Rattle.scan.proofs.equal.Tie as tie
+use Rattle.table.proofs.bytes.equal.Statement.{statement}
+use Rattle.table.proofs.bytes.equal.Tie as tie
 
 abbrev Inv-loop : tie.InvT-loop
 Inv-loop s t i₀ i = (i ≤ length s) × (i ≤ length t) × (same (drop i s) (drop i t) ≡ same s t)

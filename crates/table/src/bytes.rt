@@ -1,0 +1,21 @@
+// Byte strings.
+ghost use mathlib.Core.Path.{_≡_};
+ghost use Rattle.laws.specs.Lists.{same};
+
+// The two are the same bytes.
+pub fn equal(s: &[u8], t: &[u8]) -> bool
+    ensures { λ r. ⌜ r ≡ same (now (s .entry)) (now (t .entry)) ⌝ }
+{
+    let mut i = 0;
+    while i < s.len() {
+        if i < t.len() {
+            if s[i] != t[i] {
+                return false;
+            }
+        } else {
+            return false;
+        }
+        i += 1;
+    }
+    i == t.len()
+}

@@ -5,6 +5,7 @@ use json::lexer::Mode;
 use json::lexer::Step;
 use table::kind::Scalar;
 use verdict::Verdict;
+
 pub mod act; // act.rt: what an act of the lexer does, part by part
 pub mod key; // key.rt: the characters kept of the open key
 pub mod register; // register.rt: the registers of the open character

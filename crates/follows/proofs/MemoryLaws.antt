@@ -33,7 +33,8 @@ use Rattle.progress.specs.declared.Lex.{Lex}
 use Rattle.progress.specs.declared.Task.{Task}
 use Rattle.progress.specs.declared.Task.the-variants as To
 use Rattle.progress.specs.declared.Advanced.{Advanced}
-use Rattle.progress.specs.Lex.{bump, opening, keyChar, charIn, acted, sound, byFault, advanced}
+use Rattle.progress.specs.Act.{firstFault}
+use Rattle.progress.specs.Lex.{bump, actedBy, sound, byFault, advanced}
 use Rattle.progress.specs.Memory.{Mem, valueAt, rulesAt, closeAt, perform, topAt, advancedAt, stepMem}
 
 -- ---- lengths
@@ -63,12 +64,10 @@ unfolding closeAt
 length-perform To.Idle t m y = refl
 length-perform (To.Put c) t m y = refl
 length-perform To.Named t m y = length-keyed-frame (m .work) (m .lex .level) (keyFound t (m .key) (m .lex .len))
-length-perform To.OpenArray t m y = length-opened-frame t (m .work) (y .level) false
-length-perform To.OpenObject t m y = length-opened-frame t (m .work) (y .level) true
+length-perform (To.Open o) t m y = length-opened-frame t (m .work) (y .level) o
 length-perform (To.Finish s) t m y = length-valueAt t (m .work) (m .lex .level) (Done.Scalar s)
-length-perform (To.Number s) t m y = length-valueAt t (m .work) (m .lex .level) (Done.Scalar s)
 length-perform To.Close t m y = length-valueAt t (m .work) (m .lex .level - 1) (Done.Rules (rulesAt t (m .work) (m .lex .level)))
-length-perform (To.NumberClose s) t m y =
+length-perform (To.FinishClose s) t m y =
     let w = valueAt t (m .work) (m .lex .level) (Done.Scalar s) in
     length-valueAt t w (m .lex .level - 1) (Done.Rules (rulesAt t w (m .lex .level))) ∙ length-valueAt t (m .work) (m .lex .level) (Done.Scalar s)
 
@@ -95,39 +94,16 @@ pub record Counts (x y : Lex) : Type 0 where
   pub head : y .head ≡ x .head
 
 module _ (x : Lex) (n b : ℕ) where
-  counts-opening : (m : Mode) (k : Task) → Counts x (opening x n b m k .lex)
-  unfolding opening
-  counts-opening m k =
-      cond-elim (λ (a : Advanced). Counts x (a .lex)) (ltb (x .level) n) (λ _. record { pos = refl; head = refl }) (λ _. record { pos = refl; head = refl })
-
-  counts-keyChar : (m : Mode) (c : ℕ) → Counts x (keyChar x b m c .lex)
-  unfolding keyChar
-  counts-keyChar m c =
-      let P : Advanced → Type 0 = λ a. Counts x (a .lex) in
-      cond-elim P (ltb (x .len) 32)
-      (λ _. cond-elim P (ltb c 128) (λ _. record { pos = refl; head = refl }) (λ _. record { pos = refl; head = refl }))
-      (λ _. record { pos = refl; head = refl })
-
-  counts-acted : (a : Act) (e : Bool) (m : Mode) → Counts x (acted a e x n b m .lex)
-  counts-acted A.Fault e m = record { pos = refl; head = refl }
-  counts-acted A.Pass e m = record { pos = refl; head = refl }
-  counts-acted A.OpenArray e m = counts-opening m To.OpenArray
-  counts-acted A.OpenObject e m = counts-opening m To.OpenObject
-  counts-acted A.Close e m = record { pos = refl; head = refl }
-  counts-acted A.KeyStart e m = record { pos = refl; head = refl }
-  counts-acted A.KeyChar e m = counts-keyChar m (charIn (x .mode) (x .bits) (x .high) b)
-  counts-acted A.KeyEnd e m = record { pos = refl; head = refl }
-  counts-acted A.TextStart e m = record { pos = refl; head = refl }
-  counts-acted A.TextChar e m = record { pos = refl; head = refl }
-  counts-acted A.TextEnd e m = record { pos = refl; head = refl }
-  counts-acted A.NumberStart e m = record { pos = refl; head = refl }
-  counts-acted A.NumberByte e m = record { pos = refl; head = refl }
-  counts-acted (A.WordEnd w) e m = record { pos = refl; head = refl }
+  counts-actedBy : (f : Fault) (a : Act) (e : Bool) (m : Mode) → Counts x (actedBy f a e x n b m .lex)
+  counts-actedBy F.Sound a e m = record { pos = refl; head = refl }
+  counts-actedBy F.Malformed a e m = record { pos = refl; head = refl }
+  counts-actedBy F.TooDeep a e m = record { pos = refl; head = refl }
+  counts-actedBy F.TooLong a e m = record { pos = refl; head = refl }
 
   counts-byFault : (f : Fault) (st : Step) → Counts x (byFault f x n b st .lex)
   unfolding sound
   counts-byFault F.Sound st =
-      cond-elim (λ (a : Advanced). Counts x (a .lex)) (ltb (x .pos) longest) (λ _. counts-acted (st .act) (st .ends) (st .mode))
+      cond-elim (λ (a : Advanced). Counts x (a .lex)) (ltb (x .pos) longest) (λ _. counts-actedBy (firstFault (st .act) (x .level) n) (st .act) (st .ends) (st .mode))
       (λ _. record { pos = refl; head = refl })
   counts-byFault F.Malformed st = record { pos = refl; head = refl }
   counts-byFault F.TooDeep st = record { pos = refl; head = refl }
@@ -143,12 +119,10 @@ unfolding closeAt
 lex-perform To.Idle t m y = refl
 lex-perform (To.Put c) t m y = refl
 lex-perform To.Named t m y = refl
-lex-perform To.OpenArray t m y = refl
-lex-perform To.OpenObject t m y = refl
+lex-perform (To.Open o) t m y = refl
 lex-perform (To.Finish s) t m y = refl
-lex-perform (To.Number s) t m y = refl
 lex-perform To.Close t m y = refl
-lex-perform (To.NumberClose s) t m y = refl
+lex-perform (To.FinishClose s) t m y = refl
 
 -- each byte but RS is counted, with or without a fault and in the head too
 pub counts-stepMem : (t : Table) (n : ℕ) (m : Mem) (b : ℕ) → eqb b 0x1E ≡ false → Counts (m .lex) (stepMem t n m b .lex)

@@ -17,7 +17,7 @@ use Rattle.json.specs.declared.lexer.Mode.the-variants as M
 use Rattle.json.proofs.ByteLaws.{low-of-within, high-of-within}
 use Rattle.table.specs.declared.kind.Scalar.the-variants as K
 use Rattle.runs.specs.Runs.{beginsPart}
-use Rattle.progress.specs.Lex.{numberKind}
+use Rattle.progress.specs.Act.{numberKind}
 use Rattle.follows.specs.Follows.{ShowsNumber}
 
 -- ---- no digit begins a fraction or an exponent part

@@ -48,9 +48,11 @@ use Rattle.verdict.specs.Verdict.{longest}
 use Rattle.verdict.specs.declared.Verdict.the-variants as Is
 use Rattle.verdict.specs.Track.{sound, trackTo, trackByte}
 use Rattle.verdict.proofs.TrackLaws.{trackByte-short, trackByte-long}
+use Rattle.progress.specs.declared.Fault.the-variants as F
 use Rattle.progress.specs.declared.Lex.{Lex}
-use Rattle.progress.specs.Lex.{advanced, sound as sounding, bump, bitsIn, highIn, opening, keyChar, acted}
-use Rattle.progress.specs.declared.Task.{Task}
+use Rattle.progress.specs.declared.Advanced.{Advanced}
+use Rattle.progress.specs.Act.{openFault, openLevel, keyLen, keyTask, keptIn}
+use Rattle.progress.specs.Lex.{advance, advanced, faulted, moved, sound as sounding, bump, bitsIn, highIn, acted}
 use Rattle.progress.specs.declared.Task.the-variants as To
 use Rattle.progress.specs.Memory.{Mem, mem, valueAt, perform, stepMem}
 use Rattle.follows.specs.Follows.{PlainKeys, all-kept, ShowsText, ShowsNumber, lexAt, ShowsStack, NoRoot, AnyRoot, ShowsRoot, Shown, Follows, follows, Tracks, off-track}
@@ -171,23 +173,20 @@ module _ {t : Table} {es : List Entry} (kept : Kept t es) (plain : PlainKeys es)
   step-number m x d s r y =
       step-stays m (M.Number x) (withNumber (judging es) (gather (judging es) m g b) d) s refl refl (s .key-long) tt r tt y
 
-  -- an array or object is opened, where there is a frame for it
-  step-opened : (m : Mode) (o : Bool) (k′ : Stack (judging es)) (x : Task) → Known m
-      → ((y : Lex) → perform x t (mem (lexer m) root key w) y ≡ mem y root key (putFrame w (y .level) (opened (t .forms) o)))
-      → suc (depth (judging es) k) ≡ depth (judging es) k′
+  -- an array or object is opened, where there is a frame for it; y is what the limits make of the byte
+  step-opened : (m : Mode) (o : Bool) (k′ : Stack (judging es)) (y : Advanced) → Known m
+      → (ltb (depth (judging es) k) n ≡ true → y ≡ advance (moved (lexer m) b (M.At P.First) (depth (judging es) k + 1) len) (To.Open o))
+      → (ltb (depth (judging es) k) n ≡ false → y ≡ faulted (lexer m) F.TooDeep) → suc (depth (judging es) k) ≡ depth (judging es) k′
       → (depth (judging es) k < n → ShowsStack es (putFrame w (suc (depth (judging es) k)) (opened (t .forms) o)) k′) → NoRoot es root k′
       → Opened (judging es) k′
-      → Tracks es n (perform (opening (lexer m) n b (M.At P.First) x .task) t (mem (lexer m) root key w) (opening (lexer m) n b (M.At P.First) x .lex))
-      (trackTo es n (at (M.At P.First) (gather (judging es) m g b) k′) i)
-  unfolding opening
-  step-opened m o k′ x s f d c r p = go (ltb (depth (judging es) k) n) refl
+      → Tracks es n (perform (y .task) t (mem (lexer m) root key w) (y .lex)) (trackTo es n (at (M.At P.First) (gather (judging es) m g b) k′) i)
+  step-opened m o k′ y s fits deep d c r p = go (ltb (depth (judging es) k) n) refl
     where
       go : (v : Bool) → ltb (depth (judging es) k) n ≡ v
-          → Tracks es n (perform (opening (lexer m) n b (M.At P.First) x .task) t (mem (lexer m) root key w) (opening (lexer m) n b (M.At P.First) x .lex))
-          (trackTo es n (at (M.At P.First) (gather (judging es) m g b) k′) i)
+          → Tracks es n (perform (y .task) t (mem (lexer m) root key w) (y .lex)) (trackTo es n (at (M.At P.First) (gather (judging es) m g b) k′) i)
       go true e =
           let l = ltb-true (depth (judging es) k) n e in
-          rw (e, f _)
+          rw (fits e)
           (lands es n h (add-one (depth (judging es) k) ∙ d) (bits-gather es g b m) (high-gather es g b m)
           record {
             short = h;
@@ -202,19 +201,23 @@ module _ {t : Table} {es : List Entry} (kept : Kept t es) (plain : PlainKeys es)
           })
       go false e =
           let l = ltb-false (depth (judging es) k) n e in
-          rw e (lands-deep es n (lexer m) root key w (M.At P.First) (gather (judging es) m g b) k′ refl refl (omega arith))
+          rw (deep e) (lands-deep es n (lexer m) root key w (M.At P.First) (gather (judging es) m g b) k′ refl refl (omega arith))
 
   step-openArray : (m : Mode) → Known m → NoRoot es root k → Tracked m (stepTo (M.At P.First) A.OpenArray)
+  unfolding openFault openLevel
   step-openArray m s r p =
-      step-opened m false (in-array (startOf es arr) k) To.OpenArray s (λ y. refl) refl (λ l. shows-opened-array kept n few w (s .long) k l (s .stack)) r tt
+      step-opened m false (in-array (startOf es arr) k) (acted A.OpenArray false (lexer m) n b (M.At P.First)) s (λ e. simp e) (λ e. simp e) refl
+      (λ l. shows-opened-array kept n few w (s .long) k l (s .stack)) r tt
 
   step-openObject : (m : Mode) → Known m → NoRoot es root k → Tracked m (stepTo (M.At P.First) A.OpenObject)
+  unfolding openFault openLevel
   step-openObject m s r p =
-      step-opened m true (in-object (atOpening es) k) To.OpenObject s (λ y. refl) refl (λ l. shows-opened-object kept n few w (s .long) k l (s .stack)) r tt
+      step-opened m true (in-object (atOpening es) k) (acted A.OpenObject false (lexer m) n b (M.At P.First)) s (λ e. simp e) (λ e. simp e) refl
+      (λ l. shows-opened-object kept n few w (s .long) k l (s .stack)) r tt
 
   -- a character of a key is finished
   step-keyChar : (x : StringMode) → Known (M.Key x) → Tracked (M.Key x) (stepTo (M.Key S.Char) A.KeyChar)
-  unfolding keyChar
+  unfolding keyLen keyTask keptIn
   step-keyChar x s p = go (ltb len 32) refl (ltb c 128) refl
     where
       c : ℕ
@@ -224,10 +227,10 @@ module _ {t : Table} {es : List Entry} (kept : Kept t es) (plain : PlainKeys es)
       g′ = withString (judging es) (gather (judging es) (M.Key x) g b) (g .string ++ (c ∷ []))
 
       go : (v : Bool) → ltb len 32 ≡ v → (u : Bool) → ltb c 128 ≡ u
-          → Tracks es n (perform (keyChar (lexer (M.Key x)) b (M.Key S.Char) c .task) t (mem (lexer (M.Key x)) root key w) (keyChar (lexer (M.Key x)) b (M.Key S.Char) c .lex))
+          → Tracks es n (perform (keyTask len c) t (mem (lexer (M.Key x)) root key w) (moved (lexer (M.Key x)) b (M.Key S.Char) (depth (judging es) k) (keyLen len c)))
           (trackTo es n (at (M.Key S.Char) g′ k) i)
       go true e true f =
-          rw (e, f)
+          rw (e, f, e)
           (step-stays (M.Key x) (M.Key S.Char) g′ s refl refl (length-set key len c ∙ s .key-long) p (s .root-shown)
           (keyKept-put c (s .key-long) (ltb-true len 32 e) (s .text)) tt)
       go true e false f = rw (e, f) (step-stays (M.Key x) (M.Key S.Char) g′ s refl refl (s .key-long) p (s .root-shown) (keyKept-high key (g .string) c f) tt)

@@ -26,7 +26,7 @@ use Rattle.verdict.specs.declared.Verdict.the-variants as Is
 use Rattle.verdict.specs.Track.{Track, sound, stopped}
 use Rattle.progress.specs.declared.Fault.the-variants as F
 use Rattle.progress.specs.declared.Lex.{Lex}
-use Rattle.progress.specs.Lex.{numberKind}
+use Rattle.progress.specs.Act.{numberKind}
 use Rattle.progress.specs.Memory.{Mem, mem, stepMem}
 
 -- ---- keys

@@ -113,3 +113,10 @@ module _ (t : Table) (n : ℕ) (x : Lex) (root : Bool) (key w : List ℕ) (b : �
 -- a place in the piece up to the end, counted from the start
 pub count-fits : (len from pos end i : ℕ) → end ≡ from + min (len - from) (16777216 - pos) → pos ≤ 4294967295 → i ≤ end → pos + (i - from) ≤ 4294967295
 count-fits len from pos end i e p h = omega arith
+
+-- the bytes from there to the end make no record too long
+pub rest-fits : (len from pos end i : ℕ) → end ≡ from + min (len - from) (16777216 - pos) → from ≤ i → i < end → pos + (i - from) + (end - i) ≤ 16777216
+rest-fits len from pos end i e h l =
+    let whole : pos + (end - from) ≤ 16777216 = omega arith in
+    let split : end - from ≡ i - from + (end - i) = omega arith in
+    omega arith

@@ -5,7 +5,7 @@ use mathlib.Core.Path.{_≡_, refl, sym, ap, _∙_}
 use Prim.Native.Nat.{ℕ, _+_, _-_, _<_, _≤_, min}
 use native.Mathlib.Omega.{arith}
 use lib.Dec.{ltb}
-use lib.ListN.{length, getD, set, length-set}
+use lib.ListN.{length, getD}
 use Rattle.json.specs.Classes.{classOf}
 use Rattle.json.specs.Lexer.{leadBits, stepTo, keyStep, stepOf}
 use Rattle.json.specs.declared.class.Class.{Class}
@@ -19,12 +19,13 @@ use Rattle.table.specs.Table.{Table}
 use Rattle.progress.specs.declared.Fault.the-variants as F
 use Rattle.progress.specs.declared.Lex.{Lex}
 use Rattle.progress.specs.declared.Advanced.{Advanced}
-use Rattle.progress.specs.Lex.{bump, charIn, moved, keyChar, advanced}
-use Rattle.progress.specs.Act.{keyLen}
+use Rattle.progress.specs.Act.{keyLen, keyTask, keptIn}
+use Rattle.progress.specs.Lex.{advance, bump, charIn, moved, advanced}
 use Rattle.progress.specs.Memory.{mem, topAt, perform, stepMem}
 use Rattle.lexer.specs.Table.{classTable, classAt}
 use Rattle.lexer.proofs.TableLaws.{classAt-classTable}
-use Rattle.pass.specs.Pass.{plainClass, awaitsChar, readsOn, keepsIn, keepsChars, placed, keptIn, KeptTo}
+use Rattle.progress.proofs.ActLaws.{length-keptIn}
+use Rattle.pass.specs.Pass.{plainClass, awaitsChar, readsOn, keepsIn, keepsChars, placed, PlainAt, KeptTo}
 use Rattle.pass.proofs.ByteLaws.{advanced-acted, bump-below, never, next-run, reads-told}
 use Rattle.pass.proofs.StayLaws.{plain-below, plain-char, plain-lead, plain-other}
 
@@ -65,12 +66,12 @@ keeps-told : (x : Lex) → keepsChars x ≡ true → (x .mode ≡ M.Key S.Char) 
 unfolding keepsChars
 keeps-told x e = keeps-by (x .mode) x e
 
-key-char : (y : Lex) (t : Table) (n b : ℕ) (root : Bool) (key w : List ℕ) (v : Bool) → ltb (y .len) 32 ≡ v → ltb b 128 ≡ true
-    → perform (keyChar y b (M.Key S.Char) b .task) t (mem y root key w) (keyChar y b (M.Key S.Char) b .lex)
+key-char : (y : Lex) (t : Table) (b : ℕ) (root : Bool) (key w : List ℕ) (v : Bool) → ltb (y .len) 32 ≡ v → ltb b 128 ≡ true
+    → perform (keyTask (y .len) b) t (mem y root key w) (moved y b (M.Key S.Char) (y .level) (keyLen (y .len) b))
     ≡ mem (moved y b (M.Key S.Char) (y .level) (keyLen (y .len) b)) root (keptIn key (y .len) b) w
-unfolding keyChar keyLen keptIn
-key-char y t n b root key w true e l = simp (e, l)
-key-char y t n b root key w false e l = simp e
+unfolding keyTask keptIn
+key-char y t b root key w true e l = simp (e, l)
+key-char y t b root key w false e l = simp e
 
 key-step : (t : Table) (n : ℕ) (y : Lex) (root : Bool) (key w : List ℕ) (b : ℕ) → y .mode ≡ M.Key S.Char → y .head ≡ false → y .fault ≡ F.Sound
     → y .pos < 16777216 → b < 256 → plainClass (classOf b) ≡ true
@@ -81,8 +82,8 @@ key-step t n y root key w b m h f p l e =
     (ap (λ (k : Mode). advanced y n b (stepOf k (topAt w (y .level)) b)) m
     ∙ ap (λ (k : StringMove). advanced y n b (keyStep k)) (plain-char (classOf b) e)
     ∙ advanced-acted y n b (stepTo (M.Key S.Char) A.KeyChar) h f p (plain-other b e)
-    ∙ ap (λ (k : Mode). keyChar y b (M.Key S.Char) (charIn k (y .bits) (y .high) b)) m)
-    ∙ key-char y t n b root key w (ltb (y .len) 32) refl (plain-below b l e)
+    ∙ ap (λ (k : Mode). advance (moved y b (M.Key S.Char) (y .level) (keyLen (y .len) (charIn k (y .bits) (y .high) b))) (keyTask (y .len) (charIn k (y .bits) (y .high) b))) m)
+    ∙ key-char y t b root key w (ltb (y .len) 32) refl (plain-below b l e)
 
 -- the record behind such a character
 key-place : (x : Lex) (m : Mode) (bits p len q more b : ℕ) (root : Bool) (key next w : List ℕ) → m ≡ M.Key S.Char → bump p ≡ q → leadBits b ≡ 0
@@ -90,14 +91,6 @@ key-place : (x : Lex) (m : Mode) (bits p len q more b : ℕ) (root : Bool) (key 
     → mem (moved (placed x m bits (x .high) p len) b (M.Key S.Char) (x .level) (keyLen len b)) root (keptIn key len b) w
     ≡ mem (placed x m 0 (x .high) q more) root next w
 key-place x m bits p len q more b root key next w e f g h k = rw (e, f, h, k, g)
-
-length-keptIn : (key : List ℕ) (len c : ℕ) → length (keptIn key len c) ≡ length key
-unfolding keptIn
-length-keptIn key len c = go (ltb len 32)
-  where
-    go : (v : Bool) → length (cond v (set key len c) key) ≡ length key
-    go true = length-set key len c
-    go false = refl
 
 pub kept-none : (x : Lex) (s : List ℕ) (from : ℕ) (key : List ℕ) → from ≤ length s → KeptTo x s from key x from key
 kept-none x s from key h = record { low = omega arith; high = h; length = refl; same = λ t n root w. refl }
@@ -126,16 +119,29 @@ module _ (x : Lex) (s : List ℕ) (from : ℕ) (old : List ℕ) (o : keepsChars 
 
 -- ---- the loop, up to the end of the piece or of the longest record
 
+-- with the class of each byte from the lent table, the test is that of a plain character
+pub plain-of-lent : (s : List ℕ) (at : ℕ) (classes : List ℕ) (k : Class) (v : Bool) → getD s at 0 < 256 → classes ≡ classTable → k ≡ classAt classes (getD s at 0)
+    → v ≡ plainClass k → PlainAt s at v
+plain-of-lent s at classes k v h c e p =
+    record {
+      small = h;
+      told = p ∙ ap plainClass (e ∙ ap (λ (t : List ℕ). classAt t (getD s at 0)) c ∙ classAt-classTable (getD s at 0) h);
+    }
+
 pub kept-start : (x : Lex) (s : List ℕ) (from : ℕ) (key : List ℕ) → from ≤ length s
     → KeptTo x s from key (placed x (x .mode) (x .bits) (x .high) (x .pos + (from - from)) (x .len)) from key
 kept-start x s from key h = let z : x .pos + (from - from) ≡ x .pos = omega arith in rw z (kept-none x s from key h)
 
+-- the record y as it was put together
+pub kept-at : (x : Lex) (s : List ℕ) (from : ℕ) (old : List ℕ) (y z : Lex) (at : ℕ) (key : List ℕ) → y ≡ z → KeptTo x s from old z at key → KeptTo x s from old y at key
+kept-at x s from old y z at key e r = rw e r
+
 module _ (x : Lex) (s : List ℕ) (from end : ℕ) (old : List ℕ) (o : keepsChars x ≡ true) (w : from ≤ length s)
     (d : end ≡ from + min (length s - from) (16777216 - x .pos)) where
-  pub kept-on : (bits len i more : ℕ) (key next classes : List ℕ) (k : Class) (v : Bool)
-      → KeptTo x s from old (placed x (x .mode) bits (x .high) (x .pos + (i - from)) len) i key → i < end → getD s i 0 < 256 → classes ≡ classTable
-      → k ≡ classAt classes (getD s i 0) → v ≡ plainClass k → v ≡ true → next ≡ keptIn key len (getD s i 0) → more ≡ keyLen len (getD s i 0)
+  pub kept-on : (bits len i more : ℕ) (key next : List ℕ) (v : Bool)
+      → KeptTo x s from old (placed x (x .mode) bits (x .high) (x .pos + (i - from)) len) i key → i < end → PlainAt s i v → v ≡ true
+      → next ≡ keptIn key len (getD s i 0) → more ≡ keyLen len (getD s i 0)
       → KeptTo x s from old (placed x (x .mode) 0 (x .high) (x .pos + (i + 1 - from)) more) (i + 1) next
-  kept-on bits len i more key next classes k v r l b c e p q g u =
-      keep-on x s from old o bits (x .pos + (i - from)) len i (x .pos + (i + 1 - from)) more key next r (omega arith) (omega (arith, r .low)) b
-      (ap plainClass (sym (e ∙ ap (λ (t : List ℕ). classAt t (getD s i 0)) c ∙ classAt-classTable (getD s i 0) b)) ∙ sym p ∙ q) g u (omega (arith, r .low))
+  kept-on bits len i more key next v r l p q g u =
+      keep-on x s from old o bits (x .pos + (i - from)) len i (x .pos + (i + 1 - from)) more key next r (omega arith) (omega (arith, r .low)) (p .small)
+      (sym (p .told) ∙ q) g u (omega (arith, r .low))

@@ -4,6 +4,7 @@ use mathlib.Core.List.{List}
 use mathlib.Core.Path.{_≡_, refl, sym, ap, _∙_}
 use Prim.Native.Nat.{ℕ, suc, _+_, _-_, _<_, _≤_, min}
 use native.Mathlib.Omega.{arith}
+use native.Mathlib.Decide.{decLt}
 use lib.Dec.{ltb}
 use lib.ListN.{length, getD, drop}
 use borrow.Author.Tests.{le-ltb, ltb-true, ltb-false}
@@ -16,12 +17,13 @@ use Rattle.progress.specs.declared.Fault.{Fault}
 use Rattle.progress.specs.declared.Fault.the-variants as F
 use Rattle.progress.specs.declared.Lex.{Lex}
 use Rattle.progress.specs.Lex.{bitsIn, highIn, sound, advanced}
-use Rattle.progress.specs.Memory.{mem, runMem}
+use Rattle.progress.specs.Memory.{mem, topAt, runMem}
 use Rattle.lexer.specs.Table.{classTable, classAt}
 use Rattle.lexer.specs.Given.{stepBy}
 use Rattle.lexer.proofs.GivenLaws.{stepBy-classTable}
-use Rattle.pass.specs.Pass.{StayedTo, bitsOver, passes, isSound, readsOn, placed, RunsTo, PassedTo}
-use Rattle.pass.proofs.ByteLaws.{bump-below, never, next-run, passes-quiet, quiet-step, reads-told}
+use Rattle.pass.specs.Pass.{StayedTo, bitsOver, passes, isSound, readsOn, placed, stood, RunsTo, LeapsTo, PassedTo}
+use Rattle.pass.specs.declared.Stand.{Stand}
+use Rattle.pass.proofs.ByteLaws.{bump-below, never, next-run, passes-quiet, quiet-step, reads-told, rest-fits}
 use Rattle.pass.proofs.StayLaws.{stay-some}
 
 -- ---- passing over: the record x is read
@@ -29,77 +31,107 @@ use Rattle.pass.proofs.StayLaws.{stay-some}
 pub runs-none : (x : Lex) (top : Top) (s : List ℕ) (from : ℕ) → from ≤ length s → RunsTo x top s from x from
 runs-none x top s from h = record { low = omega arith; high = h; level = refl; same = λ t n root key w e. refl }
 
-module _ (x : Lex) (top : Top) (s : List ℕ) (from : ℕ) (o : readsOn x ≡ true) where
+-- one way over bytes after another
+runs-on : {x y z : Lex} {top : Top} {s : List ℕ} {i j k : ℕ} → RunsTo x top s i y j → RunsTo y top s j z k → RunsTo x top s i z k
+runs-on r q =
+    record {
+      low = omega (arith, r .low, q .low);
+      high = q .high;
+      level = q .level ∙ r .level;
+      same = λ t n root key w e. q .same t n root key w (ap (topAt w) (r .level) ∙ e) ∙ r .same t n root key w e;
+    }
+
+module _ (x : Lex) (top : Top) (s : List ℕ) (o : readsOn x ≡ true) where
   -- over bytes that leave the mode as it is
-  pub stay-on : (m : Mode) (bits high p i end j q : ℕ) → RunsTo x top s from (placed x m bits high p (x .len)) i → StayedTo m s i end j → end ≤ length s
-      → q ≡ p + (j - i) → (i < j → q ≤ 16777216) → RunsTo x top s from (placed x m (bitsOver (ltb i j) m bits) high q (x .len)) j
+  stay-on : (i end j : ℕ) → StayedTo (x .mode) s i end j → end ≤ length s → x .pos + (end - i) ≤ 16777216
+      → RunsTo x top s i (placed x (x .mode) (bitsOver (ltb i j) (x .mode) (x .bits)) (x .high) (x .pos + (j - i)) (x .len)) j
   unfolding bitsOver
-  stay-on m bits high p i end j q r g l e v =
-      record {
-        low = omega (arith, r .low, g .low);
-        high = omega (arith, g .high);
-        level = refl;
-        same = λ t n root key w z. go (ltb i j) refl t n root key w ∙ r .same t n root key w z;
-      }
+  stay-on i end j g l v =
+      record { low = g .low; high = omega (arith, g .high); level = refl; same = λ t n root key w z. go (ltb i j) refl t n root key w }
     where
       go : (y : Bool) → ltb i j ≡ y → (t : Table) (n : ℕ) (root : Bool) (key w : List ℕ)
-          → runMem t n (mem (placed x m (cond (ltb i j) (bitsIn m bits 0x20) bits) high q (x .len)) root key w) j (drop j s)
-          ≡ runMem t n (mem (placed x m bits high p (x .len)) root key w) i (drop i s)
+          → runMem t n (mem (placed x (x .mode) (cond (ltb i j) (bitsIn (x .mode) (x .bits) 0x20) (x .bits)) (x .high) (x .pos + (j - i)) (x .len)) root key w) j (drop j s)
+          ≡ runMem t n (mem x root key w) i (drop i s)
       go true y t n root key w =
           let less : i < j = ltb-true i j y in
-          let u : q ≡ p + suc (j - i - 1) = omega arith in
-          let c : j ≡ i + suc (j - i - 1) = omega arith in
-          let top-most : q ≤ 16777216 = v less in
+          let d = j - i - 1 in
+          let u : x .pos + (j - i) ≡ x .pos + suc d = omega arith in
+          let c : j ≡ i + suc d = omega arith in
           let told = reads-told x o in
           rw (y, u)
-          (ap (λ (k : ℕ). runMem t n (mem (placed x m (bitsIn m bits 0x20) high (p + suc (j - i - 1)) (x .len)) root key w) k (drop k s)) c
-          ∙ stay-some t n x m high (x .len) root key w s (told .0) (told .1) (j - i - 1) bits p i (omega (arith, g .high)) (omega arith)
+          (ap (λ (k : ℕ). runMem t n (mem (placed x (x .mode) (bitsIn (x .mode) (x .bits) 0x20) (x .high) (x .pos + suc d) (x .len)) root key w) k (drop k s)) c
+          ∙ stay-some t n x (x .mode) (x .high) (x .len) root key w s (told .0) (told .1) d (x .bits) (x .pos) i (omega (arith, g .high)) (omega (arith, g .high))
           (λ k a b. g .stays k a (omega arith)))
       go false y t n root key w =
           let c : j ≡ i = omega (arith, ltb-false i j y, g .low) in
-          let u : q ≡ p = omega arith in
+          let u : x .pos + (j - i) ≡ x .pos = omega arith in
           rw (y, u, c)
 
   -- over a byte with a quiet act
-  pub pass-on : (m : Mode) (bits high p i q : ℕ) (st : Step) → RunsTo x top s from (placed x m bits high p (x .len)) i → i < length s → p < 16777216
-      → st ≡ stepOf m top (getD s i 0) → passes (st .act) (st .ends) (getD s i 0) ≡ true → q ≡ p + 1
-      → RunsTo x top s from (placed x (st .mode) (bitsIn m bits (getD s i 0)) (highIn m bits high (getD s i 0)) q (x .len)) (i + 1)
-  pass-on m bits high p i q st r l v e c u =
+  pass-on : (i : ℕ) (st : Step) → i < length s → x .pos < 16777216 → st ≡ stepOf (x .mode) top (getD s i 0)
+      → passes (st .act) (st .ends) (getD s i 0) ≡ true
+      → RunsTo x top s i (placed x (st .mode) (bitsIn (x .mode) (x .bits) (getD s i 0)) (highIn (x .mode) (x .bits) (x .high) (getD s i 0)) (x .pos + 1) (x .len)) (i + 1)
+  pass-on i st l v e c =
       let told = reads-told x o in
+      let b = getD s i 0 in
       record {
-        low = omega (arith, r .low);
+        low = omega arith;
         high = omega arith;
         level = refl;
         same = λ t n root key w z.
-            rw u
-            (next-run t n (mem (placed x m bits high p (x .len)) root key w)
-            (mem (placed x (st .mode) (bitsIn m bits (getD s i 0)) (highIn m bits high (getD s i 0)) (p + 1) (x .len)) root key w) s i l
-            (passes-quiet (st .act) (st .ends) (getD s i 0) c .0)
-            (rw (← bump-below p v)
-            (quiet-step t n (placed x m bits high p (x .len)) root key w (getD s i 0) (told .0) (told .1) v st
-            (e ∙ ap (λ (k : Top). stepOf m k (getD s i 0)) (sym z)) c))
-            ∙ r .same t n root key w z);
+            next-run t n (mem x root key w)
+            (mem (placed x (st .mode) (bitsIn (x .mode) (x .bits) b) (highIn (x .mode) (x .bits) (x .high) b) (x .pos + 1) (x .len)) root key w) s i l
+            (passes-quiet (st .act) (st .ends) b c .0)
+            (rw (← bump-below (x .pos) v)
+            (quiet-step t n x root key w b (told .0) (told .1) v st (e ∙ ap (λ (k : Top). stepOf (x .mode) k b) (sym z)) c));
       }
 
-  -- ---- the ways out
+-- ---- some bytes passed over
 
-  -- at a byte that is not passed over
-  pub out-step : (y : Lex) (i : ℕ) (st : Step) → RunsTo x top s from y i → st ≡ stepOf (y .mode) top (getD s i 0) → PassedTo x top s from y i st
-  out-step y i st r e = record { runs = r; step = λ n h. ap (λ (z : Step). advanced y n (getD s i 0) z) e }
+-- with the class of each byte from the lent table, a step is the lexer's
+pub step-of-lent : (m : Mode) (top : Top) (b : ℕ) (classes : List ℕ) (st : Step) → b < 256 → classes ≡ classTable → st ≡ stepBy (classAt classes b) m top b → st ≡ stepOf m top b
+step-of-lent m top b classes st h c a = a ∙ ap (λ (k : List ℕ). stepBy (classAt k b) m top b) c ∙ stepBy-classTable m top b h
 
-  too-long : (y : Lex) (n b : ℕ) (a z : Step) → y .head ≡ false → y .fault ≡ F.Sound → 16777216 ≤ y .pos → advanced y n b a ≡ advanced y n b z
-  unfolding advanced sound
-  too-long y n b a z h f p = rw (h, f, le-ltb (y .pos) 16777216 p)
+abbrev stand : Mode → ℕ → ℕ → Stand
+stand m bits high = record { mode = m; bits = bits; high = high }
 
-  -- at the end of the piece, or where the record is too long
-  pub out-end : (m : Mode) (bits high p i : ℕ) (st : Step) → RunsTo x top s from (placed x m bits high p (x .len)) i → (i < length s → 16777216 ≤ p)
-      → PassedTo x top s from (placed x m bits high p (x .len)) i st
-  out-end m bits high p i st r l =
-      let told = reads-told x o in
-      record {
-        runs = r;
-        step = λ n h. too-long (placed x m bits high p (x .len)) n (getD s i 0) st (stepOf m top (getD s i 0)) (told .0) (told .1) (l h);
-      }
+-- up to j they leave the mode as it is
+module _ (p : Stand) (top : Top) (s : List ℕ) (from end j bits : ℕ) (h : end ≤ length s) (g : StayedTo (p .mode) s from end j)
+    (e : bits ≡ bitsOver (ltb from j) (p .mode) (p .bits)) where
+  stayed : (x : Lex) (pos : ℕ) → readsOn x ≡ true → pos + (end - from) ≤ 16777216
+      → RunsTo (stood x p pos) top s from (stood x (stand (p .mode) bits (p .high)) (pos + (j - from))) j
+  unfolding readsOn
+  stayed x pos o q = rw e (stay-on (stood x p pos) top s o from end j g h q)
+
+  -- that is the end
+  pub leap-end : (st : Step) → j ≡ end → LeapsTo p top s from end (stand (p .mode) bits (p .high)) j st false
+  leap-end st q =
+      record { low = g .low; high = g .high; further = λ n. never n; runs = stayed; step = λ n l. absurd (omega arith) }
+
+  -- of the byte there the lexer makes the step st
+  module _ (st : Step) (a : st ≡ stepOf (p .mode) top (getD s j 0)) where
+    -- which is not passed over
+    pub leap-stop : LeapsTo p top s from end (stand (p .mode) bits (p .high)) j st false
+    leap-stop = record { low = g .low; high = g .high; further = λ n. never n; runs = stayed; step = λ n l. a }
+
+    -- which is passed over
+    pub leap-on : (more next : ℕ) (v : Bool) → (j ≡ end → ⊥) → v ≡ passes (st .act) (st .ends) (getD s j 0) → v ≡ true
+        → next ≡ highIn (p .mode) bits (p .high) (getD s j 0) → more ≡ bitsIn (p .mode) bits (getD s j 0)
+        → LeapsTo p top s from end (stand (st .mode) more next) (j + 1) st true
+    unfolding readsOn
+    leap-on more next v l q y f d =
+        let less : j < end = omega (arith, g .high) in
+        record {
+          low = omega (arith, g .low);
+          high = omega arith;
+          further = λ n. omega (arith, g .low);
+          runs = λ x pos o z.
+              let k : pos + (j + 1 - from) ≡ pos + (j - from) + 1 = omega (arith, g .low) in
+              runs-on (stayed x pos o z)
+              (rw (k, f, d)
+              (pass-on (stood x (stand (p .mode) bits (p .high)) (pos + (j - from))) top s o j st (omega arith) (omega (arith, g .low)) a (sym q ∙ y)));
+          step = λ n z. never (sym n);
+        }
 
 -- of a record that is not read the step does not matter
 unread-by : (x : Lex) (n b : ℕ) (a z : Step) (h : Bool) (f : Fault) → x .head ≡ h → x .fault ≡ f → cond h false (isSound f) ≡ false → advanced x n b a ≡ advanced x n b z
@@ -124,30 +156,39 @@ pub runs-start : (x : Lex) (top : Top) (s : List ℕ) (from : ℕ) → from ≤ 
     → RunsTo x top s from (placed x (x .mode) (x .bits) (x .high) (x .pos + (from - from)) (x .len)) from
 runs-start x top s from h = let z : x .pos + (from - from) ≡ x .pos = omega arith in rw z (runs-none x top s from h)
 
+too-long : (y : Lex) (n b : ℕ) (a z : Step) → y .head ≡ false → y .fault ≡ F.Sound → 16777216 ≤ y .pos → advanced y n b a ≡ advanced y n b z
+unfolding advanced sound
+too-long y n b a z h f p = rw (h, f, le-ltb (y .pos) 16777216 p)
+
 module _ (x : Lex) (top : Top) (s : List ℕ) (from end : ℕ) (o : readsOn x ≡ true) (w : from ≤ length s)
     (d : end ≡ from + min (length s - from) (16777216 - x .pos)) where
-  pub stayed-on : (m : Mode) (bits high i j more : ℕ) → RunsTo x top s from (placed x m bits high (x .pos + (i - from)) (x .len)) i → StayedTo m s i end j
-      → more ≡ bitsOver (ltb i j) m bits → RunsTo x top s from (placed x m more high (x .pos + (j - from)) (x .len)) j
-  stayed-on m bits high i j more r g e =
+  -- at the end of the piece, or where the record is too long
+  pub out-at-end : (p : Stand) (i : ℕ) (y : Lex) (st : Step) → RunsTo x top s from (stood x p (x .pos + (i - from))) i
+      → y ≡ stood x p (x .pos + (i - from)) → end ≤ i → PassedTo x top s from y i st
+  out-at-end p i y st r e l =
+      let told = reads-told x o in
       rw e
-      (stay-on x top s from o m bits high (x .pos + (i - from)) i end j (x .pos + (j - from)) r g (omega arith) (omega (arith, r .low, g .low))
-      (λ l. omega (arith, r .low, g .high)))
+      record {
+        runs = r;
+        step = λ n h.
+            too-long (stood x p (x .pos + (i - from))) n (getD s i 0) st (stepOf (p .mode) top (getD s i 0)) (told .0) (told .1) (omega (arith, r .low));
+      }
 
-  pub out-at-end : (m : Mode) (bits high i : ℕ) (y : Lex) (st : Step) → RunsTo x top s from (placed x m bits high (x .pos + (i - from)) (x .len)) i
-      → y ≡ placed x m bits high (x .pos + (i - from)) (x .len) → end ≤ i → PassedTo x top s from y i st
-  out-at-end m bits high i y st r e l = rw e (out-end x top s from o m bits high (x .pos + (i - from)) i st r (λ h. omega (arith, r .low)))
+  -- after some bytes more
+  module _ (p q : Stand) (i j : ℕ) (st : Step) (on : Bool) (r : RunsTo x top s from (stood x p (x .pos + (i - from))) i) (g : LeapsTo p top s i end q j st on)
+      (h : i < end) where
+    pub leapt : RunsTo x top s from (stood x q (x .pos + (j - from))) j
+    leapt =
+        let z : x .pos + (j - from) ≡ x .pos + (i - from) + (j - i) = omega (arith, r .low, g .low) in
+        runs-on r (rw z (g .runs x (x .pos + (i - from)) o (rest-fits (length s) from (x .pos) end i d (r .low) h)))
 
-  module _ (m : Mode) (bits high i : ℕ) (classes : List ℕ) (st : Step) (r : RunsTo x top s from (placed x m bits high (x .pos + (i - from)) (x .len)) i)
-      (b : getD s i 0 < 256) (c : classes ≡ classTable) (a : st ≡ stepBy (classAt classes (getD s i 0)) m top (getD s i 0)) where
-    own-step : st ≡ stepOf m top (getD s i 0)
-    own-step = a ∙ ap (λ (k : List ℕ). stepBy (classAt k (getD s i 0)) m top (getD s i 0)) c ∙ stepBy-classTable m top (getD s i 0) b
+    pub leap-less : on ≡ true → end - j < end - i
+    leap-less e = omega (arith, g .further e, g .high)
 
-    pub out-at-byte : (y : Lex) → y ≡ placed x m bits high (x .pos + (i - from)) (x .len) → PassedTo x top s from y i st
-    out-at-byte y e = rw e (out-step x top s from o (placed x m bits high (x .pos + (i - from)) (x .len)) i st r own-step)
-
-    pub passed-on : (more next : ℕ) (v : Bool) → i < end → v ≡ passes (st .act) (st .ends) (getD s i 0) → v ≡ true → next ≡ highIn m bits high (getD s i 0)
-        → more ≡ bitsIn m bits (getD s i 0) → RunsTo x top s from (placed x (st .mode) more next (x .pos + (i + 1 - from)) (x .len)) (i + 1)
-    passed-on more next v l p q g e =
-        rw (e, g)
-        (pass-on x top s from o m bits high (x .pos + (i - from)) i (x .pos + (i + 1 - from)) st r (omega arith) (omega (arith, r .low)) own-step (sym p ∙ q)
-        (omega (arith, r .low)))
+    -- at a byte that is not passed over
+    pub out-leapt : (y : Lex) → on ≡ false → y ≡ stood x q (x .pos + (j - from)) → PassedTo x top s from y j st
+    out-leapt y n e = go (decLt j end)
+      where
+        go : Dec (j < end) → PassedTo x top s from y j st
+        go (yes l) = rw e record { runs = leapt; step = λ k u. ap (λ (z : Step). advanced (stood x q (x .pos + (j - from))) k (getD s j 0) z) (g .step n l) }
+        go (no l) = out-at-end q j y st leapt e (omega arith)

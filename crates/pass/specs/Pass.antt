@@ -3,9 +3,9 @@
 use mathlib.Core.Bool.{Bool, true, false, cond}
 use mathlib.Core.List.{List}
 use mathlib.Core.Path.{_≡_}
-use Prim.Native.Nat.{ℕ, _≤_, _<_}
-use lib.Dec.{eqb, ltb}
-use lib.ListN.{length, getD, drop, set}
+use Prim.Native.Nat.{ℕ, _+_, _-_, _≤_, _<_}
+use lib.Dec.{eqb}
+use lib.ListN.{length, getD, drop}
 use Rattle.json.specs.Bytes.{isBlank}
 use Rattle.json.specs.Numbers.{isDigit}
 use Rattle.json.specs.Classes.{classOf}
@@ -28,6 +28,7 @@ use Rattle.progress.specs.declared.Fault.the-variants as F
 use Rattle.progress.specs.declared.Lex.{Lex}
 use Rattle.progress.specs.Lex.{bitsIn, advanced}
 use Rattle.progress.specs.Memory.{mem, topAt, runMem}
+use Rattle.pass.specs.declared.Stand.{Stand}
 
 -- ---- bytes that leave the mode as it is
 
@@ -101,7 +102,7 @@ pub record StayedTo (m : Mode) (s : List ℕ) (from end at : ℕ) : Type 0 where
   pub high : at ≤ end
   pub stays : (k : ℕ) → from ≤ k → k < at → (getD s k 0 < 256) × (staysIn (classOf (getD s k 0)) m (getD s k 0) ≡ true)
 
--- the bits of an open character behind them, if there are some
+-- the bits of an open character after them, if there are some
 unfoldable pub bitsOver : Bool → Mode → ℕ → ℕ
 bitsOver some m bits = cond some (bitsIn m bits 0x20) bits
 
@@ -151,7 +152,7 @@ keepsIn (M.Word w i) x = false
 unfoldable pub keepsChars : Lex → Bool
 keepsChars x = keepsIn (x .mode) x
 
--- the same record at another mode, with other registers, behind pos bytes, with len characters of its key
+-- the same record at another mode, with other registers, after pos bytes, with len characters of its key
 abbrev pub placed : Lex → Mode → ℕ → ℕ → ℕ → ℕ → Lex
 placed x m bits high pos len =
     record { mode = m; fault = x .fault; head = x .head; level = x .level; pos = pos; place = x .place; bits = bits; high = high; len = len }
@@ -166,18 +167,32 @@ pub record RunsTo (x : Lex) (top : Top) (s : List ℕ) (from : ℕ) (y : Lex) (a
   pub same : (t : Table) (n : ℕ) (root : Bool) (key w : List ℕ) → topAt w (x .level) ≡ top
       → runMem t n (mem y root key w) at (drop at s) ≡ runMem t n (mem x root key w) from (drop from s)
 
--- and of a byte behind them the limits make with the step st what they make of its own
+-- the record x with its reader at p, after pos bytes
+abbrev pub stood : Lex → Stand → ℕ → Lex
+stood x p pos = placed x (p .mode) (p .bits) (p .high) pos (x .len)
+
+-- a reader that stands at p and passes over the bytes of s from one place to another, the latter not past an end, stands at `to`; on tells whether
+-- more may be passed over, and where not, st is the step of the byte there, if that is before the end
+pub record LeapsTo (p : Stand) (top : Top) (s : List ℕ) (from end : ℕ) (to : Stand) (at : ℕ) (st : Step) (on : Bool) : Type 0 where
+  pub low : from ≤ at
+  pub high : at ≤ end
+  pub further : on ≡ true → from < at
+  pub runs : (x : Lex) (pos : ℕ) → readsOn x ≡ true → pos + (end - from) ≤ 16777216 → RunsTo (stood x p pos) top s from (stood x to (pos + (at - from))) at
+  pub step : on ≡ false → at < end → st ≡ stepOf (to .mode) top (getD s at 0)
+
+-- and of the byte there the limits make with the step st what they make of its own
 pub record PassedTo (x : Lex) (top : Top) (s : List ℕ) (from : ℕ) (y : Lex) (at : ℕ) (st : Step) : Type 0 where
   pub runs : RunsTo x top s from y at
   pub step : (n : ℕ) → at < length s → advanced y n (getD s at 0) st ≡ advanced y n (getD s at 0) (stepOf (y .mode) top (getD s at 0))
 
 -- ---- the characters of a key
 
--- the key with a character more, where fewer than 32 are kept
-unfoldable pub keptIn : List ℕ → ℕ → ℕ → List ℕ
-keptIn key len c = cond (ltb len 32) (set key len c) key
+-- v tells whether the byte of s at a place is a whole character of a string
+pub record PlainAt (s : List ℕ) (at : ℕ) (v : Bool) : Type 0 where
+  pub small : getD s at 0 < 256
+  pub told : v ≡ plainClass (classOf (getD s at 0))
 
--- the bytes of s from one place to another make y of the record x and put to the key what it has behind them
+-- the bytes of s from one place to another make y of the record x and put to the key what it has after them
 pub record KeptTo (x : Lex) (s : List ℕ) (from : ℕ) (key : List ℕ) (y : Lex) (at : ℕ) (kept : List ℕ) : Type 0 where
   pub low : from ≤ at
   pub high : at ≤ length s

@@ -2,11 +2,12 @@
 // in a loop of its own.
 ghost use mathlib.Core.Bool.{true, false, cond};
 ghost use mathlib.Core.Path.{_≡_};
-ghost use Prim.Native.Nat.{_+_, _-_, _≤_, min};
-ghost use lib.ListN.{length};
+ghost use Prim.Native.Nat.{_+_, _-_, _<_, _≤_, min};
+ghost use lib.ListN.{length, getD};
+ghost use Rattle.json.specs.Lexer.{stepOf};
 ghost use Rattle.json.specs.Numbers.{isDigit};
 ghost use Rattle.lexer.specs.Table.{classTable, classAt};
-ghost use Rattle.pass.specs.Pass.{plainClass, awaitsChar, inDigits, staysIn, StayedTo, bitsOver, isQuiet, passes, readsOn, keepsChars, placed, PassedTo, keptIn, KeptTo};
+ghost use Rattle.pass.specs.Pass.{plainClass, awaitsChar, inDigits, staysIn, StayedTo, bitsOver, isQuiet, passes, readsOn, keepsChars, placed, LeapsTo, PassedTo, PlainAt, KeptTo};
 use json::class::Class;
 use json::lexer::Act;
 use json::lexer::Mode;
@@ -17,15 +18,33 @@ use json::number::NumberMode;
 use json::string::StringMode;
 use progress::Fault;
 use progress::Lex;
+use progress::key;
+use progress::register;
 
-// Behind the bytes passed over: what is known of the record, where that is in the piece, and the step that the lexer makes of the byte there.
+// Where the reader stands in the record: the mode, and the registers of an open character.
+pub struct Stand {
+    pub mode: Mode,
+    pub bits: u32,
+    pub high: u32,
+}
+
+// Some bytes passed over: where the reader stands after them, where that is in the piece, the step that the lexer makes of the byte there, and
+// whether more may be passed over.
+struct Leap {
+    to: Stand,
+    at: usize,
+    step: Step,
+    on: bool,
+}
+
+// After the bytes passed over: what is known of the record, where that is in the piece, and the step that the lexer makes of the byte there.
 pub struct Passed {
     pub lex: Lex,
     pub at: usize,
     pub step: Step,
 }
 
-// Behind the characters of a key: what is known of the record, and where that is in the piece.
+// After the characters of a key: what is known of the record, and where that is in the piece.
 pub struct Kept {
     pub lex: Lex,
     pub at: usize,
@@ -135,7 +154,7 @@ fn stays(classes: &[u8; 256], m: Mode, b: u8) -> bool
     }
 }
 
-// Behind the bytes that leave the mode as it is.
+// The place after the bytes that leave the mode as it is.
 fn stay_end<'a>(classes: &'a [u8; 256], m: Mode, s: &'a [u8], from: usize, end: usize) -> usize
     requires { ⌜ (now classes ≡ classTable) × (from ≤ end) × (end ≤ length (now s)) ⌝ }
     ensures { λ r. ⌜ StayedTo m (now (s .entry)) from end r ⌝ }
@@ -156,7 +175,7 @@ fn bits_over(some: bool, m: Mode, bits: u32) -> u32
     ensures { λ r. ⌜ r ≡ bitsOver some m bits ⌝ }
 {
     if some {
-        return progress::bits_in(m, bits, 0x20);
+        return register::bits_in(m, bits, 0x20);
     }
     bits
 }
@@ -228,10 +247,11 @@ fn room(len: usize, from: usize, pos: u32) -> usize
 }
 
 // The record x at another mode, with other registers, and count bytes further.
-fn place_at(x: Lex, m: Mode, bits: u32, high: u32, count: usize, len: u8) -> Lex
+fn place_at(x: Lex, p: Stand, count: usize, len: u8) -> Lex
     requires { ⌜ x .pos + count ≤ 4294967295 ⌝ }
-    ensures { λ r. ⌜ r ≡ placed x m bits high (x .pos + count) len ⌝ }
+    ensures { λ r. ⌜ r ≡ placed x (p .mode) (p .bits) (p .high) (x .pos + count) len ⌝ }
 {
+    let m = p.mode;
     let f = x.fault;
     Lex {
         mode: m,
@@ -240,8 +260,8 @@ fn place_at(x: Lex, m: Mode, bits: u32, high: u32, count: usize, len: u8) -> Lex
         level: x.level,
         pos: x.pos + (count as u32),
         place: x.place,
-        bits: bits,
-        high: high,
+        bits: p.bits,
+        high: p.high,
         len: len,
     }
 }
@@ -252,6 +272,70 @@ fn no_step() -> Step {
         mode: Mode::At(Place::Value),
         ends: false,
         act: Act::Fault,
+    }
+}
+
+// The step that the lexer makes of the byte at a place of the piece.
+fn step_at<'a>(classes: &'a [u8; 256], m: Mode, top: Top, s: &'a [u8], at: usize) -> Step
+    requires { ⌜ (now classes ≡ classTable) × (at < length (now s)) ⌝ }
+    ensures { λ r. ⌜ r ≡ stepOf m top (getD (now (s .entry)) at 0) ⌝ }
+{
+    lexer::step::step(classes, m, top, s[at])
+}
+
+// Passes over the bytes that leave the mode as it is, and over the byte after them where its act is quiet.
+fn pass_some<'a>(
+    classes: &'a [u8; 256],
+    p: Stand,
+    top: Top,
+    s: &'a [u8],
+    from: usize,
+    end: usize,
+) -> Leap
+    requires { ⌜ (now classes ≡ classTable) × (from ≤ end) × (end ≤ length (now s)) ⌝ }
+    ensures { λ r. ⌜ LeapsTo p top (now (s .entry)) from end (r .to) (r .at) (r .step) (r .on) ⌝ }
+{
+    let m = p.mode;
+    let j = stay_end(classes, m, s, from, end);
+    let bits = bits_over(from < j, m, p.bits);
+    if j == end {
+        return Leap {
+            to: Stand {
+                mode: m,
+                bits: bits,
+                high: p.high,
+            },
+            at: j,
+            step: no_step(),
+            on: false,
+        };
+    }
+    let b = s[j];
+    let st = step_at(classes, m, top, s, j);
+    let a = st.act;
+    if passes(a, st.ends, b) {
+        let next = st.mode;
+        let high = register::high_in(m, bits, p.high, b);
+        return Leap {
+            to: Stand {
+                mode: next,
+                bits: register::bits_in(m, bits, b),
+                high: high,
+            },
+            at: j + 1,
+            step: st,
+            on: true,
+        };
+    }
+    Leap {
+        to: Stand {
+            mode: m,
+            bits: bits,
+            high: p.high,
+        },
+        at: j,
+        step: st,
+        on: false,
     }
 }
 
@@ -267,38 +351,29 @@ fn pass_to<'a>(
     requires { ⌜ (now classes ≡ classTable) × (readsOn x ≡ true) × (from ≤ length (now s)) × (end ≡ from + min (length (now s) - from) (16777216 - x .pos)) ⌝ }
     ensures { λ r. ⌜ PassedTo x top (now (s .entry)) from (r .lex) (r .at) (r .step) ⌝ }
 {
-    let mut m = x.mode;
-    let mut bits = x.bits;
-    let mut high = x.high;
+    let m = x.mode;
+    let mut p = Stand {
+        mode: m,
+        bits: x.bits,
+        high: x.high,
+    };
     let mut i = from;
     while i < end {
-        let j = stay_end(classes, m, s, i, end);
-        bits = bits_over(i < j, m, bits);
-        if j == end {
+        let l = pass_some(classes, p, top, s, i, end);
+        let to = l.to;
+        p = to;
+        i = l.at;
+        if l.on {} else {
+            let st = l.step;
             return Passed {
-                lex: place_at(x, m, bits, high, j - from, x.len),
-                at: j,
-                step: no_step(),
-            };
-        }
-        let b = s[j];
-        let st = lexer::step::step(classes, m, top, b);
-        let a = st.act;
-        if passes(a, st.ends, b) {} else {
-            return Passed {
-                lex: place_at(x, m, bits, high, j - from, x.len),
-                at: j,
+                lex: place_at(x, p, i - from, x.len),
+                at: i,
                 step: st,
             };
         }
-        high = progress::high_in(m, bits, high, b);
-        bits = progress::bits_in(m, bits, b);
-        let next = st.mode;
-        m = next;
-        i = j + 1;
     }
     Passed {
-        lex: place_at(x, m, bits, high, i - from, x.len),
+        lex: place_at(x, p, i - from, x.len),
         at: i,
         step: no_step(),
     }
@@ -339,13 +414,12 @@ fn keeps_chars(x: Lex) -> bool
     }
 }
 
-// Keeps a character of the key where fewer than 32 are kept.
-fn keep_char(key: &mut [u8], len: u8, c: u8)
-    ensures { λ _. ⌜ now (key .exit) ≡ keptIn (now (key .entry)) len c ⌝ }
+// The byte at a place of the piece is a whole character of a string.
+fn plain_at<'a>(classes: &'a [u8; 256], s: &'a [u8], at: usize) -> bool
+    requires { ⌜ (now classes ≡ classTable) × (at < length (now s)) ⌝ }
+    ensures { λ r. ⌜ PlainAt (now (s .entry)) at r ⌝ }
 {
-    if len < 32 {
-        turn::put_char(key, len, c);
-    }
+    plain_class(lexer::class::class_in(classes, s[at]))
 }
 
 // Keeps the plain characters of a key up to a place where the record is not too long yet.
@@ -365,20 +439,22 @@ fn keep_to<'a>(
     let mut len = x.len;
     let mut i = from;
     while i < end {
-        let b = s[i];
-        if plain_class(lexer::class::class_in(classes, b)) {} else {
-            return Kept {
-                lex: place_at(x, m, bits, x.high, i - from, len),
-                at: i,
-            };
+        if plain_at(classes, s, i) {} else {
+            break;
         }
-        keep_char(key, len, b);
-        len = progress::key_len(len, b as u32);
+        let b = s[i];
+        key::keep_char(key, len, b);
+        len = key::key_len(len, b as u32);
         bits = 0;
         i += 1;
     }
+    let p = Stand {
+        mode: m,
+        bits: bits,
+        high: x.high,
+    };
     Kept {
-        lex: place_at(x, m, bits, x.high, i - from, len),
+        lex: place_at(x, p, i - from, len),
         at: i,
     }
 }

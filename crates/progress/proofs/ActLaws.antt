@@ -1,52 +1,110 @@
--- An act's parts together are what the definition of `acted` says. Assumes nothing.
+-- An act's parts, laws in the form of the code's needs: the parts together are the act, and how far levels and the key can grow. Assumes nothing.
 use mathlib.Core.Bool.{Bool, true, false, cond}
+use mathlib.Core.List.{List}
 use mathlib.Core.Path.{_≡_, refl, sym, ap, _∙_}
-use Prim.Native.Nat.{ℕ}
+use Prim.Native.Nat.{ℕ, _+_, _<_, _≤_}
+use native.Mathlib.Omega.{arith}
 use lib.Dec.{ltb}
+use lib.ListN.{length, set, length-set}
+use lib.Seq.{set-out}
+use borrow.Author.Tests.{lt-ltb, le-ltb, ltb-true}
 use Rattle.json.specs.declared.lexer.Mode.{Mode}
 use Rattle.json.specs.declared.lexer.Act.{Act}
 use Rattle.json.specs.declared.lexer.Act.the-variants as A
 use Rattle.progress.specs.declared.Fault.{Fault}
+use Rattle.progress.specs.declared.Fault.the-variants as F
 use Rattle.progress.specs.declared.Lex.{Lex}
+use Rattle.progress.specs.declared.Task.{Task}
 use Rattle.progress.specs.declared.Advanced.{Advanced}
-use Rattle.progress.specs.Lex.{charIn, opening, keyChar, acted}
-use Rattle.progress.specs.Act.{openFault, openLevel, keyLen, keyTask, firstFault, actedBy}
+use Rattle.progress.specs.Act.{openLevel, keyLen, keptIn, firstFault, levelAfter, lenAfter, taskOf}
+use Rattle.progress.specs.Lex.{advance, charIn, moved, actedBy, acted}
 
-module _ (e : Bool) (x : Lex) (n b : ℕ) (m : Mode) where
-  array-opened : (v : Bool) → ltb (x .level) n ≡ v → actedBy (openFault (x .level) n) A.OpenArray e x n b m ≡ acted A.OpenArray e x n b m
-  unfolding openFault openLevel opening
-  array-opened true h = simp h
-  array-opened false h = simp h
+-- ---- the parts of an act, where f is the fault that was found
 
-  object-opened : (v : Bool) → ltb (x .level) n ≡ v → actedBy (openFault (x .level) n) A.OpenObject e x n b m ≡ acted A.OpenObject e x n b m
-  unfolding openFault openLevel opening
-  object-opened true h = simp h
-  object-opened false h = simp h
+module _ (a : Act) (e : Bool) (x : Lex) (n b : ℕ) (m : Mode) (f : Fault) (h : f ≡ firstFault a (x .level) n) where
+  -- with a fault, y is what was made of it
+  pub acted-of-fault : (g : Fault) (y : Advanced) → f ≡ g → y ≡ actedBy g a e x n b m → y ≡ acted a e x n b m
+  acted-of-fault g y k l = l ∙ ap (λ (z : Fault). actedBy z a e x n b m) (sym k ∙ h)
 
-  char-kept : (v u : Bool) → ltb (x .len) 32 ≡ v → ltb (charIn (x .mode) (x .bits) (x .high) b) 128 ≡ u
-      → actedBy (firstFault A.KeyChar (x .level) n) A.KeyChar e x n b m ≡ acted A.KeyChar e x n b m
-  unfolding keyLen keyTask keyChar
-  char-kept true true h k = simp (h, k)
-  char-kept true false h k = simp (h, k)
-  char-kept false u h k = simp h
+  -- without one
+  pub acted-of-sound : (c level len : ℕ) (next : Lex) (task : Task) → f ≡ F.Sound → c ≡ charIn (x .mode) (x .bits) (x .high) b
+      → level ≡ levelAfter a (x .level) n → len ≡ lenAfter a (x .len) c → next ≡ moved x b m level len → task ≡ taskOf a e (x .mode) (x .len) c
+      → advance next task ≡ acted a e x n b m
+  acted-of-sound c level len next task k p q r u v = acted-of-fault F.Sound (advance next task) k (rw (v, u, r, q, p))
 
-  -- the parts of an act are the act
-  pub actedBy-acted : (a : Act) → actedBy (firstFault a (x .level) n) a e x n b m ≡ acted a e x n b m
-  actedBy-acted A.Fault = refl
-  actedBy-acted A.Pass = refl
-  actedBy-acted A.OpenArray = array-opened (ltb (x .level) n) refl
-  actedBy-acted A.OpenObject = object-opened (ltb (x .level) n) refl
-  actedBy-acted A.Close = refl
-  actedBy-acted A.KeyStart = refl
-  actedBy-acted A.KeyChar = char-kept (ltb (x .len) 32) (ltb (charIn (x .mode) (x .bits) (x .high) b) 128) refl refl
-  actedBy-acted A.KeyEnd = refl
-  actedBy-acted A.TextStart = refl
-  actedBy-acted A.TextChar = refl
-  actedBy-acted A.TextEnd = refl
-  actedBy-acted A.NumberStart = refl
-  actedBy-acted A.NumberByte = refl
-  actedBy-acted (A.WordEnd w) = refl
+-- ---- how far levels and the key grow
 
-  -- in the form of the code's needs: f is the fault that was found, y what was made of it
-  pub acted-of-fault : (a : Act) (f : Fault) (y : Advanced) → f ≡ firstFault a (x .level) n → y ≡ actedBy f a e x n b m → y ≡ acted a e x n b m
-  acted-of-fault a f y h k = k ∙ ap (λ (g : Fault). actedBy g a e x n b m) h ∙ actedBy-acted a
+openLevel-le : (level n : ℕ) → level ≤ n → openLevel level n ≤ n
+unfolding openLevel
+openLevel-le level n h = go (ltb level n) refl
+  where
+    go : (v : Bool) → ltb level n ≡ v → cond v (level + 1) level ≤ n
+    go true e = omega (arith, ltb-true level n e)
+    go false e = h
+
+-- no act opens more levels than there are frames
+pub levelAfter-le : (a : Act) (level n : ℕ) → level ≤ n → levelAfter a level n ≤ n
+levelAfter-le A.Fault level n h = h
+levelAfter-le A.Pass level n h = h
+levelAfter-le A.OpenArray level n h = openLevel-le level n h
+levelAfter-le A.OpenObject level n h = openLevel-le level n h
+levelAfter-le A.Close level n h = omega arith
+levelAfter-le A.KeyStart level n h = h
+levelAfter-le A.KeyChar level n h = h
+levelAfter-le A.KeyEnd level n h = h
+levelAfter-le A.TextStart level n h = h
+levelAfter-le A.TextChar level n h = h
+levelAfter-le A.TextEnd level n h = h
+levelAfter-le A.NumberStart level n h = h
+levelAfter-le A.NumberByte level n h = h
+levelAfter-le (A.WordEnd w) level n h = h
+
+keyLen-le : (len c : ℕ) → keyLen len c ≤ 33
+unfolding keyLen
+keyLen-le len c = go (ltb len 32) refl (ltb c 128)
+  where
+    go : (v : Bool) → ltb len 32 ≡ v → (u : Bool) → cond v (cond u (len + 1) 33) 33 ≤ 33
+    go true e true = omega (arith, ltb-true len 32 e)
+    go true e false = omega arith
+    go false e u = omega arith
+
+-- none counts more than 33 characters of a key
+pub lenAfter-le : (a : Act) (len c : ℕ) → len ≤ 33 → lenAfter a len c ≤ 33
+lenAfter-le A.Fault len c h = h
+lenAfter-le A.Pass len c h = h
+lenAfter-le A.OpenArray len c h = h
+lenAfter-le A.OpenObject len c h = h
+lenAfter-le A.Close len c h = h
+lenAfter-le A.KeyStart len c h = omega arith
+lenAfter-le A.KeyChar len c h = keyLen-le len c
+lenAfter-le A.KeyEnd len c h = h
+lenAfter-le A.TextStart len c h = h
+lenAfter-le A.TextChar len c h = h
+lenAfter-le A.TextEnd len c h = h
+lenAfter-le A.NumberStart len c h = h
+lenAfter-le A.NumberByte len c h = h
+lenAfter-le (A.WordEnd w) len c h = h
+
+-- ---- the characters of a key
+
+-- fewer than 32 are kept, and there is room
+pub kept-room : (key : List ℕ) (len c : ℕ) → len < 32 → set key len c ≡ keptIn key len c
+unfolding keptIn
+kept-room key len c h = rw (lt-ltb len 32 h)
+
+-- there is no room
+pub kept-past : (key : List ℕ) (len c : ℕ) → len < 32 → length key ≤ len → key ≡ keptIn key len c
+kept-past key len c h l = sym (set-out key len c l) ∙ kept-room key len c h
+
+-- 32 are kept
+pub kept-full : (key : List ℕ) (len c : ℕ) → 32 ≤ len → key ≡ keptIn key len c
+unfolding keptIn
+kept-full key len c h = rw (le-ltb len 32 h)
+
+pub length-keptIn : (key : List ℕ) (len c : ℕ) → length (keptIn key len c) ≡ length key
+unfolding keptIn
+length-keptIn key len c = go (ltb len 32)
+  where
+    go : (v : Bool) → length (cond v (set key len c) key) ≡ length key
+    go true = length-set key len c
+    go false = refl

@@ -1,19 +1,23 @@
--- What an act of the lexer does to the open record, part by part: the first fault, the levels, the length of the key, the task. Derived:
--- `actedBy-acted` of `ActLaws` joins it to `acted`. Assumes nothing.
-use mathlib.Core.Bool.{Bool, cond}
+-- What an act of the lexer does to the open record, part by part: the first fault, the levels, the characters kept of the key, the task. Derived:
+-- `acted` of `Lex` puts the parts together, and `tracks-step` of crate follows joins that to the track of crate verdict. Assumes nothing.
+use mathlib.Core.Bool.{Bool, true, false, cond}
+use mathlib.Core.List.{List}
 use Prim.Native.Nat.{ℕ, _+_, _-_}
 use lib.Dec.{ltb}
+use lib.ListN.{set}
+use Rattle.json.specs.declared.number.NumberMode.the-variants as N
+use Rattle.json.specs.declared.word.Word.{Word}
+use Rattle.json.specs.declared.word.Word.the-variants as W
 use Rattle.json.specs.declared.lexer.Mode.{Mode}
+use Rattle.json.specs.declared.lexer.Mode.the-variants as M
 use Rattle.json.specs.declared.lexer.Act.{Act}
 use Rattle.json.specs.declared.lexer.Act.the-variants as A
+use Rattle.table.specs.declared.kind.Scalar.{Scalar}
 use Rattle.table.specs.declared.kind.Scalar.the-variants as K
 use Rattle.progress.specs.declared.Fault.{Fault}
 use Rattle.progress.specs.declared.Fault.the-variants as F
-use Rattle.progress.specs.declared.Lex.{Lex}
 use Rattle.progress.specs.declared.Task.{Task}
 use Rattle.progress.specs.declared.Task.the-variants as To
-use Rattle.progress.specs.declared.Advanced.{Advanced}
-use Rattle.progress.specs.Lex.{advance, faulted, charIn, moved, ended, closing, scalarOf}
 
 -- a value that is opened where n frames are: too deep, or one level more
 unfoldable pub openFault : ℕ → ℕ → Fault
@@ -22,12 +26,15 @@ openFault level n = cond (ltb level n) F.Sound F.TooDeep
 unfoldable pub openLevel : ℕ → ℕ → ℕ
 openLevel level n = cond (ltb level n) (level + 1) level
 
--- a character c of a key of which len are kept: how many are kept behind it, and whether it is kept
+-- a character c of a key of which len are kept, at most 32, each below 128: how many are kept after it, what is to be done, and the key after that
 unfoldable pub keyLen : ℕ → ℕ → ℕ
 keyLen len c = cond (ltb len 32) (cond (ltb c 128) (len + 1) 33) 33
 
 unfoldable pub keyTask : ℕ → ℕ → Task
 keyTask len c = cond (ltb len 32) (cond (ltb c 128) (To.Put c) To.Idle) To.Idle
+
+unfoldable pub keptIn : List ℕ → ℕ → ℕ → List ℕ
+keptIn key len c = cond (ltb len 32) (set key len c) key
 
 -- the fault of an act, if it is one
 abbrev pub firstFault : Act → ℕ → ℕ → Fault
@@ -46,7 +53,7 @@ firstFault A.NumberStart level n = F.Sound
 firstFault A.NumberByte level n = F.Sound
 firstFault (A.WordEnd w) level n = F.Sound
 
--- the levels behind it
+-- the levels after it
 abbrev pub levelAfter : Act → ℕ → ℕ → ℕ
 levelAfter A.Fault level n = level
 levelAfter A.Pass level n = level
@@ -63,7 +70,7 @@ levelAfter A.NumberStart level n = level
 levelAfter A.NumberByte level n = level
 levelAfter (A.WordEnd w) level n = level
 
--- the length of the key behind it, where it finishes the character c
+-- the length of the key after it, where it finishes the character c
 abbrev pub lenAfter : Act → ℕ → ℕ → ℕ
 lenAfter A.Fault len c = len
 lenAfter A.Pass len c = len
@@ -80,12 +87,41 @@ lenAfter A.NumberStart len c = len
 lenAfter A.NumberByte len c = len
 lenAfter (A.WordEnd w) len c = len
 
+-- a number that ends in a mode was written without fraction and exponent part, or not
+abbrev pub numberKind : Mode → Scalar
+numberKind (M.At p) = K.Num
+numberKind (M.Key s) = K.Num
+numberKind (M.Text s) = K.Num
+numberKind (M.Number N.Minus) = K.Int
+numberKind (M.Number N.Zero) = K.Int
+numberKind (M.Number N.Int) = K.Int
+numberKind (M.Number N.Dot) = K.Num
+numberKind (M.Number N.Frac) = K.Num
+numberKind (M.Number N.E) = K.Num
+numberKind (M.Number N.Sign) = K.Num
+numberKind (M.Number N.Exp) = K.Num
+numberKind (M.Word w i) = K.Num
+
+abbrev pub scalarOf : Word → Scalar
+scalarOf W.Null = K.Null
+scalarOf W.True = K.True
+scalarOf W.False = K.False
+
+-- what is to be done where the byte ends a number, or not
+abbrev pub ended : Bool → Mode → Task
+ended true m = To.Finish (numberKind m)
+ended false m = To.Idle
+
+abbrev pub closing : Bool → Mode → Task
+closing true m = To.FinishClose (numberKind m)
+closing false m = To.Close
+
 -- what is to be done at it, in mode m; e tells whether it ends a number
 abbrev pub taskOf : Act → Bool → Mode → ℕ → ℕ → Task
 taskOf A.Fault e m len c = To.Idle
 taskOf A.Pass e m len c = ended e m
-taskOf A.OpenArray e m len c = To.OpenArray
-taskOf A.OpenObject e m len c = To.OpenObject
+taskOf A.OpenArray e m len c = To.Open false
+taskOf A.OpenObject e m len c = To.Open true
 taskOf A.Close e m len c = closing e m
 taskOf A.KeyStart e m len c = To.Idle
 taskOf A.KeyChar e m len c = keyTask len c
@@ -96,12 +132,3 @@ taskOf A.TextEnd e m len c = To.Finish K.Str
 taskOf A.NumberStart e m len c = To.Idle
 taskOf A.NumberByte e m len c = To.Idle
 taskOf (A.WordEnd w) e m len c = To.Finish (scalarOf w)
-
--- all of it, where the act's fault is f
-abbrev pub actedBy : Fault → Act → Bool → Lex → ℕ → ℕ → Mode → Advanced
-actedBy F.Sound a e x n b m =
-    advance (moved x b m (levelAfter a (x .level) n) (lenAfter a (x .len) (charIn (x .mode) (x .bits) (x .high) b)))
-    (taskOf a e (x .mode) (x .len) (charIn (x .mode) (x .bits) (x .high) b))
-actedBy F.Malformed a e x n b m = faulted x F.Malformed
-actedBy F.TooDeep a e x n b m = faulted x F.TooDeep
-actedBy F.TooLong a e x n b m = faulted x F.TooLong

@@ -4,7 +4,6 @@ use mathlib.Core.Bool.{Bool, true, false, cond, _&&_}
 use mathlib.Core.List.{List, [], _∷_}
 use Prim.Native.Nat.{ℕ, _+_, _-_}
 use lib.Dec.{eqb, ltb}
-use lib.ListN.{set}
 use Rattle.json.specs.Lexer.{stepOf}
 use Rattle.json.specs.declared.lexer.Top.{Top}
 use Rattle.json.specs.declared.lexer.Top.the-variants as Top
@@ -20,6 +19,7 @@ use Rattle.progress.specs.declared.Lex.{Lex}
 use Rattle.progress.specs.declared.Task.{Task}
 use Rattle.progress.specs.declared.Task.the-variants as To
 use Rattle.progress.specs.declared.Advanced.{Advanced}
+use Rattle.progress.specs.Act.{keptIn}
 use Rattle.progress.specs.Lex.{advanced}
 
 -- what a byte can change
@@ -49,18 +49,16 @@ rulesAt t w l = closed (edgesOf (t .edges) (t .«edge_rule») (t .«edge_state»
 unfoldable pub closeAt : Table → Lex → Bool → List ℕ → List ℕ → ℕ → Mem
 closeAt t x root key w l = mem x (cond (eqb l 1) (ruleFits (rulesAt t w l) 0) root) key (valueAt t w (l - 1) (Done.Rules (rulesAt t w l)))
 
--- what is to be done at a byte, from the memory m; x is what is known behind it
+-- what is to be done at a byte, from the memory m; x is what is known after it
 abbrev pub perform : Task → Table → Mem → Lex → Mem
 perform To.Idle t m x = mem x (m .root) (m .key) (m .work)
-perform (To.Put c) t m x = mem x (m .root) (set (m .key) (m .lex .len) c) (m .work)
+perform (To.Put c) t m x = mem x (m .root) (keptIn (m .key) (m .lex .len) c) (m .work)
 perform To.Named t m x =
     mem x (m .root) (m .key) (putFrame (m .work) (m .lex .level) (keyed (keyFound t (m .key) (m .lex .len)) (frameAt (m .work) (m .lex .level))))
-perform To.OpenArray t m x = mem x (m .root) (m .key) (putFrame (m .work) (x .level) (opened (t .forms) false))
-perform To.OpenObject t m x = mem x (m .root) (m .key) (putFrame (m .work) (x .level) (opened (t .forms) true))
+perform (To.Open o) t m x = mem x (m .root) (m .key) (putFrame (m .work) (x .level) (opened (t .forms) o))
 perform (To.Finish s) t m x = mem x (m .root) (m .key) (valueAt t (m .work) (m .lex .level) (Done.Scalar s))
-perform (To.Number s) t m x = mem x (m .root) (m .key) (valueAt t (m .work) (m .lex .level) (Done.Scalar s))
 perform To.Close t m x = closeAt t x (m .root) (m .key) (m .work) (m .lex .level)
-perform (To.NumberClose s) t m x = closeAt t x (m .root) (m .key) (valueAt t (m .work) (m .lex .level) (Done.Scalar s)) (m .lex .level)
+perform (To.FinishClose s) t m x = closeAt t x (m .root) (m .key) (valueAt t (m .work) (m .lex .level) (Done.Scalar s)) (m .lex .level)
 
 -- what the lexer and the limits make of a byte, with n frames
 abbrev pub advancedAt : ℕ → Mem → ℕ → Advanced

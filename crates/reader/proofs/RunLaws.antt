@@ -16,7 +16,6 @@ use Rattle.table.specs.Table.{Table}
 use Rattle.table.specs.Limits.{withinLimits}
 use Rattle.table.proofs.LimitLaws.{withinLimits-sound}
 use Rattle.laws.proofs.TestLaws.{T-of-true}
-use Rattle.load.specs.Step.{Lens}
 use Rattle.progress.specs.declared.Lex.{Lex}
 use Rattle.progress.specs.Lex.{judged, advanced}
 use Rattle.progress.specs.Memory.{Mem, mem, topAt, stepMem, runMem, endsRecord}
@@ -98,9 +97,6 @@ module _ (s : List ℕ) (i at end : ℕ) (x y z : Lex) (top : Top) (st : Step) (
 
 pub keys-le : (t : Table) → withinLimits t ≡ true → t .keys ≤ 128
 keys-le t e = withinLimits-sound t (T-of-true (withinLimits t) e) .keys
-
-pub lens-le : (t : Table) → withinLimits t ≡ true → Lens (t .«key_len»)
-lens-le t e = record { at = withinLimits-sound t (T-of-true (withinLimits t) e) .len }
 
 -- ---- the loop over a piece
 

@@ -19,7 +19,9 @@ use Rattle.progress.specs.declared.Lex.{Lex}
 use Rattle.progress.specs.declared.Task.{Task}
 use Rattle.progress.specs.declared.Task.the-variants as To
 use Rattle.progress.specs.declared.Advanced.{Advanced}
-use Rattle.progress.specs.Lex.{bump, counted, faulted, charIn, moved, opening, keyChar, acted, sound, afterHead, byFault, advanced}
+use Rattle.progress.specs.Act.{firstFault}
+use Rattle.progress.proofs.ActLaws.{levelAfter-le, lenAfter-le}
+use Rattle.progress.specs.Lex.{bump, counted, faulted, actedBy, sound, afterHead, byFault, advanced}
 use Rattle.progress.specs.Memory.{Mem, mem, topAt, closeAt, perform, advancedAt, stepMem, endsRecord, Ran, runMem}
 use Rattle.laws.proofs.TestLaws.{cond-elim}
 
@@ -52,45 +54,22 @@ module _ (n : ℕ) (x : Lex) where
   moves-faulted f = moves-of-le _ (omega arith) (omega arith) refl refl
 
   module _ (b : ℕ) (m : Mode) where
-    moves-opening : (t : Task) → Moved (opening x n b m t)
-    unfolding opening
-    moves-opening t =
-        cond-elim Moved (ltb (x .level) n)
-        (λ h. record { within = λ (i : Within n x). record { level = omega (arith, ltb→lt (x .level) n h); len = i .len }; pos = refl; head = refl })
-        (λ h. moves-faulted F.TooDeep)
-
-    moves-keyChar : (c : ℕ) → Moved (keyChar x b m c)
-    unfolding keyChar
-    moves-keyChar c =
-        cond-elim Moved (ltb (x .len) 32)
-        (λ h. cond-elim Moved (ltb c 128)
-        (λ g. record { within = λ (i : Within n x). record { level = i .level; len = omega (arith, ltb→lt (x .len) 32 h) }; pos = refl; head = refl })
-        (λ g. moves-outgrown))
-        (λ h. moves-outgrown)
-      where
-        moves-outgrown : Moves n x (moved x b m (x .level) 33)
-        moves-outgrown = record { within = λ (i : Within n x). record { level = i .level; len = omega arith }; pos = refl; head = refl }
-
-    moves-acted : (a : Act) (e : Bool) → Moved (acted a e x n b m)
-    moves-acted A.Fault e = moves-faulted F.Malformed
-    moves-acted A.Pass e = moves-of-le _ (omega arith) (omega arith) refl refl
-    moves-acted A.OpenArray e = moves-opening To.OpenArray
-    moves-acted A.OpenObject e = moves-opening To.OpenObject
-    moves-acted A.Close e = moves-of-le _ (omega arith) (omega arith) refl refl
-    moves-acted A.KeyStart e = moves-of-le _ (omega arith) (omega arith) refl refl
-    moves-acted A.KeyChar e = moves-keyChar (charIn (x .mode) (x .bits) (x .high) b)
-    moves-acted A.KeyEnd e = moves-of-le _ (omega arith) (omega arith) refl refl
-    moves-acted A.TextStart e = moves-of-le _ (omega arith) (omega arith) refl refl
-    moves-acted A.TextChar e = moves-of-le _ (omega arith) (omega arith) refl refl
-    moves-acted A.TextEnd e = moves-of-le _ (omega arith) (omega arith) refl refl
-    moves-acted A.NumberStart e = moves-of-le _ (omega arith) (omega arith) refl refl
-    moves-acted A.NumberByte e = moves-of-le _ (omega arith) (omega arith) refl refl
-    moves-acted (A.WordEnd w) e = moves-of-le _ (omega arith) (omega arith) refl refl
+    -- levels and key stay within their bounds
+    moves-actedBy : (f : Fault) (a : Act) (e : Bool) → Moved (actedBy f a e x n b m)
+    moves-actedBy F.Sound a e =
+        record {
+          within = λ (i : Within n x). record { level = levelAfter-le a (x .level) n (i .level); len = lenAfter-le a (x .len) _ (i .len) };
+          pos = refl;
+          head = refl;
+        }
+    moves-actedBy F.Malformed a e = moves-faulted F.Malformed
+    moves-actedBy F.TooDeep a e = moves-faulted F.TooDeep
+    moves-actedBy F.TooLong a e = moves-faulted F.TooLong
 
   module _ (b : ℕ) (st : Step) where
     moves-sound : Moved (sound x n b st)
     unfolding sound
-    moves-sound = cond-elim Moved (ltb (x .pos) longest) (λ h. moves-acted b (st .mode) (st .act) (st .ends)) (λ h. moves-faulted F.TooLong)
+    moves-sound = cond-elim Moved (ltb (x .pos) longest) (λ h. moves-actedBy b (st .mode) (firstFault (st .act) (x .level) n) (st .act) (st .ends)) (λ h. moves-faulted F.TooLong)
 
     moves-byFault : (f : Fault) → Moved (byFault f x n b st)
     moves-byFault F.Sound = moves-sound
@@ -110,12 +89,10 @@ unfolding closeAt
 lex-of-perform To.Idle t m x = refl
 lex-of-perform (To.Put c) t m x = refl
 lex-of-perform To.Named t m x = refl
-lex-of-perform To.OpenArray t m x = refl
-lex-of-perform To.OpenObject t m x = refl
+lex-of-perform (To.Open o) t m x = refl
 lex-of-perform (To.Finish s) t m x = refl
-lex-of-perform (To.Number s) t m x = refl
 lex-of-perform To.Close t m x = refl
-lex-of-perform (To.NumberClose s) t m x = refl
+lex-of-perform (To.FinishClose s) t m x = refl
 
 module _ (t : Table) (n : ℕ) (m : Mem) where
   -- a byte other than RS

@@ -5,8 +5,6 @@ use mathlib.Core.Path.{_≡_, refl, sym, ap, _∙_}
 use Prim.Native.Nat.{ℕ, _-_, _≤_}
 use native.Mathlib.Omega.{arith}
 use lib.Dec.{eqb}
-use lib.ListN.{length, set}
-use lib.Seq.{set-out}
 use borrow.Author.Tests.{eq-eqb, ne-eqb}
 use Rattle.json.specs.Lexer.{stepOf}
 use Rattle.json.specs.declared.lexer.Top.the-variants as Is
@@ -23,9 +21,10 @@ use Rattle.progress.specs.declared.Lex.{Lex}
 use Rattle.progress.specs.declared.Task.{Task}
 use Rattle.progress.specs.declared.Task.the-variants as To
 use Rattle.progress.specs.declared.Advanced.{Advanced}
+use Rattle.progress.specs.Act.{keptIn}
 use Rattle.progress.specs.Lex.{advanced}
 use Rattle.progress.specs.Memory.{Mem, mem, topAt, valueAt, rulesAt, closeAt, perform, stepMem}
-use Rattle.turn.specs.Turn.{ClosedTo, turned}
+use Rattle.turn.specs.Turn.{ClosedTo, namedAt, turned}
 
 -- ---- the innermost open value
 
@@ -51,71 +50,64 @@ top-array w l k n e f = simp (ne-eqb l 0 n, array-of-kind (isObject (frameAt w l
 
 -- ---- the key
 
-pub put-past : (key : List ℕ) (len c : ℕ) → length key ≤ len → key ≡ set key len c
-put-past key len c h = sym (set-out key len c h)
+-- the number found goes into the frame
+pub named-of-found : (t : Table) (key : List ℕ) (len k l : ℕ) (w v : List ℕ) → k ≡ keyFound t key len → v ≡ putFrame w l (keyed k (frameAt w l)) → v ≡ namedAt t key len w l
+named-of-found t key len k l w v e f = rw (← e) f
 
 -- ---- closing
 
-module _ (t : Table) (w : List ℕ) (l s : ℕ)
-    (e : s ≡ closed (edgesOf (t .edges) (t .«edge_rule») (t .«edge_state») (t .«edge_key») (t .«edge_next»)) (t .forms) (t .ends) (frameAt w l)) where
-  pub root-one : (root r : Bool) → l ≡ 1 → r ≡ ruleFits s 0 → r ≡ cond (eqb l 1) (ruleFits (rulesAt t w l) 0) root
-  unfolding rulesAt
-  root-one root r h f = rw (eq-eqb l 1 h) (f ∙ ap (λ (n : ℕ). ruleFits n 0) e)
-
-  pub root-kept : (root : Bool) → (l ≡ 1 → ⊥) → root ≡ cond (eqb l 1) (ruleFits (rulesAt t w l) 0) root
-  root-kept root h = rw (ne-eqb l 1 h)
-
-  pub work-closed : (d : ℕ) (v : List ℕ) → d ≡ l - 1
-      → v ≡ putFrame w d (valued (edgesOf (t .edges) (t .«edge_rule») (t .«edge_state») (t .«edge_key») (t .«edge_next»)) (t .«edge_kind») (t .forms) (Done.Rules s) (frameAt w d))
-      → v ≡ valueAt t w (l - 1) (Done.Rules (rulesAt t w l))
+-- s: the rules that the closed value fits; d: the level below it
+module _ (t : Table) (w : List ℕ) (l s d : ℕ) (v : List ℕ) (root : Bool)
+    (e : s ≡ closed (edgesOf (t .edges) (t .«edge_rule») (t .«edge_state») (t .«edge_key») (t .«edge_next»)) (t .forms) (t .ends) (frameAt w l)) (f : d ≡ l - 1)
+    (g : v ≡ putFrame w d (valued (edgesOf (t .edges) (t .«edge_rule») (t .«edge_state») (t .«edge_key») (t .«edge_next»)) (t .«edge_kind») (t .forms) (Done.Rules s) (frameAt w d))) where
+  work-closed : v ≡ valueAt t w (l - 1) (Done.Rules (rulesAt t w l))
   unfolding rulesAt valueAt
-  work-closed d v f g = rw (← e, ← f) g
+  work-closed = rw (← e, ← f) g
+
+  -- the root
+  pub closed-root : (r : Bool) → l ≡ 1 → r ≡ ruleFits s 0 → ClosedTo t w l root r v
+  unfolding rulesAt
+  closed-root r h q = record { root = rw (eq-eqb l 1 h) (q ∙ ap (λ (n : ℕ). ruleFits n 0) e); work = work-closed }
+
+  -- any other value
+  pub closed-inner : (l ≡ 1 → ⊥) → ClosedTo t w l root root v
+  closed-inner h = record { root = rw (ne-eqb l 1 h); work = work-closed }
 
 -- ---- the tasks
 
--- what was found of the byte
-module _ (t : Table) (n : ℕ) (m : Mem) (b : ℕ) (st : Step) (a : Advanced) (f : a ≡ advanced (m .lex) n b st) where
-  pub turn-by : (z : Task) (y : Mem) → a .task ≡ z → y ≡ perform z t m (a .lex) → y ≡ turned t n m b st
-  turn-by z y g h =
-      h ∙ ap (λ (x : Task). perform x t m (a .lex)) (sym g) ∙ ap (λ (x : Advanced). perform (x .task) t m (x .lex)) f
+-- from what is known of the record before the byte (old) and after it (x), its root, key and buffer
+module _ (t : Table) (k : Task) (old x : Lex) (root : Bool) (key w : List ℕ) where
+  pub idle-done : k ≡ To.Idle → mem x root key w ≡ perform k t (mem old root key w) x
+  idle-done h = rw h
 
-module _ (t : Table) (m : Mem) (x : Lex) where
-  pub put-done : (c : ℕ) (key : List ℕ) → key ≡ set (m .key) (m .lex .len) c → mem x (m .root) key (m .work) ≡ perform (To.Put c) t m x
-  put-done c key e = rw e
+  pub put-done : (c : ℕ) (next : List ℕ) → k ≡ To.Put c → next ≡ keptIn key (old .len) c → mem x root next w ≡ perform k t (mem old root key w) x
+  put-done c next h e = rw (h, e)
 
-  pub named-done : (k : ℕ) (w : List ℕ) → k ≡ keyFound t (m .key) (m .lex .len) → w ≡ putFrame (m .work) (m .lex .level) (keyed k (frameAt (m .work) (m .lex .level)))
-      → mem x (m .root) (m .key) w ≡ perform To.Named t m x
-  named-done k w e f = rw (f, e)
+  pub named-done : (v : List ℕ) → k ≡ To.Named → v ≡ namedAt t key (old .len) w (old .level) → mem x root key v ≡ perform k t (mem old root key w) x
+  named-done v h e = rw (h, e)
 
-  pub array-done : (w : List ℕ) → w ≡ putFrame (m .work) (x .level) (opened (t .forms) false) → mem x (m .root) (m .key) w ≡ perform To.OpenArray t m x
-  array-done w e = rw e
+  pub opened-done : (o : Bool) (v : List ℕ) → k ≡ To.Open o → v ≡ putFrame w (x .level) (opened (t .forms) o) → mem x root key v ≡ perform k t (mem old root key w) x
+  opened-done o v h e = rw (h, e)
 
-  pub object-done : (w : List ℕ) → w ≡ putFrame (m .work) (x .level) (opened (t .forms) true) → mem x (m .root) (m .key) w ≡ perform To.OpenObject t m x
-  object-done w e = rw e
-
-  valued-done : (s : Scalar) (w : List ℕ)
-      → w ≡ putFrame (m .work) (m .lex .level) (valued (edgesOf (t .edges) (t .«edge_rule») (t .«edge_state») (t .«edge_key») (t .«edge_next»)) (t .«edge_kind») (t .forms) (Done.Scalar s) (frameAt (m .work) (m .lex .level)))
-      → w ≡ valueAt t (m .work) (m .lex .level) (Done.Scalar s)
+  pub finish-done : (s : Scalar) (v : List ℕ) → k ≡ To.Finish s
+      → v ≡ putFrame w (old .level) (valued (edgesOf (t .edges) (t .«edge_rule») (t .«edge_state») (t .«edge_key») (t .«edge_next»)) (t .«edge_kind») (t .forms) (Done.Scalar s) (frameAt w (old .level)))
+      → mem x root key v ≡ perform k t (mem old root key w) x
   unfolding valueAt
-  valued-done s w e = e
+  finish-done s v h e = rw (h, e)
 
-  pub finish-done : (s : Scalar) (w : List ℕ)
-      → w ≡ putFrame (m .work) (m .lex .level) (valued (edgesOf (t .edges) (t .«edge_rule») (t .«edge_state») (t .«edge_key») (t .«edge_next»)) (t .«edge_kind») (t .forms) (Done.Scalar s) (frameAt (m .work) (m .lex .level)))
-      → mem x (m .root) (m .key) w ≡ perform (To.Finish s) t m x
-  finish-done s w e = rw (valued-done s w e)
+  pub close-done : (r : Bool) (v : List ℕ) → k ≡ To.Close → ClosedTo t w (old .level) root r v → mem x r key v ≡ perform k t (mem old root key w) x
+  unfolding closeAt
+  close-done r v h e = rw (h, e .root, e .work)
 
-  pub close-done : (root : Bool) (w : List ℕ)
-      → ClosedTo t (m .work) (m .lex .level) (m .root) root w
-      → mem x root (m .key) w ≡ perform To.Close t m x
-  unfolding closeAt rulesAt valueAt
-  close-done root w e = rw (e .root, e .work)
+  pub finish-close-done : (s : Scalar) (u : List ℕ) (r : Bool) (v : List ℕ) → k ≡ To.FinishClose s
+      → u ≡ putFrame w (old .level) (valued (edgesOf (t .edges) (t .«edge_rule») (t .«edge_state») (t .«edge_key») (t .«edge_next»)) (t .«edge_kind») (t .forms) (Done.Scalar s) (frameAt w (old .level)))
+      → ClosedTo t u (old .level) root r v → mem x r key v ≡ perform k t (mem old root key w) x
+  unfolding closeAt valueAt
+  finish-close-done s u r v h g e = rw (h, e .root, e .work, g)
 
-  pub number-close-done : (s : Scalar) (u : List ℕ) (root : Bool) (w : List ℕ)
-      → u ≡ putFrame (m .work) (m .lex .level) (valued (edgesOf (t .edges) (t .«edge_rule») (t .«edge_state») (t .«edge_key») (t .«edge_next»)) (t .«edge_kind») (t .forms) (Done.Scalar s) (frameAt (m .work) (m .lex .level)))
-      → ClosedTo t u (m .lex .level) (m .root) root w
-      → mem x root (m .key) w ≡ perform (To.NumberClose s) t m x
-  unfolding closeAt rulesAt valueAt
-  number-close-done s u root w g e = rw (e .root, e .work, g)
+-- where the task and the record after the byte are what the limits make of the step, a turn has done the task
+pub turned-of-performed : (t : Table) (n : ℕ) (m y : Mem) (b : ℕ) (st : Step) (a : Advanced) → a ≡ advanced (m .lex) n b st → y ≡ perform (a .task) t m (a .lex) → y ≡ turned t n m b st
+turned-of-performed t n m y b st a f h = h ∙ ap (λ (x : Advanced). perform (x .task) t m (x .lex)) f
 
 -- where the limits make of the step st what they make of the byte's own, a turn is the step of the memory
 pub turned-stepMem : (t : Table) (n : ℕ) (m : Mem) (b : ℕ) (st : Step)

@@ -8,13 +8,19 @@ use Rattle.table.specs.Kind.{ruleFits}
 use Rattle.table.specs.declared.kind.Finished.the-variants as Done
 use Rattle.json.specs.declared.lexer.Step.{Step}
 use Rattle.table.specs.Table.{Table}
+use Rattle.frame.specs.Frame.{frameAt, putFrame}
+use Rattle.frame.specs.Ops.{keyed}
 use Rattle.progress.specs.Lex.{advanced}
-use Rattle.progress.specs.Memory.{Mem, rulesAt, valueAt, perform}
+use Rattle.progress.specs.Memory.{Mem, keyFound, rulesAt, valueAt, perform}
 
 -- the value of level l is closed: what becomes of the root and of the buffer
 pub record ClosedTo (t : Table) (w : List ℕ) (l : ℕ) (old new : Bool) (v : List ℕ) : Type 0 where
   pub root : new ≡ cond (eqb l 1) (ruleFits (rulesAt t w l) 0) old
   pub work : v ≡ valueAt t w (l - 1) (Done.Rules (rulesAt t w l))
+
+-- the buffer where the key of level l is finished, of which len characters are kept
+abbrev pub namedAt : Table → List ℕ → ℕ → List ℕ → ℕ → List ℕ
+namedAt t key len w l = putFrame w l (keyed (keyFound t key len) (frameAt w l))
 
 -- the memory after byte b, of which the lexer makes the step st, with n frames
 abbrev pub turned : Table → ℕ → Mem → ℕ → Step → Mem

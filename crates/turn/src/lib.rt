@@ -1,19 +1,21 @@
 // One byte that ends no record: what it does to the record, its key and its frames.
 ghost use mathlib.Core.Path.{_≡_};
-ghost use Prim.Native.Nat.{_-_, _≤_};
-ghost use lib.ListN.{length, set};
+ghost use Prim.Native.Nat.{_≤_};
+ghost use lib.ListN.{length};
 ghost use Rattle.table.specs.Flat.{tableIn};
-ghost use Rattle.progress.specs.Memory.{mem, topAt};
-ghost use Rattle.turn.specs.Turn.{ClosedTo, turned};
+ghost use Rattle.progress.specs.Memory.{mem, topAt, perform};
+ghost use Rattle.turn.specs.Turn.{ClosedTo, namedAt, turned};
 use json::lexer::Step;
 use json::lexer::Top;
 use progress::Lex;
 use progress::Task;
+use progress::act;
+use progress::key;
 use table::keys;
 use table::kind;
 use table::kind::Finished;
 
-// What is known of the record behind the byte, and whether its root fits rule 0.
+// What is known of the record after the byte, and whether its root fits rule 0.
 pub struct Turned {
     pub lex: Lex,
     pub root: bool,
@@ -32,39 +34,68 @@ pub fn top_of(work: &[u8], level: usize) -> Top
     Top::Array
 }
 
-// Keeps a character of the key, where there is room for it.
-pub fn put_char(key: &mut [u8], len: u8, c: u8)
-    ensures { λ _. ⌜ now (key .exit) ≡ set (now (key .entry)) len c ⌝ }
-{
-    let at = len as usize;
-    if at < key.len() {
-        key[at] = c;
-    }
-}
-
-// One level less; without an open value there is none to close.
-fn down(level: usize) -> usize
-    ensures { λ r. ⌜ r ≡ level - 1 ⌝ }
-{
-    if level == 0 {
-        return 0;
-    }
-    level - 1
-}
-
 // The value of a level is closed: it joins the level below; the root tells whether it fits rule 0.
 fn close_value(work: &mut [u8], level: usize, root: bool, table: &[u8; 7920]) -> bool
     ensures { λ r. ⌜ ClosedTo (tableIn (now (table .entry))) (now (work .entry)) level root r (now (work .exit)) ⌝ }
 {
     let set = frame::close_level(work, level, table);
-    frame::value_level(work, down(level), table, Finished::Rules(set));
+    frame::value_level(work, act::down(level), table, Finished::Rules(set));
     if level == 1 {
         return kind::rule_fits(set, 0);
     }
     root
 }
 
-// The byte b, of which the lexer makes the step st: the record behind it, its key and its frames.
+// The key is finished: its number goes into the frame of the level.
+fn name_level<'a>(work: &mut [u8], level: usize, table: &'a [u8; 7920], key: &'a [u8], len: u8)
+    requires { ⌜ (tableIn (now table) .keys ≤ 128) × (length (now key) ≡ 32) ⌝ }
+    ensures { λ _. ⌜ now (work .exit) ≡ namedAt (tableIn (now (table .entry))) (now (key .entry)) len (now (work .entry)) level ⌝ }
+{
+    let k = keys::number(table, key, len);
+    frame::key_level(work, level, k);
+}
+
+// Does a task to the key and the frames of the record x, of which `next` is known after the byte; gives whether the root fits rule 0.
+fn perform(
+    task: Task,
+    x: Lex,
+    next: Lex,
+    root: bool,
+    key: &mut [u8],
+    work: &mut [u8],
+    table: &[u8; 7920],
+) -> bool
+    requires { ⌜ (tableIn (now table) .keys ≤ 128) × (length (now key) ≡ 32) ⌝ }
+    ensures { λ r. ⌜ mem next r (now (key .exit)) (now (work .exit)) ≡ perform task (tableIn (now (table .entry))) (mem x root (now (key .entry)) (now (work .entry))) next ⌝ }
+{
+    let level = x.level;
+    match task {
+        Task::Idle => root,
+        Task::Put(c) => {
+            key::keep_char(key, x.len, c);
+            root
+        }
+        Task::Named => {
+            name_level(work, level, table, key, x.len);
+            root
+        }
+        Task::Open(object) => {
+            frame::open_level(work, next.level, object, table);
+            root
+        }
+        Task::Finish(s) => {
+            frame::value_level(work, level, table, Finished::Scalar(s));
+            root
+        }
+        Task::Close => close_value(work, level, root, table),
+        Task::FinishClose(s) => {
+            frame::value_level(work, level, table, Finished::Scalar(s));
+            close_value(work, level, root, table)
+        }
+    }
+}
+
+// The byte b, of which the lexer makes the step st: the record after it, its key and its frames.
 pub fn turn(
     st: Step,
     x: Lex,
@@ -78,74 +109,12 @@ pub fn turn(
     requires { ⌜ (tableIn (now table) .keys ≤ 128) × (length (now key) ≡ 32) ⌝ }
     ensures { λ r. ⌜ mem (r .lex) (r .root) (now (key .exit)) (now (work .exit)) ≡ turned (tableIn (now (table .entry))) frames (mem x root (now (key .entry)) (now (work .entry))) b st ⌝ }
 {
-    let level = x.level;
-    let len = x.len;
     let a = progress::advance(x, frames, b, st);
     let next = a.lex;
-    let up = next.level;
     let task = a.task;
-    match task {
-        Task::Idle => Turned {
-            lex: next,
-            root: root,
-        },
-        Task::Put(c) => {
-            put_char(key, len, c);
-            Turned {
-                lex: next,
-                root: root,
-            }
-        }
-        Task::Named => {
-            let k = keys::number(table, key, len);
-            frame::key_level(work, level, k);
-            Turned {
-                lex: next,
-                root: root,
-            }
-        }
-        Task::OpenArray => {
-            frame::open_level(work, up, false, table);
-            Turned {
-                lex: next,
-                root: root,
-            }
-        }
-        Task::OpenObject => {
-            frame::open_level(work, up, true, table);
-            Turned {
-                lex: next,
-                root: root,
-            }
-        }
-        Task::Finish(s) => {
-            frame::value_level(work, level, table, Finished::Scalar(s));
-            Turned {
-                lex: next,
-                root: root,
-            }
-        }
-        Task::Number(s) => {
-            frame::value_level(work, level, table, Finished::Scalar(s));
-            Turned {
-                lex: next,
-                root: root,
-            }
-        }
-        Task::Close => {
-            let fit = close_value(work, level, root, table);
-            Turned {
-                lex: next,
-                root: fit,
-            }
-        }
-        Task::NumberClose(s) => {
-            frame::value_level(work, level, table, Finished::Scalar(s));
-            let fit = close_value(work, level, root, table);
-            Turned {
-                lex: next,
-                root: fit,
-            }
-        }
+    let fit = perform(task, x, next, root, key, work, table);
+    Turned {
+        lex: next,
+        root: fit,
     }
 }

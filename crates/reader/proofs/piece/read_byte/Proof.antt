@@ -1,5 +1,5 @@
 -- `piece::read_byte` meets its contract: an RS ends the record, and any other byte has its turn. Assumes nothing.
-use Rattle.reader.proofs.RunLaws.{keys-le, lens-le, went-ended, went-turned}
+use Rattle.reader.proofs.RunLaws.{keys-le, went-ended, went-turned}
 use borrow.Author.Needs.{needs}
 use Rattle.reader.proofs.piece.read_byte.Statement.{statement}
 use Rattle.reader.proofs.piece.read_byte.Tie as tie
@@ -8,7 +8,7 @@ returns : tie.Need-returns
 returns c = search (needs, went-ended)
 
 turn-requires : tie.Need-turn-requires
-turn-requires c κs = search (needs, keys-le, lens-le)
+turn-requires c κs = search (needs, keys-le)
 
 returns-2 : tie.Need-returns-2
 returns-2 c = search (needs, went-turned)

@@ -8,10 +8,11 @@ use Rattle.table.specs.Kind.{ruleFits}
 use Rattle.table.specs.declared.kind.Finished.the-variants as Done
 use Rattle.json.specs.declared.lexer.Step.{Step}
 use Rattle.table.specs.Table.{Table}
+use Rattle.table.specs.Keys.{keyFound}
 use Rattle.frame.specs.Frame.{frameAt, putFrame}
 use Rattle.frame.specs.Ops.{keyed}
 use Rattle.progress.specs.Lex.{advanced}
-use Rattle.progress.specs.Memory.{Mem, keyFound, rulesAt, valueAt, perform}
+use Rattle.progress.specs.Memory.{Mem, rulesAt, valueAt, perform}
 
 -- the value of level l is closed: what becomes of the root and of the buffer
 pub record ClosedTo (t : Table) (w : List ℕ) (l : ℕ) (old new : Bool) (v : List ℕ) : Type 0 where

@@ -20,7 +20,8 @@ use Rattle.reader.specs.Machine.{Start, startOf}
 use Rattle.reader.proofs.RefusalLaws.{through-elim}
 use Rattle.verdict.specs.declared.Verdict.{Verdict}
 use Rattle.verdict.specs.Verdict.{told}
-use Rattle.fieldtext.specs.Entries.{wordNumber, verdictEntry, withEntry, withEntries}
+use Rattle.text.specs.Text.{wordNumber}
+use Rattle.fieldtext.specs.Entries.{verdictEntry, withEntry, withEntries}
 use Rattle.fieldtext.specs.Judge.{answerEntries, isQuiet, Judged, Called, streamed, judges, inOut, judgeTableOf, judgeOf}
 
 -- ---- the entry of a verdict, and of an answer

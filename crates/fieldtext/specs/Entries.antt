@@ -6,7 +6,8 @@ use lib.Dec.{ltb}
 use lib.ListN.{length}
 use lib.Seq.{sets}
 use Rattle.verdict.specs.declared.Verdict.{Verdict}
-use Rattle.verdict.specs.Verdict.{Word, valid, invalid, refused, Told, told}
+use Rattle.verdict.specs.Verdict.{Told, told}
+use Rattle.text.specs.Text.{wordNumber}
 
 -- a verdict's fields, or a refusal's, and the bytes of the stream read by then
 pub record Entry : Type 0 where
@@ -14,11 +15,6 @@ pub record Entry : Type 0 where
   pub number : ℕ
   pub place : ℕ
   pub read : ℕ
-
-abbrev pub wordNumber : Word → ℕ
-wordNumber valid = 0
-wordNumber invalid = 1
-wordNumber refused = 2
 
 abbrev pub entryOf : Told → ℕ → Entry
 entryOf x read = record { word = wordNumber (x .word); number = x .number; place = x .place; read = read }

@@ -2,9 +2,8 @@
 ghost use mathlib.Core.Path.{_≡_};
 ghost use Prim.Native.Nat.{_+_, _≤_, _<_};
 ghost use lib.ListN.{length};
-ghost use Rattle.verdict.specs.Verdict.{told};
 ghost use Rattle.text.specs.Put.{Put};
-ghost use Rattle.fieldtext.specs.Entries.{wordNumber, verdictEntry, little, withEntry, withEntries};
+ghost use Rattle.fieldtext.specs.Entries.{verdictEntry, little, withEntry, withEntries};
 ghost use Rattle.fieldtext.specs.Judge.{answerEntries};
 use reader::Answer;
 use verdict::Verdict;
@@ -38,21 +37,6 @@ pub fn put_entry(out: &mut [u8], i: usize, word: u8, number: u8, place: usize, r
     }
 }
 
-// 0 valid, 1 invalid, 2 refused.
-fn word_of(v: Verdict) -> u8
-    ensures { λ r. ⌜ r ≡ wordNumber (told v .word) ⌝ }
-{
-    match v {
-        Verdict::Valid => 0,
-        Verdict::Invalid => 1,
-        Verdict::Malformed(_) => 2,
-        Verdict::TooDeep(_) => 2,
-        Verdict::TooLong => 2,
-        Verdict::Unfinished(_) => 2,
-        Verdict::Head => 2,
-    }
-}
-
 // The entry of a verdict.
 fn put_verdict(out: &mut [u8], i: usize, v: Verdict, read: usize)
     ensures { λ _. ⌜ now (out .exit) ≡ withEntry (now (out .entry)) i (verdictEntry v read) ⌝ }
@@ -60,7 +44,7 @@ fn put_verdict(out: &mut [u8], i: usize, v: Verdict, read: usize)
     put_entry(
         out,
         i,
-        word_of(v),
+        text::word_of(v),
         verdict::number_of(v),
         verdict::place_of(v) as usize,
         read,

@@ -1,7 +1,7 @@
 -- The first and the last text of the judging program. Assumes nothing.
-use mathlib.Core.Bool.{Bool, true, false, cond}
-use mathlib.Core.List.{List, []}
-use mathlib.Core.Path.{_≡_, refl, sym, ap, _∙_}
+use mathlib.Core.Bool.{true, false}
+use mathlib.Core.List.{List}
+use mathlib.Core.Path.{_≡_, sym, ap, _∙_}
 use Prim.Native.Nat.{ℕ, _≤_, _<_}
 use native.Mathlib.Omega.{arith}
 use lib.Dec.{eqb}
@@ -9,7 +9,8 @@ use lib.ListN.{length}
 use borrow.Author.Tests.{le-leb, lt-leb, eq-eqb, ne-eqb}
 use Rattle.table.specs.Table.{Table}
 use Rattle.book.specs.Load.{loads}
-use Rattle.load.specs.Step.{Loaded}
+use Rattle.load.specs.Step.{loadedAs}
+use Rattle.load.specs.declared.Answer.{Answer as Load·Answer}
 use Rattle.load.specs.Answer as load
 use Rattle.load.specs.Loads.{LoadsAs}
 use Rattle.text.specs.Text.{lineOf, names, bookLines}
@@ -18,7 +19,7 @@ use Rattle.reader.specs.declared.Reader.{Reader}
 use Rattle.reader.specs.declared.Answer.{Answer}
 use Rattle.reader.specs.declared.Answer.the-variants as Says
 use Rattle.reader.specs.Machine.{Outcome, closeOf}
-use Rattle.report.specs.Report.{Report, inOut, written, closing, finishOf, beginning, Begins}
+use Rattle.report.specs.Report.{inOut, written, closing, finishOf, beginning, Begins}
 
 -- ---- finish
 
@@ -31,13 +32,13 @@ module _ (r : Reader) (t : Table) (w o : List ℕ) where
     abbrev closed : Answer → Outcome
     closed a = record { reader = next; count = 0; answer = a; work = w }
 
-    pub finish-closed : (a : Answer) → closed a ≡ closeOf r t w → record { out = after; at = place } ≡ written a o
+    pub finish-closed : (a : Answer) → closed a ≡ closeOf r t w → record { out = after; at = place } ≡ written a o 0
         → record { reader = next; work = w; read = 0; out = after; used = place; answer = a } ≡ finishOf r t w o
     unfolding finishOf hasRoom write
     finish-closed a e h =
         rw (le-leb 64 (length o) has, sym e) (go a (ap (λ (x : Written). x .out) h) (ap (λ (x : Written). x .at) h))
       where
-        go : (a : Answer) → after ≡ written a o .out → place ≡ written a o .at
+        go : (a : Answer) → after ≡ written a o 0 .out → place ≡ written a o 0 .at
             → record { reader = next; work = w; read = 0; out = after; used = place; answer = a } ≡ inOut o (closing (closed a))
         go Says.Quiet u v = rw (u, v)
         go (Says.Refused n) u v = rw (u, v)
@@ -47,18 +48,19 @@ module _ (r : Reader) (t : Table) (w o : List ℕ) where
 
 -- ---- begin
 
-module _ (b o : List ℕ) (x : Loaded) (l : LoadsAs b x) (number : ℕ) (n : number ≡ load.told (x .answer) .number) (after : List ℕ) (place : ℕ) where
+module _ (b o : List ℕ) (a : Load·Answer) (t : Table) (l : LoadsAs b (loadedAs a t)) (number : ℕ) (n : number ≡ load.told a .number)
+    (after : List ℕ) (place : ℕ) where
   number-is : loads b .number ≡ number
   number-is = sym (n ∙ ap (λ (y : load.Told). y .number) (l .answer))
 
-  pub begin-accepted : number ≡ 0 → record { out = after; at = place } ≡ write o 0 names → Begins b o true (x .table) after place
+  pub begin-accepted : number ≡ 0 → record { out = after; at = place } ≡ write o 0 names → Begins b o true t after place
   unfolding beginning
   begin-accepted z h =
       let e : eqb (loads b .number) 0 ≡ true = eq-eqb (loads b .number) 0 (number-is ∙ z) in
       record { answer = sym e; table-is = l .table; text = rw e h }
 
-  pub begin-refused : (line : ℕ) → (number ≡ 0 → ⊥) → line ≡ load.told (x .answer) .line
-      → record { out = after; at = place } ≡ write o 0 (bookLines number line) → Begins b o false (x .table) after place
+  pub begin-refused : (line : ℕ) → (number ≡ 0 → ⊥) → line ≡ load.told a .line
+      → record { out = after; at = place } ≡ write o 0 (bookLines number line) → Begins b o false t after place
   unfolding beginning
   begin-refused line z m h =
       let e : eqb (loads b .number) 0 ≡ false = ne-eqb (loads b .number) 0 (λ y. z (sym number-is ∙ y)) in

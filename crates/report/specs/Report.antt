@@ -1,6 +1,6 @@
 -- What the judging program does with the bytes that arrive, on slices: 01, "An example day". Derived: `text-of-stream` of the proofs joins it to the
 -- stream on paper. Assumes nothing.
-use mathlib.Core.Bool.{Bool, cond}
+use mathlib.Core.Bool.{Bool, true, false, cond}
 use mathlib.Core.List.{List, [], _++_}
 use mathlib.Core.Path.{_≡_}
 use Prim.Native.Nat.{ℕ, zero, suc, _+_, _/_}
@@ -61,13 +61,35 @@ inOut o x = record { reader = x .reader; work = x .work; read = x .read; out = s
 unfoldable pub reportOf : Reader → Table → List ℕ → List ℕ → List ℕ → Report
 reportOf r t w s o = inOut o (reports (length o / room) t r w s)
 
--- ---- the end of the input
+-- ---- one feed of a report
 
--- the output with the line of a verdict, if the answer is one
-abbrev pub written : Answer → List ℕ → Written
-written Says.Quiet o = record { out = o; at = 0 }
-written (Says.Refused n) o = record { out = o; at = 0 }
-written (Says.Judged v) o = write o 0 (lineOf v)
+abbrev pub isLast : Answer → Bool
+isLast Says.Quiet = true
+isLast (Says.Refused n) = true
+isLast (Says.Judged v) = false
+
+-- the output with the line of a verdict from a place on, if the answer is one
+abbrev pub written : Answer → List ℕ → ℕ → Written
+written Says.Quiet o at = record { out = o; at = at }
+written (Says.Refused n) o at = record { out = o; at = at }
+written (Says.Judged v) o at = write o at (lineOf v)
+
+abbrev pub reported : Outcome → ℕ → List ℕ → ℕ → Report
+reported f read o used =
+    record {
+      reader = f .reader;
+      work = f .work;
+      read = read + f .count;
+      out = written (f .answer) o used .out;
+      used = written (f .answer) o used .at;
+      answer = f .answer;
+    }
+
+-- what is unread of the piece s is fed, and the line of its verdict is written
+unfoldable pub reportNext : Table → List ℕ → Reader → List ℕ → ℕ → List ℕ → ℕ → Report
+reportNext t s r w read o used = reported (feedOf r t w (drop read s)) read o used
+
+-- ---- the end of the input
 
 -- a close, and the line of its verdict
 abbrev pub closing : Outcome → Reported

@@ -1,7 +1,6 @@
 -- The lines of 01's example day and of its other verdicts, tried. Assumes nothing.
-use mathlib.Core.List.{List, [], _∷_, _++_}
+use mathlib.Core.List.{[], _∷_, _++_}
 use mathlib.Core.Path.{_≡_, refl}
-use Prim.Native.Nat.{ℕ}
 use Rattle.laws.specs.Ascii.{ascii}
 use Rattle.verdict.specs.declared.Verdict.the-variants as Is
 use Rattle.text.specs.Text.{digitIf, digits, decimal, LF, lineOf, linesOf, bookLines}

@@ -1,10 +1,10 @@
 -- Bytes put into a buffer one after the other. Assumes nothing.
 use mathlib.Core.Bool.{Bool, true, false, cond}
-use mathlib.Core.List.{List, [], _∷_, _++_, append-nil}
+use mathlib.Core.List.{List, [], _∷_, _++_}
 use mathlib.Core.Path.{_≡_, refl, sym, ap, subst, _∙_}
 use Prim.Native.Nat.{ℕ, suc, _+_, _-_, _≤_, _<_}
 use native.Mathlib.Omega.{arith}
-use lib.Dec.{ltb, leb, T, ltb→lt}
+use lib.Dec.{ltb, leb, ltb→lt}
 use lib.ListN.{length, getD, drop, set, length-append, drop-of-length-le}
 use lib.Seq.{sets, length-sets, drop-cons}
 use borrow.Author.Tests.{le-leb, lt-leb, leb-true, leb-false}
@@ -12,7 +12,7 @@ use Rattle.laws.specs.Ascii.{ascii}
 use Rattle.laws.proofs.TabLaws.{T-of-every}
 use Rattle.verdict.specs.declared.Verdict.{Verdict}
 use Rattle.verdict.specs.Verdict.{Word, valid, invalid, refused, told}
-use Rattle.text.specs.Text.{powers, digit, digitIf, digits, decimal, space, LF, wordText, lineOf, bookLines}
+use Rattle.text.specs.Text.{powers, digit, digitIf, digits, decimal, space, LF, wordText, wordNumber, lineOf, bookLines}
 use Rattle.text.specs.Put.{Put, hasRoom, Written, write}
 
 sets-append : (o : List ℕ) (at : ℕ) (xs ys : List ℕ) → sets o at (xs ++ ys) ≡ sets (sets o at xs) (at + length xs) ys
@@ -121,9 +121,31 @@ digits-start o at n = rest-start o at (digits powers n)
 
 -- ---- lines
 
-pub word-put : (o : List ℕ) (at : ℕ) (now : List ℕ) (behind : ℕ) (v u : Verdict) → v ≡ u → Put o at (wordText (told u .word)) now behind
-    → Put o at (wordText (told v .word)) now behind
-word-put o at now behind v u e p = subst (λ u. Put o at (wordText (told u .word)) now behind) (sym e) p
+-- the word that a number stands for
+module _ (o : List ℕ) (at : ℕ) (now : List ℕ) (behind : ℕ) (x : Word) (w : ℕ) (e : w ≡ wordNumber x) where
+  pub put-valid : w ≡ 0 → Put o at (ascii "valid") now behind → Put o at (wordText x) now behind
+  put-valid d p = go x (sym e ∙ d)
+    where
+      go : (x : Word) → wordNumber x ≡ 0 → Put o at (wordText x) now behind
+      go valid n = p
+      go invalid n = absurd (omega (arith, n))
+      go refused n = absurd (omega (arith, n))
+
+  pub put-invalid : w ≡ 1 → Put o at (ascii "invalid") now behind → Put o at (wordText x) now behind
+  put-invalid d p = go x (sym e ∙ d)
+    where
+      go : (x : Word) → wordNumber x ≡ 1 → Put o at (wordText x) now behind
+      go valid n = absurd (omega (arith, n))
+      go invalid n = p
+      go refused n = absurd (omega (arith, n))
+
+  pub put-refused : (w ≡ 0 → ⊥) → (w ≡ 1 → ⊥) → Put o at (ascii "refused") now behind → Put o at (wordText x) now behind
+  put-refused f g p = go x e
+    where
+      go : (x : Word) → w ≡ wordNumber x → Put o at (wordText x) now behind
+      go valid n = absurd (f n)
+      go invalid n = absurd (g n)
+      go refused n = p
 
 -- six parts one after the other
 module _ (o : List ℕ) (at : ℕ) (a b c d e f : List ℕ) where

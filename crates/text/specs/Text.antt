@@ -62,6 +62,12 @@ wordText valid = ascii "valid"
 wordText invalid = ascii "invalid"
 wordText refused = ascii "refused"
 
+-- the number that stands for a word
+abbrev pub wordNumber : Word → ℕ
+wordNumber valid = 0
+wordNumber invalid = 1
+wordNumber refused = 2
+
 -- the line of a verdict: its word, number and place
 unfoldable pub lineOf : Verdict → List ℕ
 lineOf v = wordText (told v .word) ++ (space ++ (decimal (told v .number) ++ (space ++ (decimal (told v .place) ++ LF))))

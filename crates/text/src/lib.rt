@@ -1,7 +1,8 @@
 // The text of the judging program, as bytes in a lent buffer. Each function answers the place behind what it wrote; where the buffer has less
 // than 64 bytes from the place on, it writes nothing.
 ghost use mathlib.Core.Path.{_≡_};
-ghost use Rattle.text.specs.Text.{names, lineOf, bookLines};
+ghost use Rattle.verdict.specs.Verdict.{told};
+ghost use Rattle.text.specs.Text.{names, wordNumber, lineOf, bookLines};
 ghost use Rattle.text.specs.Put.{hasRoom, write};
 
 mod put; // put.rt: words and numbers, byte by byte
@@ -9,6 +10,21 @@ mod put; // put.rt: words and numbers, byte by byte
 use verdict::Verdict;
 
 const NAMES: [u8; 21] = *b"verdict number place\n";
+
+// The word of a verdict as a number: 0 valid, 1 invalid, 2 refused.
+pub fn word_of(v: Verdict) -> u8
+    ensures { λ r. ⌜ r ≡ wordNumber (told v .word) ⌝ }
+{
+    match v {
+        Verdict::Valid => 0,
+        Verdict::Invalid => 1,
+        Verdict::Malformed(_) => 2,
+        Verdict::TooDeep(_) => 2,
+        Verdict::TooLong => 2,
+        Verdict::Unfinished(_) => 2,
+        Verdict::Head => 2,
+    }
+}
 
 // The buffer has room from the place on.
 fn has_room(len: usize, at: usize) -> bool

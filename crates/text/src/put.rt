@@ -103,15 +103,14 @@ pub fn put_word(out: &mut [u8], at: usize, v: Verdict) -> usize
     ensures { λ r. ⌜ Put (now (out .entry)) at (wordText (told v .word)) (now (out .exit)) r ⌝ }
     ensures { λ r. ⌜ r ≤ at + 7 ⌝ }
 {
-    match v {
-        Verdict::Valid => put_bytes(out, at, &VALID),
-        Verdict::Invalid => put_bytes(out, at, &INVALID),
-        Verdict::Malformed(_) => put_bytes(out, at, &REFUSED),
-        Verdict::TooDeep(_) => put_bytes(out, at, &REFUSED),
-        Verdict::TooLong => put_bytes(out, at, &REFUSED),
-        Verdict::Unfinished(_) => put_bytes(out, at, &REFUSED),
-        Verdict::Head => put_bytes(out, at, &REFUSED),
+    let word = crate::word_of(v);
+    if word == 0 {
+        return put_bytes(out, at, &VALID);
     }
+    if word == 1 {
+        return put_bytes(out, at, &INVALID);
+    }
+    put_bytes(out, at, &REFUSED)
 }
 
 // The line of a verdict.

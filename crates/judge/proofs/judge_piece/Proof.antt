@@ -48,4 +48,9 @@ same-length-6 : tie.Need-same-length-6 Inv-loop μ-loop
 same-length-6 c = c .before .before .before .before .before .before .before .before .out .given ∙ c .before .before .before .before .before .before .before .before .before .before .before .before .before .before .before .before .loop .inv .1
 
 pub judge-piece-spec : {M : Type 1} → statement M
-judge-piece-spec = tie.close (tie.spec Inv-loop μ-loop loop-holds (λ c. search needs) (λ c. search needs) (λ c. search needs) (λ c κs. search needs) (λ c κs. search needs) (λ c κs. search needs) same-length same-length-2 (λ c. search needs) (λ c κs. search needs) same-length-3 same-length-4 (λ c. search needs) (λ c. search needs) (λ c κs. search needs) same-length-5 same-length-6 (λ c. search needs) add-read loop-less loop-again (λ c. search needs) (λ c. search needs) (λ c. search needs))
+judge-piece-spec =
+    tie.close
+    (tie.spec Inv-loop μ-loop loop-holds (λ c. search needs) (λ c. search needs) (λ c. search needs) (λ c κs. search needs) (λ c κs. search needs)
+    (λ c κs. search needs) same-length same-length-2 (λ c. search needs) (λ c κs. search needs) same-length-3 same-length-4 (λ c. search needs)
+    (λ c. search needs) (λ c κs. search needs) same-length-5 same-length-6 (λ c. search needs) add-read loop-less loop-again (λ c. search needs)
+    (λ c. search needs) (λ c. search needs))

@@ -10,4 +10,8 @@ slice-aggregate-on-buffer : tie.Need-slice-aggregate-on-buffer
 slice-aggregate-on-buffer c = sym (length-take-le _ _ (omega (arith, c .before .before .if5 .taken)))
 
 pub call-spec : {M : Type 1} → statement M
-call-spec = tie.close (tie.spec (λ c κs. search needs) (λ c. search needs) (λ c. search needs) (λ c. search needs) (λ c. search needs) (λ c. search needs) (λ c. search needs) (λ c. search needs) (λ c. search needs) (λ c κs. search needs) (λ c. search needs) (λ c. search needs) (λ c. search needs) slice-aggregate-on-buffer (λ c κs. search needs) (λ c. search needs) (λ c. search needs) (λ c. search needs))
+call-spec =
+    tie.close
+    (tie.spec (λ c κs. search needs) (λ c. search needs) (λ c. search needs) (λ c. search needs) (λ c. search needs) (λ c. search needs)
+    (λ c. search needs) (λ c. search needs) (λ c. search needs) (λ c κs. search needs) (λ c. search needs) (λ c. search needs) (λ c. search needs)
+    slice-aggregate-on-buffer (λ c κs. search needs) (λ c. search needs) (λ c. search needs) (λ c. search needs))

@@ -15,4 +15,7 @@ returns c =
     (line .put-decimal2 .ensures .0) (end .put2 .ensures)
 
 pub put-book-spec : {M : Type 1} → statement M
-put-book-spec = tie.close (tie.spec (λ c. search needs) (λ c κs. search needs) (λ c κs. search needs) (λ c κs. search needs) (λ c κs. search needs) (λ c κs. search needs) (λ c. search needs) returns)
+put-book-spec =
+    tie.close
+    (tie.spec (λ c. search needs) (λ c κs. search needs) (λ c κs. search needs) (λ c κs. search needs) (λ c κs. search needs) (λ c κs. search needs)
+    (λ c. search needs) returns)

@@ -1,9 +1,8 @@
 -- `put::put_bytes` meets its contract: what is left to put gives what the whole gives. Assumes nothing.
 use mathlib.Core.Path.{_≡_, refl}
 use Prim.Native.Nat.{_+_, _-_, _≤_}
-use native.Mathlib.Omega.{arith}
 use lib.ListN.{length, drop}
-use Rattle.text.proofs.PutLaws.{Rest, rest-start, bytes-start, bytes-more, bytes-done}
+use Rattle.text.proofs.PutLaws.{Rest, bytes-start, bytes-more, bytes-done}
 use borrow.Author.Needs.{needs}
 use Rattle.text.proofs.put.put_bytes.Statement.{statement}
 use Rattle.text.proofs.put.put_bytes.Tie as tie
@@ -24,4 +23,7 @@ returns : tie.Need-returns Inv-loop μ-loop
 returns c = search (needs, bytes-done)
 
 pub put-bytes-spec : {M : Type 1} → statement M
-put-bytes-spec = tie.close (tie.spec Inv-loop μ-loop loop-holds (λ c. search needs) (λ c. search needs) (λ c. search needs) (λ c. search needs) (λ c. search needs) loop-again (λ c. search needs) (λ c. search needs) returns)
+put-bytes-spec =
+    tie.close
+    (tie.spec Inv-loop μ-loop loop-holds (λ c. search needs) (λ c. search needs) (λ c. search needs) (λ c. search needs) (λ c. search needs)
+    loop-again (λ c. search needs) (λ c. search needs) returns)

@@ -1,7 +1,6 @@
 -- `put::put_decimal` meets its contract: the digits of the powers still to come give what all give. Assumes nothing.
 use mathlib.Core.Path.{_≡_, refl}
 use Prim.Native.Nat.{_+_, _-_, _≤_}
-use native.Mathlib.Omega.{arith}
 use lib.ListN.{length, drop}
 use Rattle.text.specs.Text.{powers, digits, decimal}
 use Rattle.text.proofs.PutLaws.{Rest, digits-start, digits-more, digits-last, power-positive}
@@ -29,4 +28,7 @@ returns : tie.Need-returns Inv-loop μ-loop
 returns c = (search (needs, digits-last), search needs)
 
 pub put-decimal-spec : {M : Type 1} → statement M
-put-decimal-spec = tie.close (tie.spec Inv-loop μ-loop loop-holds (λ c. search needs) (λ c. search needs) put-digit-requires (λ c. search needs) (λ c. search needs) loop-again (λ c κs. search needs) (λ c. search needs) (λ c. search needs) (λ c. search needs) returns)
+put-decimal-spec =
+    tie.close
+    (tie.spec Inv-loop μ-loop loop-holds (λ c. search needs) (λ c. search needs) put-digit-requires (λ c. search needs) (λ c. search needs) loop-again
+    (λ c κs. search needs) (λ c. search needs) (λ c. search needs) (λ c. search needs) returns)

@@ -18,4 +18,7 @@ slice-aggregate-feed-all : tie.Need-slice-aggregate-feed-all Inv-loop μ-loop
 slice-aggregate-feed-all c = sym (length-take-le _ _ (omega (arith, c .before .before .loop-test .left)))
 
 pub feed-many-spec : {M : Type 1} → statement M
-feed-many-spec = tie.close (tie.spec Inv-loop μ-loop (λ c. search needs) (λ c. search needs) (λ c κs. search needs) (λ c. search needs) (λ c. search needs) (λ c. search needs) slice-aggregate-feed-all (λ c κs. search needs) (λ c. search needs))
+feed-many-spec =
+    tie.close
+    (tie.spec Inv-loop μ-loop (λ c. search needs) (λ c. search needs) (λ c κs. search needs) (λ c. search needs) (λ c. search needs)
+    (λ c. search needs) slice-aggregate-feed-all (λ c κs. search needs) (λ c. search needs))

@@ -15,4 +15,7 @@ shared-slice-read-space : tie.Need-shared-slice-read-space Inv-loop μ-loop
 shared-slice-read-space c = mod-lt _ (search needs)
 
 pub fill-spec : {M : Type 1} → statement M
-fill-spec = tie.close (tie.spec Inv-loop μ-loop (λ c. search needs) (λ c. search needs) (λ c. search needs) shared-slice-read-space (λ c. search needs) (λ c. search needs) (λ c. search needs) (λ c. search needs) (λ c. search needs))
+fill-spec =
+    tie.close
+    (tie.spec Inv-loop μ-loop (λ c. search needs) (λ c. search needs) (λ c. search needs) shared-slice-read-space (λ c. search needs)
+    (λ c. search needs) (λ c. search needs) (λ c. search needs) (λ c. search needs))

@@ -10,4 +10,6 @@ slice-aggregate-run-levels : tie.Need-slice-aggregate-run-levels
 slice-aggregate-run-levels c = sym (length-take-le _ _ (omega (arith, c .before .if1 .taken)))
 
 pub run-spec : {M : Type 1} → statement M
-run-spec = tie.close (tie.spec (λ c. search needs) slice-aggregate-run-levels (λ c κs. search needs) (λ c. search needs) (λ c. search needs) (λ c. search needs))
+run-spec =
+    tie.close
+    (tie.spec (λ c. search needs) slice-aggregate-run-levels (λ c κs. search needs) (λ c. search needs) (λ c. search needs) (λ c. search needs))

@@ -13,4 +13,7 @@ abbrev μ-loop : tie.MeasureT-loop
 μ-loop t u work₀ least other levels₀ work levels = other - levels
 
 pub run-levels-spec : {M : Type 1} → statement M
-run-levels-spec = tie.close (tie.spec Inv-loop μ-loop (λ c. search needs) (λ c κs. search needs) (λ c κs. search needs) (λ c κs. search needs) (λ c. search needs) (λ c. search needs) (λ c. search needs) (λ c. search needs) (λ c. search needs))
+run-levels-spec =
+    tie.close
+    (tie.spec Inv-loop μ-loop (λ c. search needs) (λ c κs. search needs) (λ c κs. search needs) (λ c κs. search needs) (λ c. search needs)
+    (λ c. search needs) (λ c. search needs) (λ c. search needs) (λ c. search needs))

@@ -24,4 +24,8 @@ add-at c =
     )
 
 pub feed-all-spec : {M : Type 1} → statement M
-feed-all-spec = tie.close (tie.spec Inv-loop μ-loop (λ c. search needs) (λ c. search needs) (λ c. search needs) (λ c. search needs) (λ c κs. search needs) (λ c κs. search needs) (λ c. search needs) (λ c. search needs) (λ c. search needs) (λ c. search needs) (λ c. search needs) add-at (λ c. search needs) (λ c. search needs) (λ c. search needs) (λ c. search needs))
+feed-all-spec =
+    tie.close
+    (tie.spec Inv-loop μ-loop (λ c. search needs) (λ c. search needs) (λ c. search needs) (λ c. search needs) (λ c κs. search needs)
+    (λ c κs. search needs) (λ c. search needs) (λ c. search needs) (λ c. search needs) (λ c. search needs) (λ c. search needs) add-at
+    (λ c. search needs) (λ c. search needs) (λ c. search needs) (λ c. search needs))

@@ -1,7 +1,7 @@
 // Closing: 01, "Frames".
-use table::bits;
 use crate::edge;
 use crate::open;
+use table::bits;
 use table::flat;
 ghost use mathlib.Core.Bool.{cond};
 ghost use mathlib.Core.Path.{_≡_};

@@ -1,6 +1,6 @@
 // Edges of a table: how many count, and the tests of one of them.
-use table::bits;
 use crate::mask;
+use table::bits;
 use table::flat;
 ghost use mathlib.Core.Bool.{false};
 ghost use mathlib.Core.Path.{_≡_};

@@ -1,8 +1,8 @@
 // A finished value: 01, "Frames".
-use table::bits;
 use crate::edge;
 use crate::mask;
 use crate::open;
+use table::bits;
 use table::kind::Finished;
 ghost use mathlib.Core.Path.{_≡_};
 ghost use Prim.Native.Nat.{_+_};

@@ -22,4 +22,6 @@ returns-2 : tie.Need-returns-2
 returns-2 c = let a = c .before .before .before .args in rw (frameAt-none (a .work .now) (a .level) (none-of-place _ _ _ (c .before .place .ensures) (c .if1 .left))) (closed-nil _ _ _)
 
 pub close-level-spec : {M : Type 1} → statement M
-close-level-spec = tie.close (tie.spec (λ c κs. search needs) add-b (λ c. search needs) (λ c. search needs) part-close-frame-end close-frame-requires returns returns-2)
+close-level-spec =
+    tie.close
+    (tie.spec (λ c κs. search needs) add-b (λ c. search needs) (λ c. search needs) part-close-frame-end close-frame-requires returns returns-2)

@@ -22,4 +22,7 @@ returns-2 : tie.Need-returns-2
 returns-2 c = putFrame-none _ _ _ (none-of-place _ _ _ (c .before .place .ensures) (c .if1 .left))
 
 pub key-level-spec : {M : Type 1} → statement M
-key-level-spec = tie.close (tie.spec (λ c κs. search needs) add-b (λ c. search needs) (λ c. search needs) part-key-frame-end key-frame-requires (λ c. search needs) returns returns-2)
+key-level-spec =
+    tie.close
+    (tie.spec (λ c κs. search needs) add-b (λ c. search needs) (λ c. search needs) part-key-frame-end key-frame-requires (λ c. search needs) returns
+    returns-2)

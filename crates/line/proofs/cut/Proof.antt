@@ -27,4 +27,8 @@ returns-7 : tie.Need-returns-7
 returns-7 c = six-parts _ _ (c .before .before .before .before .before .before .before .before .before .before .before .find .ensures) (omega arith) _ (c .before .before .before .before .before .before .before .before .before .find2 .ensures) (omega arith) _ (c .before .before .before .before .before .before .before .find3 .ensures) (omega arith) _ (c .before .before .before .before .before .find4 .ensures) (omega arith) _ (c .before .before .before .find5 .ensures) (omega arith) _ (c .before .find6 .ensures) (omega arith)
 
 pub cut-spec : {M : Type 1} → statement M
-cut-spec = tie.close (tie.spec (λ c κs. search needs) (λ c κs. search needs) returns (λ c. search needs) (λ c κs. search needs) returns-2 (λ c. search needs) (λ c κs. search needs) returns-3 (λ c. search needs) (λ c κs. search needs) returns-4 (λ c. search needs) (λ c κs. search needs) returns-5 (λ c. search needs) (λ c κs. search needs) returns-6 returns-7)
+cut-spec =
+    tie.close
+    (tie.spec (λ c κs. search needs) (λ c κs. search needs) returns (λ c. search needs) (λ c κs. search needs) returns-2 (λ c. search needs)
+    (λ c κs. search needs) returns-3 (λ c. search needs) (λ c κs. search needs) returns-4 (λ c. search needs) (λ c κs. search needs) returns-5
+    (λ c. search needs) (λ c κs. search needs) returns-6 returns-7)

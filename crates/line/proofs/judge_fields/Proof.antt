@@ -26,4 +26,9 @@ returns-7 : tie.Need-returns-7
 returns-7 c = search (needs, says-edge)
 
 pub judge-fields-spec : {M : Type 1} → statement M
-judge-fields-spec = tie.close (tie.spec (λ c κs. search needs) (λ c κs. search needs) returns (λ c κs. search needs) (λ c κs. search needs) returns-2 (λ c κs. search needs) (λ c κs. search needs) returns-3 (λ c. search needs) (λ c κs. search needs) (λ c. search needs) (λ c κs. search needs) (λ c κs. search needs) returns-4 (λ c κs. search needs) (λ c κs. search needs) returns-5 (λ c κs. search needs) (λ c κs. search needs) returns-6 (λ c κs. search needs) returns-7)
+judge-fields-spec =
+    tie.close
+    (tie.spec (λ c κs. search needs) (λ c κs. search needs) returns (λ c κs. search needs) (λ c κs. search needs) returns-2 (λ c κs. search needs)
+    (λ c κs. search needs) returns-3 (λ c. search needs) (λ c κs. search needs) (λ c. search needs) (λ c κs. search needs) (λ c κs. search needs)
+    returns-4 (λ c κs. search needs) (λ c κs. search needs) returns-5 (λ c κs. search needs) (λ c κs. search needs) returns-6 (λ c κs. search needs)
+    returns-7)

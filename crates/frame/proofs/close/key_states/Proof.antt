@@ -30,4 +30,7 @@ unfolding keyStates
 returns c = let e : c .before .loop .e ≡ edgeCount (tableIn (c .before .before .before .before .before .args .table .now) .edges) = omega arith in cc
 
 pub key-states-spec : {M : Type 1} → statement M
-key-states-spec = tie.close (tie.spec Inv-loop μ-loop (λ c κs. search needs) loop-holds (λ c κs. search needs) (λ c. search needs) (λ c κs. search needs) (λ c κs. search needs) (λ c. search needs) (λ c. search needs) loop-again returns)
+key-states-spec =
+    tie.close
+    (tie.spec Inv-loop μ-loop (λ c κs. search needs) loop-holds (λ c κs. search needs) (λ c. search needs) (λ c κs. search needs)
+    (λ c κs. search needs) (λ c. search needs) (λ c. search needs) loop-again returns)

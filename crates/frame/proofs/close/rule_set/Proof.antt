@@ -34,4 +34,7 @@ returns : tie.Need-returns Inv-loop μ-loop
 returns c = let e : c .before .loop .r ≡ 32 = omega arith in cc
 
 pub rule-set-spec : {M : Type 1} → statement M
-rule-set-spec = tie.close (tie.spec Inv-loop μ-loop loop-holds (λ c. search needs) (λ c κs. search needs) (λ c κs. search needs) (λ c. search needs) (λ c. search needs) loop-again returns)
+rule-set-spec =
+    tie.close
+    (tie.spec Inv-loop μ-loop loop-holds (λ c. search needs) (λ c κs. search needs) (λ c κs. search needs) (λ c. search needs) (λ c. search needs)
+    loop-again returns)

@@ -27,4 +27,6 @@ returns : tie.Need-returns Inv-loop μ-loop
 returns c = let e : c .before .loop .r ≡ c .before .before .before .args .from + 4 = omega arith in cc
 
 pub with-four-spec : {M : Type 1} → statement M
-with-four-spec = tie.close (tie.spec Inv-loop μ-loop (λ c. search needs) (λ c. search needs) with-rule-requires (λ c. search needs) (λ c. search needs) loop-again returns)
+with-four-spec =
+    tie.close
+    (tie.spec Inv-loop μ-loop (λ c. search needs) (λ c. search needs) with-rule-requires (λ c. search needs) (λ c. search needs) loop-again returns)

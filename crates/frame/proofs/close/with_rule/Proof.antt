@@ -20,4 +20,6 @@ returns-3 : tie.Need-returns-3
 returns-3 c = search (needs, accepting-other)
 
 pub with-rule-spec : {M : Type 1} → statement M
-with-rule-spec = tie.close (tie.spec (λ c κs. search needs) (λ c κs. search needs) (λ c. search needs) (λ c. search needs) add-result returns returns-2 returns-3)
+with-rule-spec =
+    tie.close
+    (tie.spec (λ c κs. search needs) (λ c κs. search needs) (λ c. search needs) (λ c. search needs) add-result returns returns-2 returns-3)

@@ -20,4 +20,7 @@ returns-3 : tie.Need-returns-3
 returns-3 c = keyed-unknown _ _ (omega arith)
 
 pub key-frame-spec : {M : Type 1} → statement M
-key-frame-spec = tie.close (tie.spec (λ c. search needs) (λ c κs. search needs) (λ c. search needs) (λ c. search needs) (λ c. search needs) (λ c κs. search needs) (λ c. search needs) (λ c. search needs) (λ c. search needs) returns same-length-2 returns-2 (λ c. search needs) returns-3)
+key-frame-spec =
+    tie.close
+    (tie.spec (λ c. search needs) (λ c κs. search needs) (λ c. search needs) (λ c. search needs) (λ c. search needs) (λ c κs. search needs)
+    (λ c. search needs) (λ c. search needs) (λ c. search needs) returns same-length-2 returns-2 (λ c. search needs) returns-3)

@@ -24,4 +24,7 @@ unfolding opened startStates
 returns-2 c = let l : c .before .before .before .before .before .before .before .clear .last .0 ≡ replicate 96 0 = c .before .before .before .before .before .before .before .clear .ensures ∙ ap (λ (n : ℕ). replicate n 0) (c .before .before .before .before .before .before .before .before .before .before .pre) in rw (c .before .before .add-starts .ensures, l, c .before .before .before .before .if1 .left) (ap (λ (s : List ℕ). 2 ∷ (replicate 31 0 ++ s)) (append-nil _))
 
 pub open-frame-spec : {M : Type 1} → statement M
-open-frame-spec = tie.close (tie.spec (λ c κs. search needs) (λ c. search needs) (λ c. search needs) (λ c. search needs) returns (λ c. search needs) (λ c. search needs) (λ c. search needs) part-add-starts-end (λ c κs. search needs) same-length-2 returns-2)
+open-frame-spec =
+    tie.close
+    (tie.spec (λ c κs. search needs) (λ c. search needs) (λ c. search needs) (λ c. search needs) returns (λ c. search needs) (λ c. search needs)
+    (λ c. search needs) part-add-starts-end (λ c κs. search needs) same-length-2 returns-2)

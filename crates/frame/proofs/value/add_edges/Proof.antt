@@ -30,4 +30,7 @@ returns : tie.Need-returns Inv-loop μ-loop
 returns c = let e : c .before .loop .e ≡ edgeCount (tableIn (c .before .before .before .before .before .args .table .now) .edges) = omega arith in cc
 
 pub add-edges-spec : {M : Type 1} → statement M
-add-edges-spec = tie.close (tie.spec Inv-loop μ-loop (λ c κs. search needs) (λ c κs. search needs) loop-holds (λ c κs. search needs) (λ c. search needs) (λ c κs. search needs) (λ c. search needs) (λ c κs. search needs) (λ c. search needs) loop-again (λ c. search needs) returns)
+add-edges-spec =
+    tie.close
+    (tie.spec Inv-loop μ-loop (λ c κs. search needs) (λ c κs. search needs) loop-holds (λ c κs. search needs) (λ c. search needs)
+    (λ c κs. search needs) (λ c. search needs) (λ c κs. search needs) (λ c. search needs) loop-again (λ c. search needs) returns)

@@ -3,4 +3,5 @@ pub mod Place
 pub mod Edges
 pub mod Mask
 pub mod Ops
+pub mod InTable
 pub mod Reached

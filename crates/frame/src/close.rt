@@ -1,7 +1,7 @@
 // Closing: 01, "Frames".
-use table::bits;
 use crate::edge;
 use crate::open;
+use table::bits;
 use table::flat;
 ghost use mathlib.Core.Bool.{cond};
 ghost use mathlib.Core.Path.{_≡_};
@@ -9,7 +9,8 @@ ghost use Prim.Native.Nat.{_+_, _*_, _^_, _<_, _≤_};
 ghost use lib.ListN.{length};
 ghost use Rattle.table.specs.Flat.{tableIn};
 ghost use Rattle.frame.specs.Edges.{edgesIn};
-ghost use Rattle.frame.specs.Ops.{keyStates, walked, startStates, ended, accepting, ruleSet, closed};
+ghost use Rattle.frame.specs.Ops.{keyStates, walked, startStates, ended, ruleSet, closed};
+ghost use Rattle.frame.specs.InTable.{acceptingIn};
 
 // The states that the object's fitting edges of the key lead to.
 fn key_states<'a>(frame: &'a [u8], from: &'a [u8], table: &'a [u8; 7920], key: u8) -> [u8; 64]
@@ -85,7 +86,7 @@ fn has_end<'a>(states: &'a [u8], table: &'a [u8; 7920], r: usize) -> bool
 // The set with rule r where it is of the form and has an end state among the states.
 fn with_rule<'a>(set: u32, states: &'a [u8], table: &'a [u8; 7920], form: u8, r: usize) -> u32
     requires { ⌜ (length (now states) ≡ 64) × (r < 32) × (set < 2 ^ r) ⌝ }
-    ensures { λ s. ⌜ s ≡ cond (accepting (tableIn (now (table .entry)) .forms) (tableIn (now (table .entry)) .ends) form (now (states .entry)) r) (2 ^ r + set) set ⌝ }
+    ensures { λ s. ⌜ s ≡ cond (acceptingIn (tableIn (now (table .entry))) form (now (states .entry)) r) (2 ^ r + set) set ⌝ }
 {
     if flat::form(table, r) == form {
         if has_end(states, table, r) {
@@ -98,8 +99,8 @@ fn with_rule<'a>(set: u32, states: &'a [u8], table: &'a [u8; 7920], form: u8, r:
 
 // The set with those of four rules that are of the form and have an end state among the states.
 fn with_four<'a>(set: u32, states: &'a [u8], table: &'a [u8; 7920], form: u8, from: usize) -> u32
-    requires { ⌜ (length (now states) ≡ 64) × (from + 4 ≤ 32) × (set ≡ ruleSet (accepting (tableIn (now table) .forms) (tableIn (now table) .ends) form (now states)) from) ⌝ }
-    ensures { λ s. ⌜ s ≡ ruleSet (accepting (tableIn (now (table .entry)) .forms) (tableIn (now (table .entry)) .ends) form (now (states .entry))) (from + 4) ⌝ }
+    requires { ⌜ (length (now states) ≡ 64) × (from + 4 ≤ 32) × (set ≡ ruleSet (acceptingIn (tableIn (now table)) form (now states)) from) ⌝ }
+    ensures { λ s. ⌜ s ≡ ruleSet (acceptingIn (tableIn (now (table .entry))) form (now (states .entry))) (from + 4) ⌝ }
 {
     let mut all = set;
     for r in from..from + 4 {
@@ -112,7 +113,7 @@ fn with_four<'a>(set: u32, states: &'a [u8], table: &'a [u8; 7920], form: u8, fr
 // The rules of the form that have an end state among the states. Four rules without states are passed over at once.
 fn rule_set<'a>(states: &'a [u8], table: &'a [u8; 7920], form: u8) -> u32
     requires { ⌜ length (now states) ≡ 64 ⌝ }
-    ensures { λ s. ⌜ s ≡ ruleSet (accepting (tableIn (now (table .entry)) .forms) (tableIn (now (table .entry)) .ends) form (now (states .entry))) 32 ⌝ }
+    ensures { λ s. ⌜ s ≡ ruleSet (acceptingIn (tableIn (now (table .entry))) form (now (states .entry))) 32 ⌝ }
 {
     let mut set: u32 = 0;
     let mut r = 0;

@@ -1,6 +1,6 @@
 // Edges of a table: how many count, and the tests of one of them.
-use table::bits;
 use crate::mask;
+use table::bits;
 use table::flat;
 ghost use mathlib.Core.Bool.{false};
 ghost use mathlib.Core.Path.{_≡_};
@@ -8,8 +8,8 @@ ghost use Prim.Native.Nat.{ℕ, _+_, _*_, _<_, _≤_};
 ghost use lib.Dec.{eqb};
 ghost use lib.ListN.{getD};
 ghost use Rattle.table.specs.Flat.{tableIn};
-ghost use Rattle.frame.specs.Edges.{edgeCount, hasForm, stateNumber, fitting as fittingOf, stepping as steppingOf, walking as walkingOf};
-ghost use Rattle.frame.specs.Mask.{maskHas};
+ghost use Rattle.frame.specs.Edges.{edgeCount, hasForm};
+ghost use Rattle.frame.specs.InTable.{leaves, leadsTo, fittingIn, steppingIn, walkingIn};
 
 // How many edges of a table count: at most 512.
 pub fn count(table: &[u8; 7920]) -> usize
@@ -29,7 +29,7 @@ fn state_number(rule: u8, state: u8) -> usize
 // The number of the state that edge e leaves.
 fn state_of(table: &[u8; 7920], e: usize) -> usize
     requires { ⌜ e < 512 ⌝ }
-    ensures { λ r. ⌜ (r ≡ stateNumber (tableIn (now (table .entry)) .«edge_rule») (tableIn (now (table .entry)) .«edge_state») e) × (r ≤ 4335) ⌝ }
+    ensures { λ r. ⌜ (r ≡ leaves (tableIn (now (table .entry))) e) × (r ≤ 4335) ⌝ }
 {
     state_number(flat::rule(table, e), flat::state(table, e))
 }
@@ -37,7 +37,7 @@ fn state_of(table: &[u8; 7920], e: usize) -> usize
 // The number of the state that edge e leads to.
 pub fn next_state(table: &[u8; 7920], e: usize) -> usize
     requires { ⌜ e < 512 ⌝ }
-    ensures { λ r. ⌜ r ≡ stateNumber (tableIn (now (table .entry)) .«edge_rule») (tableIn (now (table .entry)) .«edge_next») e ⌝ }
+    ensures { λ r. ⌜ r ≡ leadsTo (tableIn (now (table .entry))) e ⌝ }
 {
     state_number(flat::rule(table, e), flat::next(table, e))
 }
@@ -71,7 +71,7 @@ pub fn next_of(table: &[u8; 7920], key: u8, from: usize, n: usize) -> usize
 // Edge e is one of the key, and the mask has its kind.
 pub fn fitting(table: &[u8; 7920], e: usize, key: u8, m: u64) -> bool
     requires { ⌜ e < 512 ⌝ }
-    ensures { λ r. ⌜ r ≡ fittingOf (maskHas m) (tableIn (now (table .entry)) .«edge_key») (tableIn (now (table .entry)) .«edge_kind») key e ⌝ }
+    ensures { λ r. ⌜ r ≡ fittingIn (tableIn (now (table .entry))) m key e ⌝ }
 {
     if flat::key(table, e) == key {
         return mask::mask_has(m, flat::kind(table, e));
@@ -82,7 +82,7 @@ pub fn fitting(table: &[u8; 7920], e: usize, key: u8, m: u64) -> bool
 // The mask has the kind of edge e, its rule is an arr rule, and its state is one of the frame's.
 pub fn stepping<'a>(table: &'a [u8; 7920], frame: &'a [u8], e: usize, m: u64) -> bool
     requires { ⌜ e < 512 ⌝ }
-    ensures { λ r. ⌜ r ≡ steppingOf (maskHas m) (tableIn (now (table .entry)) .«edge_rule») (tableIn (now (table .entry)) .«edge_state») (tableIn (now (table .entry)) .«edge_kind») (tableIn (now (table .entry)) .forms) (now (frame .entry)) e ⌝ }
+    ensures { λ r. ⌜ r ≡ steppingIn (tableIn (now (table .entry))) m (now (frame .entry)) e ⌝ }
 {
     if mask::mask_has(m, flat::kind(table, e)) {
         if is_arr(table, flat::rule(table, e)) {
@@ -102,7 +102,7 @@ pub fn walking<'a>(
     key: u8,
 ) -> bool
     requires { ⌜ e < 512 ⌝ }
-    ensures { λ r. ⌜ r ≡ walkingOf (tableIn (now (table .entry)) .«edge_rule») (tableIn (now (table .entry)) .«edge_state») (tableIn (now (table .entry)) .«edge_key») (now (frame .entry)) (now (states .entry)) key e ⌝ }
+    ensures { λ r. ⌜ r ≡ walkingIn (tableIn (now (table .entry))) (now (frame .entry)) (now (states .entry)) key e ⌝ }
 {
     if flat::key(table, e) == key {
         if bits::get_bit(frame, 256 + e) {

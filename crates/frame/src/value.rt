@@ -1,21 +1,21 @@
 // A finished value: 01, "Frames".
-use table::bits;
 use crate::edge;
 use crate::mask;
 use crate::open;
+use table::bits;
 use table::kind::Finished;
 ghost use mathlib.Core.Path.{_≡_};
 ghost use Prim.Native.Nat.{_+_};
 ghost use lib.ListN.{length};
 ghost use Rattle.laws.specs.Bits.{setAll};
 ghost use Rattle.table.specs.Flat.{tableIn};
-ghost use Rattle.frame.specs.Edges.{edgesIn, edgeCount, fitting, stepping, stateNumber};
-ghost use Rattle.frame.specs.Mask.{maskHas};
+ghost use Rattle.frame.specs.Edges.{edgesIn, edgeCount};
 ghost use Rattle.frame.specs.Ops.{valued};
+ghost use Rattle.frame.specs.InTable.{leadsTo, fittingIn, steppingIn};
 
 // Adds the edges of the key whose kinds the mask has. The edges of other keys are skipped.
 fn add_edges(frame: &mut [u8], table: &[u8; 7920], key: u8, m: u64)
-    ensures { λ _. ⌜ now (frame .exit) ≡ setAll (fitting (maskHas m) (tableIn (now (table .entry)) .«edge_key») (tableIn (now (table .entry)) .«edge_kind») key) (λ e. 256 + e) (edgeCount (tableIn (now (table .entry)) .edges)) (now (frame .entry)) ⌝ }
+    ensures { λ _. ⌜ now (frame .exit) ≡ setAll (fittingIn (tableIn (now (table .entry))) m key) (λ e. 256 + e) (edgeCount (tableIn (now (table .entry)) .edges)) (now (frame .entry)) ⌝ }
 {
     let n = edge::count(table);
     let mut e = edge::next_of(table, key, 0, n);
@@ -29,7 +29,7 @@ fn add_edges(frame: &mut [u8], table: &[u8; 7920], key: u8, m: u64)
 // Adds the states that the edges whose kinds the mask has lead to from the states of an array. The edges of
 // other kinds are skipped.
 fn add_states<'a>(next: &mut [u8], table: &'a [u8; 7920], frame: &'a [u8], m: u64)
-    ensures { λ _. ⌜ now (next .exit) ≡ setAll (stepping (maskHas m) (tableIn (now (table .entry)) .«edge_rule») (tableIn (now (table .entry)) .«edge_state») (tableIn (now (table .entry)) .«edge_kind») (tableIn (now (table .entry)) .forms) (now (frame .entry))) (stateNumber (tableIn (now (table .entry)) .«edge_rule») (tableIn (now (table .entry)) .«edge_next»)) (edgeCount (tableIn (now (table .entry)) .edges)) (now (next .entry)) ⌝ }
+    ensures { λ _. ⌜ now (next .exit) ≡ setAll (steppingIn (tableIn (now (table .entry))) m (now (frame .entry))) (leadsTo (tableIn (now (table .entry)))) (edgeCount (tableIn (now (table .entry)) .edges)) (now (next .entry)) ⌝ }
 {
     let n = edge::count(table);
     let mut e = mask::skip(table, m, 0, n);

@@ -20,7 +20,7 @@ use Rattle.book.specs.Line.{isForm, formOf, isKey, keyOf, isKind, kindIn, small
 use Rattle.scan.specs.Scan.{capped}
 use Rattle.line.specs.declared.Line.{Line}
 use Rattle.line.specs.declared.Cuts.{Cuts}
-use Rattle.line.specs.Line.{faulty, endLine, Judged, Says, seg, Cut, sayCut, formedEnd, formedEdge}
+use Rattle.line.specs.Line.{faulty, endLine, edgeLine, Judged, Says, seg, Cut, sayCut, formedEnd, formedEdge}
 
 -- ---- well-formed fields
 module _ (k m : List ℕ) (r : Bool) (q : r ≡ same k dash) where
@@ -167,7 +167,7 @@ module _ (x f s k v m : List ℕ) (at : ℕ) (a : Bool) (qa : a ≡ formed x f s
             })
 
         module _ (c : ℕ) (he : e ≡ false) (qc : c ≡ capped 38 (codeOf (kindIn v))) where
-          pub says-kind : (r : Line) → 38 ≤ c → r ≡ faulty 4 at → Judged k at (sayFields x f s k v m) r
+          says-kind : (r : Line) → 38 ≤ c → r ≡ faulty 4 at → Judged k at (sayFields x f s k v m) r
           unfolding small
           says-kind r h p =
               over r ea
@@ -180,7 +180,7 @@ module _ (x f s k v m : List ℕ) (at : ℕ) (a : Bool) (qa : a ≡ formed x f s
               )) p
 
           module _ (n : ℕ) (hc : c < 38) (qn : n ≡ capped 16 (number m)) where
-            pub says-next : (r : Line) → 16 ≤ n → r ≡ faulty 4 at → Judged k at (sayFields x f s k v m) r
+            says-next : (r : Line) → 16 ≤ n → r ≡ faulty 4 at → Judged k at (sayFields x f s k v m) r
             unfolding small
             says-next r h p =
                 over r ea
@@ -193,7 +193,7 @@ module _ (x f s k v m : List ℕ) (at : ℕ) (a : Bool) (qa : a ≡ formed x f s
                   ltb-of-capped-ge 16 (number m) n qn h,
                 )) p
 
-            pub says-edge : (w : ℕ) → n < 16 → w ≡ length (keyOf k)
+            says-edge : (w : ℕ) → n < 16 → w ≡ length (keyOf k)
                 → Judged k at (sayFields x f s k v m) (record { fault = 0; rule = i; obj = g; state = j; kind = c; next = n; «key_at» = at; «key_len» = w })
             unfolding sayFields small entryOf formOf
             says-edge w h qw =
@@ -208,6 +208,37 @@ module _ (x f s k v m : List ℕ) (at : ℕ) (a : Bool) (qa : a ≡ formed x f s
                   place = refl;
                   len = omega (arith, keyOf-le k);
                 }
+
+        -- an edge, whose line may be faulty yet
+        pub says-last : (r : Line) → e ≡ false → r ≡ edgeLine i g j at (capped 38 (codeOf (kindIn v))) (capped 16 (number m)) (length (keyOf k))
+            → Judged k at (sayFields x f s k v m) r
+        says-last r he p = rw p (go (ltb c 38) refl (ltb n 16) refl)
+          where
+            c : ℕ
+            c = capped 38 (codeOf (kindIn v))
+
+            n : ℕ
+            n = capped 16 (number m)
+
+            go : (y : Bool) → ltb c 38 ≡ y → (z : Bool) → ltb n 16 ≡ z
+                → Judged k at (sayFields x f s k v m)
+                (cond y (cond z (record { fault = 0; rule = i; obj = g; state = j; kind = c; next = n; «key_at» = at; «key_len» = length (keyOf k) }) (faulty 4 at)) (faulty 4 at))
+            go false y z w = says-kind c he refl (faulty 4 at) (ltb-false c 38 y) refl
+            go true y false w = says-next c he refl n (ltb-true c 38 y) refl (faulty 4 at) (ltb-false n 16 w) refl
+            go true y true w = says-edge c he refl n (ltb-true c 38 y) refl (length (keyOf k)) (ltb-true n 16 w) refl
+
+-- ---- an edge: kind, next and the length of the key as they were read
+module _ (r : ℕ) (b : Bool) (q at c c′ m′ n′ : ℕ) (qc : c ≡ c′) where
+  pub edgeLine-kind : (x : Line) → 38 ≤ c → x ≡ faulty 4 at → x ≡ edgeLine r b q at c′ m′ n′
+  edgeLine-kind x h e = rw (← qc, le-ltb c 38 h) e
+
+  module _ (h : c < 38) (m : ℕ) (qm : m ≡ m′) where
+    pub edgeLine-next : (x : Line) → 16 ≤ m → x ≡ faulty 4 at → x ≡ edgeLine r b q at c′ m′ n′
+    edgeLine-next x k e = rw (← qc, ← qm, lt-ltb c 38 h, le-ltb m 16 k) e
+
+    pub edgeLine-good : (n : ℕ) → m < 16 → n ≡ n′
+        → record { fault = 0; rule = r; obj = b; state = q; kind = c; next = m; «key_at» = at; «key_len» = n } ≡ edgeLine r b q at c′ m′ n′
+    edgeLine-good n k e = rw (← qc, ← qm, ← e, lt-ltb c 38 h, lt-ltb m 16 k)
 
 -- ---- a line
 

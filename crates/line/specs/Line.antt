@@ -67,6 +67,15 @@ faulty n at = record { fault = n; rule = 0; obj = false; state = 0; kind = 0; ne
 abbrev pub endLine : ℕ → Bool → ℕ → ℕ → Line
 endLine r b q at = record { fault = 0; rule = r; obj = b; state = q; kind = 38; next = 0; «key_at» = at; «key_len» = 0 }
 
+-- the line of an edge with a kind of code c, next m and a key of n bytes, or refusal 4 where kind or next are above their limits
+abbrev pub edgeLine : ℕ → Bool → ℕ → ℕ → ℕ → ℕ → ℕ → Line
+edgeLine r b q at c m n =
+    cond (ltb c 38)
+    (cond (ltb m 16)
+    (record { fault = 0; rule = r; obj = b; state = q; kind = c; next = m; «key_at» = at; «key_len» = n })
+    (faulty 4 at))
+    (faulty 4 at)
+
 -- what six fields with the key's field k, which is at `at`, are judged to say
 pub record Judged (k : List ℕ) (at : ℕ) (s : Said) (r : Line) : Type 0 where
   pub says : saidWith r k ≡ s

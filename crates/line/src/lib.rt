@@ -2,8 +2,11 @@
 ghost use mathlib.Core.Path.{_≡_};
 ghost use Prim.Native.Nat.{_+_, _<_};
 ghost use lib.ListN.{length};
-ghost use Rattle.book.specs.Line.{formed as isFormed, keyOf, sayFields, sayLine};
-ghost use Rattle.line.specs.Line.{noCuts, Cut, sayCut, Judged, Says, faulty, endLine, formedEnd, formedEdge};
+ghost use Rattle.table.specs.Kind.{codeOf};
+ghost use Rattle.book.specs.Text.{number};
+ghost use Rattle.book.specs.Line.{formed as isFormed, keyOf, kindIn, sayFields, sayLine};
+ghost use Rattle.scan.specs.Scan.{capped};
+ghost use Rattle.line.specs.Line.{noCuts, Cut, sayCut, Judged, Says, faulty, endLine, edgeLine, formedEnd, formedEdge};
 use table::bytes;
 
 const OBJ: [u8; 3] = *b"obj";
@@ -170,6 +173,31 @@ fn key_length(key: &[u8]) -> usize
     key.len()
 }
 
+// What the last fields of an edge say, whose rule, form and state are told.
+fn judge_edge(r: u8, obj: bool, q: u8, key: &[u8], value: &[u8], next: &[u8], at: usize) -> Line
+    ensures { λ l. ⌜ l ≡ edgeLine r obj q at (capped 38 (codeOf (kindIn (now (value .entry))))) (capped 16 (number (now (next .entry)))) (length (keyOf (now (key .entry)))) ⌝ }
+{
+    let v = scan::kind_code(value);
+    if 38 <= v {
+        return bad_line(4, at);
+    }
+    let m = scan::value(next, 16);
+    if 16 <= m {
+        return bad_line(4, at);
+    }
+    let n = key_length(key);
+    Line {
+        fault: 0,
+        rule: r,
+        obj,
+        state: q,
+        kind: v,
+        next: m,
+        key_at: at,
+        key_len: n,
+    }
+}
+
 // What six fields say, the key's field being at `at`.
 fn judge_fields(
     rule: &[u8],
@@ -197,25 +225,7 @@ fn judge_fields(
     if bytes::equal(value, &END) {
         return end_line(r, obj, q, at);
     }
-    let v = scan::kind_code(value);
-    if 38 <= v {
-        return bad_line(4, at);
-    }
-    let m = scan::value(next, 16);
-    if 16 <= m {
-        return bad_line(4, at);
-    }
-    let n = key_length(key);
-    Line {
-        fault: 0,
-        rule: r,
-        obj,
-        state: q,
-        kind: v,
-        next: m,
-        key_at: at,
-        key_len: n,
-    }
+    judge_edge(r, obj, q, key, value, next, at)
 }
 
 // What a line with spaces at p1 to p5 says.

@@ -26,9 +26,9 @@ module _ (forms : List ℕ) (v : ℕ) where
   unfolding danglesCode
   dangles-past h e = rw (le-leb 6 v h, ← e)
 
-pub danglesAt-code : (kinds forms : List ℕ) (e x : ℕ) (r : Bool) → x ≡ getD kinds e 0 → r ≡ danglesCode forms x → r ≡ danglesAt kinds forms e
+pub danglesAt-code : (t : Table) (e x : ℕ) (r : Bool) → x ≡ getD (t .«edge_kind») e 0 → r ≡ danglesCode (t .forms) x → r ≡ danglesAt t e
 unfolding danglesAt
-danglesAt-code kinds forms e x r p q = q ∙ ap (danglesCode forms) p
+danglesAt-code t e x r p q = q ∙ ap (danglesCode (t .forms)) p
 
 -- not below is at least
 leb-not-ltb : (a b : ℕ) → leb b a ≡ not (ltb a b)
@@ -57,52 +57,55 @@ module _ (f r r′ m q k k′ : ℕ) where
       unfolding clashCodes
       clash-key h = rw (eq-eqb f 1 a, eq-eqb r r′ b, eq-eqb m q h) (leb-not-ltb k k′)
 
-module _ (rules states keys nexts forms : List ℕ) where
-  pub clashAt-codes : (a b f x u v m q k k′ : ℕ) (r : Bool) → x ≡ getD rules a 0 → f ≡ getD forms x 0 → u ≡ getD rules a 0 → v ≡ getD rules b 0
-      → m ≡ getD nexts a 0 → q ≡ getD states b 0 → k ≡ getD keys a 0 → k′ ≡ getD keys b 0
-      → r ≡ clashCodes f u v m q k k′ → r ≡ clashAt rules states keys nexts forms a b
+module _ (t : Table) where
+  pub clashAt-codes : (a b f x u v m q k k′ : ℕ) (r : Bool) → x ≡ getD (t .«edge_rule») a 0 → f ≡ getD (t .forms) x 0
+      → u ≡ getD (t .«edge_rule») a 0 → v ≡ getD (t .«edge_rule») b 0 → m ≡ getD (t .«edge_next») a 0 → q ≡ getD (t .«edge_state») b 0
+      → k ≡ getD (t .«edge_key») a 0 → k′ ≡ getD (t .«edge_key») b 0 → r ≡ clashCodes f u v m q k k′ → r ≡ clashAt t a b
   unfolding clashAt
   clashAt-codes a b f x u v m q k k′ r ex ef eu ev em eq ek el e = e ∙ rw (ef, ex, eu, ev, em, eq, ek, el)
 
-  module _ (b a : ℕ) (r : Bool) (q : r ≡ clashAt rules states keys nexts forms a b) where
-    pub clashesAt-one : r ≡ true → true ≡ clashesAt rules states keys nexts forms b a
+  module _ (b a : ℕ) (r : Bool) (q : r ≡ clashAt t a b) where
+    pub clashesAt-one : r ≡ true → true ≡ clashesAt t b a
     unfolding clashesAt
     clashesAt-one e = rw (sym q ∙ e)
 
-    pub clashesAt-other : (s : Bool) → r ≡ false → s ≡ clashAt rules states keys nexts forms b a → s ≡ clashesAt rules states keys nexts forms b a
+    pub clashesAt-other : (s : Bool) → r ≡ false → s ≡ clashAt t b a → s ≡ clashesAt t b a
     unfolding clashesAt
     clashesAt-other s e p = rw (sym q ∙ e) p
 
-  pub lateAt-start : (b : ℕ) → some (clashesAt rules states keys nexts forms b) 0 (b + 1 - 0) ≡ lateAt rules states keys nexts forms b
+  pub lateAt-start : (b : ℕ) → some (clashesAt t b) 0 (b + 1 - 0) ≡ lateAt t b
   unfolding lateAt
   lateAt-start b = let e : b + 1 - 0 ≡ b + 1 = omega arith in rw e
 
--- ---- a table
-module _ (t : Table) (n d : ℕ) (qn : n ≡ t .edges) (q′ : d ≡ firstAt (danglesAt (t .«edge_kind») (t .forms)) (lineAt (t .«edge_line»)) 0 n) where
-  q : d ≡ firstAt (danglesAt (t .«edge_kind») (t .forms)) (lineAt (t .«edge_line»)) 0 (t .edges)
-  q = q′ ∙ ap (firstAt (danglesAt (t .«edge_kind») (t .forms)) (lineAt (t .«edge_line»)) 0) qn
+  -- n: the count of edges as it was read
+  module _ (n : ℕ) (q : n ≡ t .edges) where
+    pub danglingLine-start : firstAt (danglesAt t) (lineAt t) 0 (n - 0) ≡ danglingLine t
+    unfolding danglingLine
+    danglingLine-start = let e : n - 0 ≡ t .edges = omega arith in rw e
 
+    pub clashLine-start : firstAt (lateAt t) (lineAt t) 0 (n - 0) ≡ clashLine t
+    unfolding clashLine
+    clashLine-start = let e : n - 0 ≡ t .edges = omega arith in rw e
+
+-- ---- a table
+module _ (t : Table) (d : ℕ) (q : d ≡ danglingLine t) where
   pub check-dangling : (v : Loaded) → (d ≡ 0 → ⊥) → v ≡ refusal (NoRule d) → v ≡ checkTable t
-  unfolding checkTable danglingLine
+  unfolding checkTable
   check-dangling v h w = rw (sym q, ne-eqb d 0 h) w
 
   module _ (nd : d ≡ 0) (x : ℕ) (qx : x ≡ getD (t .forms) 0 0) where
     pub check-root : (v : Loaded) → x ≡ 0 → v ≡ refusal NoRoot → v ≡ checkTable t
-    unfolding checkTable danglingLine
+    unfolding checkTable
     check-root v h w = rw (sym q, eq-eqb d 0 nd, eq-eqb (getD (t .forms) 0 0) 0 (sym qx ∙ h)) w
 
-    module _ (nx : x ≡ 0 → ⊥) (c : ℕ)
-        (p′ : c ≡ firstAt (lateAt (t .«edge_rule») (t .«edge_state») (t .«edge_key») (t .«edge_next») (t .forms)) (lineAt (t .«edge_line»)) 0 n) where
+    module _ (nx : x ≡ 0 → ⊥) (c : ℕ) (p : c ≡ clashLine t) where
       some-root : getD (t .forms) 0 0 ≡ 0 → ⊥
       some-root z = nx (qx ∙ z)
 
-      p : c ≡ firstAt (lateAt (t .«edge_rule») (t .«edge_state») (t .«edge_key») (t .«edge_next») (t .forms)) (lineAt (t .«edge_line»)) 0 (t .edges)
-      p = p′ ∙ ap (firstAt (lateAt (t .«edge_rule») (t .«edge_state») (t .«edge_key») (t .«edge_next») (t .forms)) (lineAt (t .«edge_line»)) 0) qn
-
       pub check-clash : (v : Loaded) → (c ≡ 0 → ⊥) → v ≡ refusal (NotAscending c) → v ≡ checkTable t
-      unfolding checkTable danglingLine clashLine
+      unfolding checkTable
       check-clash v h w = rw (sym q, eq-eqb d 0 nd, ne-eqb (getD (t .forms) 0 0) 0 some-root, sym p, ne-eqb c 0 h) w
 
-      pub check-good : c ≡ 0 → loaded t ≡ checkTable t
-      unfolding checkTable danglingLine clashLine
-      check-good h = rw (sym q, eq-eqb d 0 nd, ne-eqb (getD (t .forms) 0 0) 0 some-root, sym p, eq-eqb c 0 h)
+      pub check-good : (v : Loaded) → c ≡ 0 → v ≡ loaded t → v ≡ checkTable t
+      unfolding checkTable
+      check-good v h w = w ∙ rw (sym q, eq-eqb d 0 nd, ne-eqb (getD (t .forms) 0 0) 0 some-root, sym p, eq-eqb c 0 h)

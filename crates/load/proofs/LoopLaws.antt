@@ -41,9 +41,6 @@ module _ (f : ℕ → Bool) (g : ℕ → ℕ) (i n v : ℕ) (inv : firstAt f g i
   unfolding firstAt
   firstAt-end h = let m : n - i ≡ 0 = omega arith in rw m at inv
 
-pub firstAt-start : (f : ℕ → Bool) (g : ℕ → ℕ) (n : ℕ) → firstAt f g 0 (n - 0) ≡ firstAt f g 0 n
-firstAt-start f g n = let e : n - 0 ≡ n = omega arith in rw e
-
 -- ---- writing a key: what is left to write gives v
 module _ (w k v : List ℕ) (a i : ℕ) (inv : written w (a + i) (drop i k) ≡ v) where
   pub written-more : i < length k → written (set w (a + i) (getD k i 0)) (a + (i + 1)) (drop (i + 1) k) ≡ v

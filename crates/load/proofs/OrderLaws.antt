@@ -83,7 +83,7 @@ module _ (t : Table) (es : List Entry) (kept : Kept t es) where
   pub danglingLine-same : danglingLine t ≡ firstLine (dangles es) 2 es
   unfolding danglingLine danglesAt tableEdges edgesOf
   danglingLine-same =
-      firstAt-tab (danglesAt (t .«edge_kind») (t .forms)) (lineAt (t .«edge_line»)) (λ y. danglesCode (t .forms) (y .kind)) (edgeAt t) 0 (t .edges) (λ k. refl) (λ k. refl)
+      firstAt-tab (danglesAt t) (lineAt t) (λ y. danglesCode (t .forms) (y .kind)) (edgeAt t) 0 (t .edges) (λ k. refl) (λ k. refl)
       ∙ ap (firstEdge (λ y. danglesCode (t .forms) (y .kind))) (kept .holds .edged)
       ∙ firstEdge-line (keysOf es) (λ y. danglesCode (t .forms) (y .kind)) (dangles es) 2 es (each-map Proper _ dangles-tests es (kept .proper))
 
@@ -102,16 +102,14 @@ firstLate fs seen [] = 0
 firstLate fs seen (x ∷ xs) = cond (any (clashesEdges fs x) (seen ++ (x ∷ []))) (x .line) (firstLate fs (seen ++ (x ∷ [])) xs)
 
 module _ (t : Table) where
-  late-any : (i : ℕ)
-      → lateAt (t .«edge_rule») (t .«edge_state») (t .«edge_key») (t .«edge_next») (t .forms) i
-      ≡ any (clashesEdges (t .forms) (edgeAt t i)) (tab (edgeAt t) 0 i ++ (edgeAt t i ∷ []))
+  late-any : (i : ℕ) → lateAt t i ≡ any (clashesEdges (t .forms) (edgeAt t i)) (tab (edgeAt t) 0 i ++ (edgeAt t i ∷ []))
   unfolding lateAt clashesAt clashAt clashesEdges clashEdges
   late-any i =
-      some-tab (clashesAt (t .«edge_rule») (t .«edge_state») (t .«edge_key») (t .«edge_next») (t .forms) i) (clashesEdges (t .forms) (edgeAt t i)) (edgeAt t) 0 (i + 1) (λ k. refl)
+      some-tab (clashesAt t i) (clashesEdges (t .forms) (edgeAt t i)) (edgeAt t) 0 (i + 1) (λ k. refl)
       ∙ ap (any (clashesEdges (t .forms) (edgeAt t i))) (tab-one-more (edgeAt t) i)
 
   firstAt-late : (i n : ℕ)
-      → firstAt (lateAt (t .«edge_rule») (t .«edge_state») (t .«edge_key») (t .«edge_next») (t .forms)) (lineAt (t .«edge_line»)) i n
+      → firstAt (lateAt t) (lineAt t) i n
       ≡ firstLate (t .forms) (tab (edgeAt t) 0 i) (tab (edgeAt t) i n)
   unfolding firstAt firstLate
   firstAt-late i zero = refl

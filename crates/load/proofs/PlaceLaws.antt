@@ -150,11 +150,11 @@ end-in-place l w r f q a b e = tableIn-slots _ ∙ ap tableWith parts ∙ rw (ta
     parts = rw (put-slot _ 11 r _ a, e ∙ setBit-ends l i (omega arith), put-slot _ 10 (i / 8) _ (omega arith))
 
 -- ---- edges as they are read
-pub sameAt-read : (rules states keys kinds nexts : List ℕ) (c : Cell) (e r q k v m : ℕ) (b : Bool) → r ≡ getD rules e 0 → q ≡ getD states e 0 → k ≡ getD keys e 0
-    → v ≡ getD kinds e 0 → m ≡ getD nexts e 0 → b ≡ (eqb (c .rule) r && (eqb (c .state) q && (eqb (c .key) k && (eqb (c .kind) v && eqb (c .next) m))))
-    → b ≡ sameAt rules states keys kinds nexts c e
+pub sameAt-read : (t : Table) (c : Cell) (e r q k v m : ℕ) (b : Bool) → r ≡ getD (t .«edge_rule») e 0 → q ≡ getD (t .«edge_state») e 0
+    → k ≡ getD (t .«edge_key») e 0 → v ≡ getD (t .«edge_kind») e 0 → m ≡ getD (t .«edge_next») e 0
+    → b ≡ (eqb (c .rule) r && (eqb (c .state) q && (eqb (c .key) k && (eqb (c .kind) v && eqb (c .next) m)))) → b ≡ sameAt t c e
 unfolding sameAt
-sameAt-read rules states keys kinds nexts c e r q k v m b x0 x1 x2 x3 x4 y = y ∙ rw (x0, x1, x2, x3, x4)
+sameAt-read t c e r q k v m b x0 x1 x2 x3 x4 y = y ∙ rw (x0, x1, x2, x3, x4)
 
 -- a rule past the forms has none
 pub forms-past : (l : List ℕ) (r : ℕ) → 32 ≤ r → 0 ≡ getD (tableIn l .forms) r 0

@@ -45,16 +45,16 @@ zeros-le (suc n) m (suc j) = zeros-le n m j
 pub ranges-empty : Ranges emptyTable
 ranges-empty =
     rw emptyTable-parts (record {
-  edges = omega arith;
-  keys = omega arith;
-  rule = zeros-le 512 31;
-  state = zeros-le 512 15;
-  key = zeros-le 512 128;
-  kind = zeros-le 512 37;
-  next = zeros-le 512 15;
-  len = zeros-le 128 32;
-  form = zeros-le 32 2;
-})
+      edges = omega arith;
+      keys = omega arith;
+      rule = zeros-le 512 31;
+      state = zeros-le 512 15;
+      key = zeros-le 512 128;
+      kind = zeros-le 512 37;
+      next = zeros-le 512 15;
+      len = zeros-le 128 32;
+      form = zeros-le 32 2;
+    })
 
 formCode-le : (f : Form) → formCode f ≤ 2
 unfolding formCode

@@ -68,18 +68,18 @@ pub record Sized (t : Table) : Type 0 where
 pub sized-empty : Sized emptyTable
 sized-empty =
     rw emptyTable-parts (record {
-  rule = length-replicate {A = ℕ} 512 0;
-  state = length-replicate {A = ℕ} 512 0;
-  key = length-replicate {A = ℕ} 512 0;
-  kind = length-replicate {A = ℕ} 512 0;
-  next = length-replicate {A = ℕ} 512 0;
-  line = rw lines-zero (length-replicate {A = ℕ} 512 0);
-  bytes = length-replicate {A = ℕ} 4096 0;
-  lens = length-replicate {A = ℕ} 128 0;
-  ends = length-replicate {A = ℕ} 64 0;
-  forms = length-replicate {A = ℕ} 32 0;
-  spare = refl;
-})
+      rule = length-replicate {A = ℕ} 512 0;
+      state = length-replicate {A = ℕ} 512 0;
+      key = length-replicate {A = ℕ} 512 0;
+      kind = length-replicate {A = ℕ} 512 0;
+      next = length-replicate {A = ℕ} 512 0;
+      line = rw lines-zero (length-replicate {A = ℕ} 512 0);
+      bytes = length-replicate {A = ℕ} 4096 0;
+      lens = length-replicate {A = ℕ} 128 0;
+      ends = length-replicate {A = ℕ} 64 0;
+      forms = length-replicate {A = ℕ} 32 0;
+      spare = refl;
+    })
 
 written-sets : (w : List ℕ) (a : ℕ) (k : List ℕ) → written w a k ≡ sets w a k
 unfolding written
@@ -174,7 +174,7 @@ sameCell c x = eqb (c .rule) (x .rule) && (eqb (c .state) (x .state) && (eqb (c 
 pub hasCell-tableEdges : (t : Table) (c : Cell) → hasCell t c ≡ any (sameCell c) (tableEdges t)
 unfolding hasCell sameAt tableEdges sameCell
 hasCell-tableEdges t c =
-    some-tab (sameAt (t .«edge_rule») (t .«edge_state») (t .«edge_key») (t .«edge_kind») (t .«edge_next») c) (sameCell c) (edgeAt t) 0 (t .edges) (λ k. refl)
+    some-tab (sameAt t c) (sameCell c) (edgeAt t) 0 (t .edges) (λ k. refl)
 
 -- ---- keys
 module _ (w : List ℕ) (a : ℕ) (k : List ℕ) (fits : a + length k ≤ length w) where

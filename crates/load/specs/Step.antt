@@ -99,15 +99,17 @@ withKey t k = withKeyIn t (written (t .«key_bytes») (32 * t .keys) k) (length 
 
 -- ---- one line
 
--- edge e has the numbers of a cell, from the rules, states, key numbers, kinds and nexts of all edges
-unfoldable pub sameAt : List ℕ → List ℕ → List ℕ → List ℕ → List ℕ → Cell → ℕ → Bool
-sameAt rules states keys kinds nexts c e =
-    eqb (c .rule) (getD rules e 0)
-    && (eqb (c .state) (getD states e 0) && (eqb (c .key) (getD keys e 0) && (eqb (c .kind) (getD kinds e 0) && eqb (c .next) (getD nexts e 0))))
+-- edge e has the numbers of a cell
+unfoldable pub sameAt : Table → Cell → ℕ → Bool
+sameAt t c e =
+    eqb (c .rule) (getD (t .«edge_rule») e 0)
+    && (eqb (c .state) (getD (t .«edge_state») e 0)
+    && (eqb (c .key) (getD (t .«edge_key») e 0)
+    && (eqb (c .kind) (getD (t .«edge_kind») e 0) && eqb (c .next) (getD (t .«edge_next») e 0))))
 
 -- an edge of the table has the numbers of a cell
 unfoldable pub hasCell : Table → Cell → Bool
-hasCell t c = some (sameAt (t .«edge_rule») (t .«edge_state») (t .«edge_key») (t .«edge_kind») (t .«edge_next») c) 0 (t .edges)
+hasCell t c = some (sameAt t c) 0 (t .edges)
 
 -- the key of n bytes with number k is a new one behind m keys
 unfoldable pub isNew : ℕ → ℕ → ℕ → Bool

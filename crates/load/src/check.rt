@@ -3,8 +3,8 @@ ghost use mathlib.Core.Path.{_≡_};
 ghost use Prim.Native.Nat.{_≤_, _<_};
 ghost use lib.ListN.{getD};
 ghost use Rattle.table.specs.Flat.{tableIn};
-ghost use Rattle.load.specs.Step.{firstAt, loadedAs};
-ghost use Rattle.load.specs.Check.{danglesCode, danglesAt, clashCodes, clashAt, clashesAt, lateAt, lineAt, checkTable};
+ghost use Rattle.load.specs.Step.{loadedAs};
+ghost use Rattle.load.specs.Check.{danglesCode, clashCodes, clashAt, clashesAt, lateAt, danglingLine, clashLine, checkTable};
 use crate::Answer;
 use crate::read;
 use table::flat;
@@ -23,11 +23,12 @@ fn dangles(table: &[u8; 7920], kind: u8) -> bool
     true
 }
 
-// The line of the first of n edges that refers to a rule without lines, or 0.
-fn dangling_line(table: &[u8; 7920], n: usize) -> usize
-    requires { ⌜ n ≤ 512 ⌝ }
-    ensures { λ r. ⌜ r ≡ firstAt (danglesAt (tableIn (now (table .entry)) .«edge_kind») (tableIn (now (table .entry)) .forms)) (lineAt (tableIn (now (table .entry)) .«edge_line»)) 0 n ⌝ }
+// The line of the first edge that refers to a rule without lines, or 0.
+fn dangling_line(table: &[u8; 7920]) -> usize
+    requires { ⌜ tableIn (now table) .edges ≤ 512 ⌝ }
+    ensures { λ r. ⌜ r ≡ danglingLine (tableIn (now (table .entry))) ⌝ }
 {
+    let n = flat::edges(table);
     let mut e = 0;
     while e < n {
         if dangles(table, flat::kind(table, e)) {
@@ -66,7 +67,7 @@ fn form_of(table: &[u8; 7920], rule: u8) -> u8
 // Edge a leads to edge b, and the keys do not rise.
 fn clash_at(table: &[u8; 7920], a: usize, b: usize) -> bool
     requires { ⌜ (a < 512) × (b < 512) ⌝ }
-    ensures { λ r. ⌜ r ≡ clashAt (tableIn (now (table .entry)) .«edge_rule») (tableIn (now (table .entry)) .«edge_state») (tableIn (now (table .entry)) .«edge_key») (tableIn (now (table .entry)) .«edge_next») (tableIn (now (table .entry)) .forms) a b ⌝ }
+    ensures { λ r. ⌜ r ≡ clashAt (tableIn (now (table .entry))) a b ⌝ }
 {
     let f = form_of(table, flat::rule(table, a));
     let ra = flat::rule(table, a);
@@ -81,7 +82,7 @@ fn clash_at(table: &[u8; 7920], a: usize, b: usize) -> bool
 // Edges a and b clash, the one way or the other.
 fn clashes_at(table: &[u8; 7920], b: usize, a: usize) -> bool
     requires { ⌜ (a < 512) × (b < 512) ⌝ }
-    ensures { λ r. ⌜ r ≡ clashesAt (tableIn (now (table .entry)) .«edge_rule») (tableIn (now (table .entry)) .«edge_state») (tableIn (now (table .entry)) .«edge_key») (tableIn (now (table .entry)) .«edge_next») (tableIn (now (table .entry)) .forms) b a ⌝ }
+    ensures { λ r. ⌜ r ≡ clashesAt (tableIn (now (table .entry))) b a ⌝ }
 {
     if clash_at(table, a, b) {
         return true;
@@ -92,7 +93,7 @@ fn clashes_at(table: &[u8; 7920], b: usize, a: usize) -> bool
 // Edge b clashes with an edge up to it.
 fn late_at(table: &[u8; 7920], b: usize) -> bool
     requires { ⌜ b < 512 ⌝ }
-    ensures { λ r. ⌜ r ≡ lateAt (tableIn (now (table .entry)) .«edge_rule») (tableIn (now (table .entry)) .«edge_state») (tableIn (now (table .entry)) .«edge_key») (tableIn (now (table .entry)) .«edge_next») (tableIn (now (table .entry)) .forms) b ⌝ }
+    ensures { λ r. ⌜ r ≡ lateAt (tableIn (now (table .entry))) b ⌝ }
 {
     let n = b + 1;
     let mut a = 0;
@@ -105,11 +106,12 @@ fn late_at(table: &[u8; 7920], b: usize) -> bool
     false
 }
 
-// The line of the first of n edges that clashes with one up to it, or 0.
-fn clash_line(table: &[u8; 7920], n: usize) -> usize
-    requires { ⌜ n ≤ 512 ⌝ }
-    ensures { λ r. ⌜ r ≡ firstAt (lateAt (tableIn (now (table .entry)) .«edge_rule») (tableIn (now (table .entry)) .«edge_state») (tableIn (now (table .entry)) .«edge_key») (tableIn (now (table .entry)) .«edge_next») (tableIn (now (table .entry)) .forms)) (lineAt (tableIn (now (table .entry)) .«edge_line»)) 0 n ⌝ }
+// The line of the first edge that clashes with one up to it, or 0.
+fn clash_line(table: &[u8; 7920]) -> usize
+    requires { ⌜ tableIn (now table) .edges ≤ 512 ⌝ }
+    ensures { λ r. ⌜ r ≡ clashLine (tableIn (now (table .entry))) ⌝ }
 {
+    let n = flat::edges(table);
     let mut b = 0;
     while b < n {
         if late_at(table, b) {
@@ -125,15 +127,14 @@ pub fn check_table(table: &mut [u8; 7920]) -> Answer
     requires { ⌜ tableIn (now table) .edges ≤ 512 ⌝ }
     ensures { λ r. ⌜ loadedAs r (tableIn (now (table .exit))) ≡ checkTable (tableIn (now (table .entry))) ⌝ }
 {
-    let n = flat::edges(table);
-    let d = dangling_line(table, n);
+    let d = dangling_line(table);
     if d != 0 {
         return read::refusal(table, Answer::NoRule(d));
     }
     if flat::form(table, 0) == 0 {
         return read::refusal(table, Answer::NoRoot);
     }
-    let c = clash_line(table, n);
+    let c = clash_line(table);
     if c != 0 {
         return read::refusal(table, Answer::NotAscending(c));
     }

@@ -60,7 +60,7 @@ fn same_cell(c: Cell, rule: u8, state: u8, key: u8, kind: u8, next: u8) -> bool
 // Edge e has the numbers of the cell.
 fn same_at(table: &[u8; 7920], c: Cell, e: usize) -> bool
     requires { ⌜ e < 512 ⌝ }
-    ensures { λ r. ⌜ r ≡ sameAt (tableIn (now (table .entry)) .«edge_rule») (tableIn (now (table .entry)) .«edge_state») (tableIn (now (table .entry)) .«edge_key») (tableIn (now (table .entry)) .«edge_kind») (tableIn (now (table .entry)) .«edge_next») c e ⌝ }
+    ensures { λ r. ⌜ r ≡ sameAt (tableIn (now (table .entry))) c e ⌝ }
 {
     let r = flat::rule(table, e);
     let q = flat::state(table, e);

@@ -16,10 +16,15 @@ close-frame-requires : tie.Need-close-frame-requires
 close-frame-requires c κs = omega (arith, fits-of-place _ _ _ (c .before .before .place .ensures) (c .before .if1 .taken))
 
 returns : tie.Need-returns
-returns c = let a = c .before .before .before .before .before .args in rw (← frameAt-of-lent (a .work .now) (a .level) _ (c .before .before .before .place .ensures) (c .before .before .if1 .taken)) (c .close-frame .ensures)
+returns c =
+    let d = c .before .before in
+    let a = d .before .before .before .args in
+    rw (← frameAt-of-lent (a .work .now) (a .level) _ (d .before .place .ensures) (d .if1 .taken)) (c .close-frame .ensures)
 
 returns-2 : tie.Need-returns-2
 returns-2 c = let a = c .before .before .before .args in rw (frameAt-none (a .work .now) (a .level) (none-of-place _ _ _ (c .before .place .ensures) (c .if1 .left))) (closed-nil _ _ _)
 
 pub close-level-spec : {M : Type 1} → statement M
-close-level-spec = tie.close (tie.spec (λ c κs. search needs) add-b (λ c. search needs) (λ c. search needs) part-close-frame-end close-frame-requires returns returns-2)
+close-level-spec =
+    tie.close
+    (tie.spec (λ c κs. search needs) add-b (λ c. search needs) (λ c. search needs) part-close-frame-end close-frame-requires returns returns-2)

@@ -7,10 +7,16 @@ use Rattle.frame.proofs.kind_at.Statement.{statement}
 use Rattle.frame.proofs.kind_at.Tie as tie
 
 returns : tie.Need-returns
-returns c = let a = c .before .before .before .before .before .args in rw (kindNumber-of-place (a .work .now) (a .level) _ (c .before .before .before .place .ensures) (c .before .before .if1 .taken), eq-eqb _ 1 (c .if2 .taken))
+returns c =
+    let d = c .before .before in
+    let a = d .before .before .before .args in
+    rw (kindNumber-of-place (a .work .now) (a .level) _ (d .before .place .ensures) (d .if1 .taken), eq-eqb _ 1 (c .if2 .taken))
 
 returns-2 : tie.Need-returns-2
-returns-2 c = let a = c .before .before .before .before .before .args in rw (kindNumber-of-place (a .work .now) (a .level) _ (c .before .before .before .place .ensures) (c .before .before .if1 .taken), ne-eqb _ 1 (c .if2 .left))
+returns-2 c =
+    let d = c .before .before in
+    let a = d .before .before .before .args in
+    rw (kindNumber-of-place (a .work .now) (a .level) _ (d .before .place .ensures) (d .if1 .taken), ne-eqb _ 1 (c .if2 .left))
 
 returns-3 : tie.Need-returns-3
 unfolding kindNumber isObject

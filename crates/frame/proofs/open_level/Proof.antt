@@ -17,10 +17,16 @@ open-frame-requires : tie.Need-open-frame-requires
 open-frame-requires c κs = omega (arith, fits-of-place _ _ _ (c .before .before .place .ensures) (c .before .if1 .taken))
 
 returns : tie.Need-returns
-returns c = let a = c .before .before .before .before .before .before .before .args in putFrame-of-lent _ _ _ (c .before .before .before .before .before .place .ensures) (c .before .before .before .before .if1 .taken) (λ f. opened (tableIn (a .table .now) .forms) (a .object)) _ (c .before .before .open-frame .ensures)
+returns c =
+    let d = c .before .before .before .before in
+    let a = d .before .before .before .args in
+    putFrame-of-lent _ _ _ (d .before .place .ensures) (d .if1 .taken) (λ f. opened (tableIn (a .table .now) .forms) (a .object)) _ (c .before .before .open-frame .ensures)
 
 returns-2 : tie.Need-returns-2
 returns-2 c = putFrame-none _ _ _ (none-of-place _ _ _ (c .before .place .ensures) (c .if1 .left))
 
 pub open-level-spec : {M : Type 1} → statement M
-open-level-spec = tie.close (tie.spec (λ c κs. search needs) add-b (λ c. search needs) (λ c. search needs) part-open-frame-end open-frame-requires (λ c. search needs) returns returns-2)
+open-level-spec =
+    tie.close
+    (tie.spec (λ c κs. search needs) add-b (λ c. search needs) (λ c. search needs) part-open-frame-end open-frame-requires (λ c. search needs) returns
+    returns-2)

@@ -24,7 +24,18 @@ returns-6 : tie.Need-returns-6
 returns-6 c = search (needs, cut-none, more-parts)
 
 returns-7 : tie.Need-returns-7
-returns-7 c = six-parts _ _ (c .before .before .before .before .before .before .before .before .before .before .before .find .ensures) (omega arith) _ (c .before .before .before .before .before .before .before .before .before .find2 .ensures) (omega arith) _ (c .before .before .before .before .before .before .before .find3 .ensures) (omega arith) _ (c .before .before .before .before .before .find4 .ensures) (omega arith) _ (c .before .before .before .find5 .ensures) (omega arith) _ (c .before .find6 .ensures) (omega arith)
+returns-7 c =
+    let c5 = c .before .before .before in
+    let c4 = c5 .before .before in
+    let c3 = c4 .before .before in
+    let c2 = c3 .before .before in
+    let c1 = c2 .before .before in
+    six-parts _ _ (c1 .find .ensures) (omega arith) _ (c2 .find2 .ensures) (omega arith) _ (c3 .find3 .ensures) (omega arith)
+    _ (c4 .find4 .ensures) (omega arith) _ (c5 .find5 .ensures) (omega arith) _ (c .before .find6 .ensures) (omega arith)
 
 pub cut-spec : {M : Type 1} → statement M
-cut-spec = tie.close (tie.spec (λ c κs. search needs) (λ c κs. search needs) returns (λ c. search needs) (λ c κs. search needs) returns-2 (λ c. search needs) (λ c κs. search needs) returns-3 (λ c. search needs) (λ c κs. search needs) returns-4 (λ c. search needs) (λ c κs. search needs) returns-5 (λ c. search needs) (λ c κs. search needs) returns-6 returns-7)
+cut-spec =
+    tie.close
+    (tie.spec (λ c κs. search needs) (λ c κs. search needs) returns (λ c. search needs) (λ c κs. search needs) returns-2 (λ c. search needs)
+    (λ c κs. search needs) returns-3 (λ c. search needs) (λ c κs. search needs) returns-4 (λ c. search needs) (λ c κs. search needs) returns-5
+    (λ c. search needs) (λ c κs. search needs) returns-6 returns-7)

@@ -20,4 +20,7 @@ returns-5 : tie.Need-returns-5
 returns-5 c = search (needs, formed-rule)
 
 pub formed-spec : {M : Type 1} → statement M
-formed-spec = tie.close (tie.spec (λ c κs. search needs) (λ c κs. search needs) (λ c κs. search needs) (λ c. search needs) (λ c κs. search needs) (λ c κs. search needs) returns (λ c κs. search needs) returns-2 returns-3 returns-4 returns-5)
+formed-spec =
+    tie.close
+    (tie.spec (λ c κs. search needs) (λ c κs. search needs) (λ c κs. search needs) (λ c. search needs) (λ c κs. search needs) (λ c κs. search needs)
+    returns (λ c κs. search needs) returns-2 returns-3 returns-4 returns-5)

@@ -17,4 +17,7 @@ returns-4 : tie.Need-returns-4
 returns-4 c = search (needs, formedEdge-kind)
 
 pub formed-edge-spec : {M : Type 1} → statement M
-formed-edge-spec = tie.close (tie.spec (λ c κs. search needs) (λ c κs. search needs) (λ c. search needs) (λ c κs. search needs) (λ c κs. search needs) returns (λ c. search needs) (λ c κs. search needs) returns-2 returns-3 returns-4)
+formed-edge-spec =
+    tie.close
+    (tie.spec (λ c κs. search needs) (λ c κs. search needs) (λ c. search needs) (λ c κs. search needs) (λ c κs. search needs) returns
+    (λ c. search needs) (λ c κs. search needs) returns-2 returns-3 returns-4)

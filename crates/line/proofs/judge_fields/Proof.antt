@@ -1,5 +1,5 @@
 -- `judge_fields` meets its contract: well formed first, then each number against its limit. Assumes nothing.
-use Rattle.line.proofs.LineLaws.{says-malformed, says-rule, says-state, says-end, says-kind, says-next, says-edge}
+use Rattle.line.proofs.LineLaws.{says-malformed, says-rule, says-state, says-end, says-last}
 use borrow.Author.Needs.{needs}
 use Rattle.line.proofs.judge_fields.Statement.{statement}
 use Rattle.line.proofs.judge_fields.Tie as tie
@@ -17,13 +17,11 @@ returns-4 : tie.Need-returns-4
 returns-4 c = search (needs, says-end)
 
 returns-5 : tie.Need-returns-5
-returns-5 c = search (needs, says-kind)
-
-returns-6 : tie.Need-returns-6
-returns-6 c = search (needs, says-next)
-
-returns-7 : tie.Need-returns-7
-returns-7 c = search (needs, says-edge)
+returns-5 c = search (needs, says-last)
 
 pub judge-fields-spec : {M : Type 1} → statement M
-judge-fields-spec = tie.close (tie.spec (λ c κs. search needs) (λ c κs. search needs) returns (λ c κs. search needs) (λ c κs. search needs) returns-2 (λ c κs. search needs) (λ c κs. search needs) returns-3 (λ c. search needs) (λ c κs. search needs) (λ c. search needs) (λ c κs. search needs) (λ c κs. search needs) returns-4 (λ c κs. search needs) (λ c κs. search needs) returns-5 (λ c κs. search needs) (λ c κs. search needs) returns-6 (λ c κs. search needs) returns-7)
+judge-fields-spec =
+    tie.close
+    (tie.spec (λ c κs. search needs) (λ c κs. search needs) returns (λ c κs. search needs) (λ c κs. search needs) returns-2 (λ c κs. search needs)
+    (λ c κs. search needs) returns-3 (λ c. search needs) (λ c κs. search needs) (λ c. search needs) (λ c κs. search needs) (λ c κs. search needs)
+    returns-4 (λ c κs. search needs) returns-5)

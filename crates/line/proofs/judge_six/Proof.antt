@@ -6,7 +6,14 @@ use Rattle.line.proofs.judge_six.Statement.{statement}
 use Rattle.line.proofs.judge_six.Tie as tie
 
 returns : tie.Need-returns
-returns c = key-in-line (c .before .before .before .before .before .before .before .before .args .l .now) (c .before .before .before .before .before .before .before .before .args .p3 + 1) (c .before .before .before .before .before .before .before .before .args .p4) _ _ (search needs) (search needs) (c .judge-fields .ensures)
+returns c =
+    let g = c .before .before .before .before .before .before .before .before .args in
+    key-in-line (g .l .now) (g .p3 + 1) (g .p4) _ _ (search needs) (search needs) (c .judge-fields .ensures)
 
 pub judge-six-spec : {M : Type 1} → statement M
-judge-six-spec = tie.close (tie.spec (λ c. search needs) (λ c. search needs) (λ c. search needs) (λ c. search needs) (λ c. search needs) (λ c. search needs) (λ c. search needs) (λ c. search needs) (λ c. search needs) (λ c. search needs) (λ c. search needs) (λ c. search needs) (λ c. search needs) (λ c. search needs) (λ c. search needs) (λ c. search needs) (λ c. search needs) (λ c. search needs) (λ c. search needs) (λ c. search needs) (λ c. search needs) (λ c. search needs) (λ c. search needs) (λ c κs. search needs) returns)
+judge-six-spec =
+    tie.close
+    (tie.spec (λ c. search needs) (λ c. search needs) (λ c. search needs) (λ c. search needs) (λ c. search needs) (λ c. search needs)
+    (λ c. search needs) (λ c. search needs) (λ c. search needs) (λ c. search needs) (λ c. search needs) (λ c. search needs) (λ c. search needs)
+    (λ c. search needs) (λ c. search needs) (λ c. search needs) (λ c. search needs) (λ c. search needs) (λ c. search needs) (λ c. search needs)
+    (λ c. search needs) (λ c. search needs) (λ c. search needs) (λ c κs. search needs) returns)

@@ -17,4 +17,7 @@ returns-4 : tie.Need-returns-4
 returns-4 c = search (needs, isKind-rule)
 
 pub is-kind-spec : {M : Type 1} → statement M
-is-kind-spec = tie.close (tie.spec (λ c κs. search needs) returns returns-2 (λ c. search needs) returns-3 (λ c. search needs) (λ c. search needs) (λ c. search needs) (λ c κs. search needs) returns-4)
+is-kind-spec =
+    tie.close
+    (tie.spec (λ c κs. search needs) returns returns-2 (λ c. search needs) returns-3 (λ c. search needs) (λ c. search needs) (λ c. search needs)
+    (λ c κs. search needs) returns-4)

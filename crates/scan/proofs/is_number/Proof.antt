@@ -20,4 +20,6 @@ returns-5 : tie.Need-returns-5
 returns-5 c = isNumber-zero _ (c .before .before .before .before .before .before .before .if1 .left) _ (c .before .before .before .before .before .is-between .ensures) (c .before .before .before .before .if2 .left) _ (c .before .before .before .all-between .ensures) (c .before .before .if3 .left) (c .if4 .left)
 
 pub is-number-spec : {M : Type 1} → statement M
-is-number-spec = tie.close (tie.spec returns (λ c. search needs) (λ c κs. search needs) returns-2 (λ c κs. search needs) returns-3 (λ c. search needs) returns-4 returns-5)
+is-number-spec =
+    tie.close
+    (tie.spec returns (λ c. search needs) (λ c κs. search needs) returns-2 (λ c κs. search needs) returns-3 (λ c. search needs) returns-4 returns-5)

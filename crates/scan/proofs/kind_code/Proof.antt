@@ -21,4 +21,7 @@ returns-4 : tie.Need-returns-4
 returns-4 c = search (needs, codeOf-rule)
 
 pub kind-code-spec : {M : Type 1} → statement M
-kind-code-spec = tie.close (tie.spec (λ c κs. search needs) returns returns-2 (λ c. search needs) returns-3 (λ c. search needs) (λ c. search needs) (λ c. search needs) (λ c κs. search needs) add-result returns-4)
+kind-code-spec =
+    tie.close
+    (tie.spec (λ c κs. search needs) returns returns-2 (λ c. search needs) returns-3 (λ c. search needs) (λ c. search needs) (λ c. search needs)
+    (λ c κs. search needs) add-result returns-4)

@@ -26,4 +26,8 @@ returns-7 : tie.Need-returns-7
 returns-7 c = search (needs, plainCode-none)
 
 pub plain-code-spec : {M : Type 1} → statement M
-plain-code-spec = tie.close (tie.spec (λ c. search needs) (λ c κs. search needs) returns (λ c. search needs) (λ c κs. search needs) returns-2 (λ c. search needs) (λ c κs. search needs) returns-3 (λ c. search needs) (λ c κs. search needs) returns-4 (λ c. search needs) (λ c κs. search needs) returns-5 (λ c. search needs) (λ c κs. search needs) returns-6 returns-7)
+plain-code-spec =
+    tie.close
+    (tie.spec (λ c. search needs) (λ c κs. search needs) returns (λ c. search needs) (λ c κs. search needs) returns-2 (λ c. search needs)
+    (λ c κs. search needs) returns-3 (λ c. search needs) (λ c κs. search needs) returns-4 (λ c. search needs) (λ c κs. search needs) returns-5
+    (λ c. search needs) (λ c κs. search needs) returns-6 returns-7)

@@ -14,4 +14,7 @@ returns-3 : tie.Need-returns-3
 returns-3 c = closed-array _ _ _ _ _ (search needs) (c .before .before .if1 .left) (c .rule-set2 .ensures)
 
 pub close-frame-spec : {M : Type 1} → statement M
-close-frame-spec = tie.close (tie.spec (λ c. search needs) (λ c. search needs) returns (λ c κs. search needs) (λ c. search needs) (λ c κs. search needs) returns-2 (λ c. search needs) (λ c. search needs) (λ c. search needs) (λ c κs. search needs) returns-3)
+close-frame-spec =
+    tie.close
+    (tie.spec (λ c. search needs) (λ c. search needs) returns (λ c κs. search needs) (λ c. search needs) (λ c κs. search needs) returns-2
+    (λ c. search needs) (λ c. search needs) (λ c. search needs) (λ c κs. search needs) returns-3)

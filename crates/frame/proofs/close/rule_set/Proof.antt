@@ -1,7 +1,8 @@
 -- `close::rule_set` meets its contract. The loop has the set of the rules below r. Assumes nothing.
 use Prim.Native.Nat.{_-_, _%_, _≤_}
 use Rattle.frame.proofs.QuietLaws.{ruleSet-quiet}
-use Rattle.frame.specs.Ops.{accepting, ruleSet}
+use Rattle.frame.specs.Ops.{ruleSet}
+use Rattle.frame.specs.InTable.{acceptingIn}
 use Rattle.table.specs.Flat.{tableIn}
 use borrow.Author.Needs.{needs}
 use mathlib.Core.Logic.{⊎-elim}
@@ -11,7 +12,7 @@ use Rattle.frame.proofs.close.rule_set.Statement.{statement}
 use Rattle.frame.proofs.close.rule_set.Tie as tie
 
 abbrev Inv-loop : tie.InvT-loop
-Inv-loop states table form set₀ r₀ set r = (r ≤ 32) × (r % 4 ≡ 0) × (set ≡ ruleSet (accepting (tableIn table .forms) (tableIn table .ends) form states) r)
+Inv-loop states table form set₀ r₀ set r = (r ≤ 32) × (r % 4 ≡ 0) × (set ≡ ruleSet (acceptingIn (tableIn table) form states) r)
 
 abbrev μ-loop : tie.MeasureT-loop
 μ-loop states table form set₀ r₀ set r = 32 - r
@@ -34,4 +35,7 @@ returns : tie.Need-returns Inv-loop μ-loop
 returns c = let e : c .before .loop .r ≡ 32 = omega arith in cc
 
 pub rule-set-spec : {M : Type 1} → statement M
-rule-set-spec = tie.close (tie.spec Inv-loop μ-loop loop-holds (λ c. search needs) (λ c κs. search needs) (λ c κs. search needs) (λ c. search needs) (λ c. search needs) loop-again returns)
+rule-set-spec =
+    tie.close
+    (tie.spec Inv-loop μ-loop loop-holds (λ c. search needs) (λ c κs. search needs) (λ c κs. search needs) (λ c. search needs) (λ c. search needs)
+    loop-again returns)

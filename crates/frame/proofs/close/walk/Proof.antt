@@ -27,4 +27,7 @@ returns : tie.Need-returns Inv-loop μ-loop
 returns c = let e : 8 * c .before .loop .i ≡ 128 = omega arith in c .before .loop .inv .1 ∙ ap (walked _ _ _ _) e
 
 pub walk-spec : {M : Type 1} → statement M
-walk-spec = tie.close (tie.spec Inv-loop μ-loop (λ c. search needs) (λ c κs. search needs) loop-holds (λ c κs. search needs) (λ c. search needs) (λ c. search needs) loop-again returns)
+walk-spec =
+    tie.close
+    (tie.spec Inv-loop μ-loop (λ c. search needs) (λ c κs. search needs) loop-holds (λ c κs. search needs) (λ c. search needs) (λ c. search needs)
+    loop-again returns)

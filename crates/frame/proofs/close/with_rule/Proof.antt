@@ -8,7 +8,10 @@ use Rattle.frame.proofs.close.with_rule.Statement.{statement}
 use Rattle.frame.proofs.close.with_rule.Tie as tie
 
 add-result : tie.Need-add-result
-add-result c = let a = c .before .before .before .before .before .args in record { fits = rw (one-shl 32 (a .r) (omega arith)) (with-bit-lt (a .r) (a .set) (omega arith) (c .before .before .before .before .before .pre .2)) }
+add-result c =
+    let d = c .before .before .before .before .before in
+    let a = d .args in
+    record { fits = rw (one-shl 32 (a .r) (omega arith)) (with-bit-lt (a .r) (a .set) (omega arith) (d .pre .2)) }
 
 returns : tie.Need-returns
 returns c = let e = one-shl 32 (c .before .before .before .before .before .args .r) (omega arith) in search (needs, accepting-yes)
@@ -20,4 +23,6 @@ returns-3 : tie.Need-returns-3
 returns-3 c = search (needs, accepting-other)
 
 pub with-rule-spec : {M : Type 1} → statement M
-with-rule-spec = tie.close (tie.spec (λ c κs. search needs) (λ c κs. search needs) (λ c. search needs) (λ c. search needs) add-result returns returns-2 returns-3)
+with-rule-spec =
+    tie.close
+    (tie.spec (λ c κs. search needs) (λ c κs. search needs) (λ c. search needs) (λ c. search needs) add-result returns returns-2 returns-3)

@@ -11,4 +11,6 @@ returns-2 : tie.Need-returns-2
 returns-2 c = λ code. rw (c .before .v2 .given .1) (maskHas-rules _ (search needs) code)
 
 pub mask-of-spec : {M : Type 1} → statement M
-mask-of-spec = tie.close (tie.spec (λ c. search needs) (λ c κs. search needs) (λ c. search needs) (λ c. search needs) (λ c. search needs) returns returns-2)
+mask-of-spec =
+    tie.close
+    (tie.spec (λ c. search needs) (λ c κs. search needs) (λ c. search needs) (λ c. search needs) (λ c. search needs) returns returns-2)

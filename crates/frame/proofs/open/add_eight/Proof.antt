@@ -42,4 +42,7 @@ returns : tie.Need-returns Inv-loop μ-loop
 returns c = let e : c .before .loop .r ≡ c .before .before .before .args .from + 8 = omega arith in λ xs h. rw (← e) (c .before .loop .inv .3 xs h)
 
 pub add-eight-spec : {M : Type 1} → statement M
-add-eight-spec = tie.close (tie.spec Inv-loop μ-loop (λ c. search needs) loop-holds (λ c κs. search needs) (λ c κs. search needs) (λ c. search needs) (λ c. search needs) (λ c. search needs) (λ c. search needs) (λ c. search needs) (λ c. search needs) loop-again (λ c. search needs) returns)
+add-eight-spec =
+    tie.close
+    (tie.spec Inv-loop μ-loop (λ c. search needs) loop-holds (λ c κs. search needs) (λ c κs. search needs) (λ c. search needs) (λ c. search needs)
+    (λ c. search needs) (λ c. search needs) (λ c. search needs) (λ c. search needs) loop-again (λ c. search needs) returns)

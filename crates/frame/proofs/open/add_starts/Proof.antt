@@ -37,4 +37,7 @@ returns : tie.Need-returns Inv-loop μ-loop
 returns c = let e : c .before .loop .r ≡ 32 = omega arith in cc
 
 pub add-starts-spec : {M : Type 1} → statement M
-add-starts-spec = tie.close (tie.spec Inv-loop μ-loop loop-holds (λ c κs. search needs) (λ c κs. search needs) (λ c. search needs) (λ c. search needs) loop-again (λ c. search needs) returns)
+add-starts-spec =
+    tie.close
+    (tie.spec Inv-loop μ-loop loop-holds (λ c κs. search needs) (λ c κs. search needs) (λ c. search needs) (λ c. search needs) loop-again
+    (λ c. search needs) returns)

@@ -23,4 +23,6 @@ returns : tie.Need-returns Inv-loop μ-loop
 returns c = c .before .loop .inv .3 ∙ fill-all 0 (c .before .before .args .s .now) (c .before .loop .i) (omega arith)
 
 pub clear-spec : {M : Type 1} → statement M
-clear-spec = tie.close (tie.spec Inv-loop μ-loop (λ c. search needs) (λ c. search needs) (λ c. search needs) (λ c. search needs) loop-again (λ c. search needs) returns)
+clear-spec =
+    tie.close
+    (tie.spec Inv-loop μ-loop (λ c. search needs) (λ c. search needs) (λ c. search needs) (λ c. search needs) loop-again (λ c. search needs) returns)

@@ -11,17 +11,27 @@ use Rattle.frame.proofs.open.open_frame.Tie as tie
 
 returns : tie.Need-returns
 unfolding opened
-returns c = let l : c .before .before .before .clear .last .0 ≡ replicate 96 0 = c .before .before .before .clear .ensures ∙ ap (λ (n : ℕ). replicate n 0) (c .before .before .before .before .before .before .pre) in rw (l, c .if1 .taken)
+returns c =
+    let a = c .before .before .before in
+    let l : a .clear .last .0 ≡ replicate 96 0 = a .clear .ensures ∙ ap (λ (n : ℕ). replicate n 0) (a .before .before .before .pre) in
+    rw (l, c .if1 .taken)
 
 part-add-starts-end : tie.Need-part-add-starts-end
 part-add-starts-end c = simp length-set (omega arith)
 
 same-length-2 : tie.Need-same-length-2
-same-length-2 c = omega (arith, length-set (c .before .before .before .before .before .before .before .clear .last .0) 0 2)
+same-length-2 c = let a = c .before .before .before .before .before .before .before in omega (arith, length-set (a .clear .last .0) 0 2)
 
 returns-2 : tie.Need-returns-2
 unfolding opened startStates
-returns-2 c = let l : c .before .before .before .before .before .before .before .clear .last .0 ≡ replicate 96 0 = c .before .before .before .before .before .before .before .clear .ensures ∙ ap (λ (n : ℕ). replicate n 0) (c .before .before .before .before .before .before .before .before .before .before .pre) in rw (c .before .before .add-starts .ensures, l, c .before .before .before .before .if1 .left) (ap (λ (s : List ℕ). 2 ∷ (replicate 31 0 ++ s)) (append-nil _))
+returns-2 c =
+    let d = c .before .before .before .before in
+    let a = d .before .before .before in
+    let l : a .clear .last .0 ≡ replicate 96 0 = a .clear .ensures ∙ ap (λ (n : ℕ). replicate n 0) (a .before .before .before .pre) in
+    rw (c .before .before .add-starts .ensures, l, d .if1 .left) (ap (λ (s : List ℕ). 2 ∷ (replicate 31 0 ++ s)) (append-nil _))
 
 pub open-frame-spec : {M : Type 1} → statement M
-open-frame-spec = tie.close (tie.spec (λ c κs. search needs) (λ c. search needs) (λ c. search needs) (λ c. search needs) returns (λ c. search needs) (λ c. search needs) (λ c. search needs) part-add-starts-end (λ c κs. search needs) same-length-2 returns-2)
+open-frame-spec =
+    tie.close
+    (tie.spec (λ c κs. search needs) (λ c. search needs) (λ c. search needs) (λ c. search needs) returns (λ c. search needs) (λ c. search needs)
+    (λ c. search needs) part-add-starts-end (λ c κs. search needs) same-length-2 returns-2)

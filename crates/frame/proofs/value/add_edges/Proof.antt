@@ -1,8 +1,8 @@
 -- `value::add_edges` meets its contract. The loop has set the bits of the edges below e. Assumes nothing.
 use Prim.Native.Nat.{_+_, _-_, _≤_}
 use Rattle.frame.proofs.SkipLaws.{fitting-skipped}
-use Rattle.frame.specs.Edges.{edgeCount, fitting}
-use Rattle.frame.specs.Mask.{maskHas}
+use Rattle.frame.specs.Edges.{edgeCount}
+use Rattle.frame.specs.InTable.{fittingIn}
 use Rattle.laws.proofs.BitLaws.{setAll-more}
 use Rattle.laws.specs.Bits.{setAll}
 use Rattle.table.specs.Flat.{tableIn}
@@ -14,7 +14,10 @@ use Rattle.frame.proofs.value.add_edges.Statement.{statement}
 use Rattle.frame.proofs.value.add_edges.Tie as tie
 
 abbrev Inv-loop : tie.InvT-loop
-Inv-loop frame₀ table key m n e₀ frame e = (e ≤ n) × (frame ≡ setAll (fitting (maskHas m) (tableIn table .«edge_key») (tableIn table .«edge_kind») key) (λ i. 256 + i) e frame₀) × (length frame ≡ length frame₀)
+Inv-loop frame₀ table key m n e₀ frame e =
+    (e ≤ n)
+    × (frame ≡ setAll (fittingIn (tableIn table) m key) (λ i. 256 + i) e frame₀)
+    × (length frame ≡ length frame₀)
 
 abbrev μ-loop : tie.MeasureT-loop
 μ-loop frame₀ table key m n e₀ frame e = n - e
@@ -30,4 +33,7 @@ returns : tie.Need-returns Inv-loop μ-loop
 returns c = let e : c .before .loop .e ≡ edgeCount (tableIn (c .before .before .before .before .before .args .table .now) .edges) = omega arith in cc
 
 pub add-edges-spec : {M : Type 1} → statement M
-add-edges-spec = tie.close (tie.spec Inv-loop μ-loop (λ c κs. search needs) (λ c κs. search needs) loop-holds (λ c κs. search needs) (λ c. search needs) (λ c κs. search needs) (λ c. search needs) (λ c κs. search needs) (λ c. search needs) loop-again (λ c. search needs) returns)
+add-edges-spec =
+    tie.close
+    (tie.spec Inv-loop μ-loop (λ c κs. search needs) (λ c κs. search needs) loop-holds (λ c κs. search needs) (λ c. search needs)
+    (λ c κs. search needs) (λ c. search needs) (λ c κs. search needs) (λ c. search needs) loop-again (λ c. search needs) returns)

@@ -25,4 +25,6 @@ returns : tie.Need-returns Inv-loop μ-loop
 returns c = c .before .loop .inv .2 ∙ copy-all (replicate 96 0) (c .before .before .args .frame .now) (c .before .loop .i) (omega arith) (omega arith)
 
 pub copied-spec : {M : Type 1} → statement M
-copied-spec = tie.close (tie.spec Inv-loop μ-loop loop-holds (λ c. search needs) (λ c. search needs) (λ c. search needs) (λ c. search needs) loop-again returns)
+copied-spec =
+    tie.close
+    (tie.spec Inv-loop μ-loop loop-holds (λ c. search needs) (λ c. search needs) (λ c. search needs) (λ c. search needs) loop-again returns)

@@ -6,15 +6,23 @@ use Rattle.frame.proofs.value.value_frame.Statement.{statement}
 use Rattle.frame.proofs.value.value_frame.Tie as tie
 
 returns : tie.Need-returns
-returns c = valued-known _ _ _ _ _ (maskHas (c .before .before .before .before .before .before .before .before .mask-of .result)) _ (c .before .before .before .before .before .before .before .before .mask-of .ensures) (c .before .before .before .before .before .before .if1 .taken) (c .before .before .before .before .if2 .taken) (c .before .before .add-edges .ensures)
+returns c = search (needs, valued-known)
 
 returns-2 : tie.Need-returns-2
-returns-2 c = valued-unknown _ _ _ _ _ (c .before .before .if1 .taken) (c .if2 .left)
+returns-2 c = search (needs, valued-unknown)
 
 returns-3 : tie.Need-returns-3
 returns-3 c =
-    valued-cleared _ _ _ _ _ (maskHas (c .before .before .before .before .before .before .before .before .before .before .before .before .before .mask-of .result)) _ _ _ (c .before .before .before .before .before .before .before .before .before .before .before .before .before .mask-of .ensures) (c .before .before .before .before .before .before .before .before .before .before .before .if1 .left) (c .before .before .before .before .before .before .before .before .before .before .before .before .before .before .before .pre)
-    (c .before .before .before .before .before .before .before .before .before .copied .ensures) (c .before .before .before .before .before .before .before .clear .ensures) (c .before .before .add-states .ensures)
+    let d = c .before .before .before .before .before .before .before in
+    let e = d .before .before in
+    let f = e .before .before in
+    let g = f .before .before in
+    valued-cleared _ _ _ _ _ (maskHas (g .mask-of .result)) _ _ _ (g .mask-of .ensures) (f .if1 .left) (g .before .before .pre) (e .copied .ensures)
+    (d .clear .ensures) (c .before .before .add-states .ensures)
 
 pub value-frame-spec : {M : Type 1} → statement M
-value-frame-spec = tie.close (tie.spec (λ c κs. search needs) (λ c. search needs) (λ c. search needs) (λ c κs. search needs) (λ c. search needs) returns returns-2 (λ c κs. search needs) (λ c. search needs) (λ c. search needs) (λ c. search needs) (λ c κs. search needs) (λ c. search needs) (λ c. search needs) (λ c. search needs) (λ c. search needs) (λ c κs. search needs) (λ c. search needs) returns-3)
+value-frame-spec =
+    tie.close
+    (tie.spec (λ c κs. search needs) (λ c. search needs) (λ c. search needs) (λ c κs. search needs) (λ c. search needs) returns returns-2
+    (λ c κs. search needs) (λ c. search needs) (λ c. search needs) (λ c. search needs) (λ c κs. search needs) (λ c. search needs) (λ c. search needs)
+    (λ c. search needs) (λ c. search needs) (λ c κs. search needs) (λ c. search needs) returns-3)

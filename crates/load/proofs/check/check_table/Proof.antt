@@ -1,6 +1,5 @@
 -- `check::check_table` meets its contract: refusal 8 by a reference, then by rule 0, then refusal 9. Assumes nothing.
 use Rattle.load.proofs.CheckLaws.{check-dangling, check-root, check-clash, check-good}
-use native.Mathlib.Omega.{arith}
 use borrow.Author.Needs.{needs}
 use Rattle.load.proofs.check.check_table.Statement.{statement}
 use Rattle.load.proofs.check.check_table.Tie as tie
@@ -15,13 +14,10 @@ returns-3 : tie.Need-returns-3
 returns-3 c = search (needs, check-clash)
 
 returns-4 : tie.Need-returns-4
-returns-4 c = check-good _ _ _ (c .before .before .before .before .before .before .before .before .before .edges .ensures) (c .before .before .before .before .before .before .before .dangling-line .ensures) (c .before .before .before .before .before .before .if1 .left) _ (c .before .before .before .before .form .ensures) (c .before .before .before .if2 .left) _ (c .before .clash-line .ensures) (c .if3 .left)
-
-dangling-line-requires : tie.Need-dangling-line-requires
-dangling-line-requires c κs = omega arith
-
-clash-line-requires : tie.Need-clash-line-requires
-clash-line-requires c κs = omega arith
+returns-4 c = search (needs, check-good)
 
 pub check-table-spec : {M : Type 1} → statement M
-check-table-spec = tie.close (tie.spec (λ c κs. search needs) dangling-line-requires (λ c κs. search needs) returns (λ c κs. search needs) (λ c κs. search needs) returns-2 clash-line-requires (λ c κs. search needs) returns-3 returns-4)
+check-table-spec =
+    tie.close
+    (tie.spec (λ c κs. search needs) (λ c κs. search needs) returns (λ c κs. search needs) (λ c κs. search needs) returns-2 (λ c κs. search needs)
+    (λ c κs. search needs) returns-3 returns-4)

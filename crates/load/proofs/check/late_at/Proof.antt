@@ -11,13 +11,13 @@ use Rattle.load.proofs.check.late_at.Statement.{statement}
 use Rattle.load.proofs.check.late_at.Tie as tie
 
 abbrev Inv-loop : tie.InvT-loop
-Inv-loop table b n a₀ a = (a ≤ n) × (n ≡ b + 1) × (some (clashesAt (tableIn table .«edge_rule») (tableIn table .«edge_state») (tableIn table .«edge_key») (tableIn table .«edge_next») (tableIn table .forms) b) a (n - a) ≡ lateAt (tableIn table .«edge_rule») (tableIn table .«edge_state») (tableIn table .«edge_key») (tableIn table .«edge_next») (tableIn table .forms) b)
+Inv-loop table b n a₀ a = (a ≤ n) × (n ≡ b + 1) × (some (clashesAt (tableIn table) b) a (n - a) ≡ lateAt (tableIn table) b)
 
 abbrev μ-loop : tie.MeasureT-loop
 μ-loop table b n a₀ a = n - a
 
 loop-holds : tie.Need-loop-holds Inv-loop μ-loop
-loop-holds c = (search needs, search needs, lateAt-start _ _ _ _ _ _)
+loop-holds c = (search needs, search needs, lateAt-start _ _)
 
 returns : tie.Need-returns Inv-loop μ-loop
 returns c = search (needs, some-hit)
@@ -29,4 +29,7 @@ returns-2 : tie.Need-returns-2 Inv-loop μ-loop
 returns-2 c = search (needs, some-end)
 
 pub late-at-spec : {M : Type 1} → statement M
-late-at-spec = tie.close (tie.spec Inv-loop μ-loop (λ c. search needs) loop-holds (λ c κs. search needs) returns (λ c. search needs) (λ c. search needs) loop-again returns-2)
+late-at-spec =
+    tie.close
+    (tie.spec Inv-loop μ-loop (λ c. search needs) loop-holds (λ c κs. search needs) returns (λ c. search needs) (λ c. search needs) loop-again
+    returns-2)

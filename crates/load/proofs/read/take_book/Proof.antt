@@ -20,4 +20,7 @@ returns-5 : tie.Need-returns-5
 returns-5 c = search (needs, book-other)
 
 pub take-book-spec : {M : Type 1} → statement M
-take-book-spec = tie.close (tie.spec (λ c κs. search needs) returns (λ c κs. search needs) returns-2 (λ c κs. search needs) returns-3 (λ c. search needs) (λ c. search needs) (λ c. search needs) (λ c. search needs) (λ c κs. search needs) (λ c κs. search needs) returns-4 (λ c κs. search needs) returns-5)
+take-book-spec =
+    tie.close
+    (tie.spec (λ c κs. search needs) returns (λ c κs. search needs) returns-2 (λ c κs. search needs) returns-3 (λ c. search needs) (λ c. search needs)
+    (λ c. search needs) (λ c. search needs) (λ c κs. search needs) (λ c κs. search needs) returns-4 (λ c κs. search needs) returns-5)

@@ -14,4 +14,7 @@ returns-2 : tie.Need-returns-2
 returns-2 c = search (needs, line-entry)
 
 pub take-line-spec : {M : Type 1} → statement M
-take-line-spec = tie.close (tie.spec (λ c κs. search needs) returns (λ c. search needs) (λ c. search needs) (λ c. search needs) (λ c. search needs) take-entry-requires returns-2)
+take-line-spec =
+    tie.close
+    (tie.spec (λ c κs. search needs) returns (λ c. search needs) (λ c. search needs) (λ c. search needs) (λ c. search needs) take-entry-requires
+    returns-2)

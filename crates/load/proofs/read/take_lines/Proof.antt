@@ -34,4 +34,8 @@ returns-3 : tie.Need-returns-3 Inv-loop μ-loop
 returns-3 c = search (needs, lines-end)
 
 pub take-lines-spec : {M : Type 1} → statement M
-take-lines-spec = tie.close (tie.spec Inv-loop μ-loop (λ c κs. search needs) loop-holds (λ c κs. search needs) (λ c κs. search needs) returns (λ c. search needs) (λ c. search needs) (λ c. search needs) (λ c. search needs) (λ c κs. search needs) (λ c κs. search needs) (λ c κs. search needs) returns-2 (λ c. search needs) (λ c. search needs) (λ c. search needs) loop-again returns-3)
+take-lines-spec =
+    tie.close
+    (tie.spec Inv-loop μ-loop (λ c κs. search needs) loop-holds (λ c κs. search needs) (λ c κs. search needs) returns (λ c. search needs)
+    (λ c. search needs) (λ c. search needs) (λ c. search needs) (λ c κs. search needs) (λ c κs. search needs) (λ c κs. search needs) returns-2
+    (λ c. search needs) (λ c. search needs) (λ c. search needs) loop-again returns-3)

@@ -9,7 +9,7 @@ use Rattle.load.proofs.store.has_cell.Statement.{statement}
 use Rattle.load.proofs.store.has_cell.Tie as tie
 
 abbrev Inv-loop : tie.InvT-loop
-Inv-loop table c n e₀ e = (e ≤ n) × (some (sameAt (tableIn table .«edge_rule») (tableIn table .«edge_state») (tableIn table .«edge_key») (tableIn table .«edge_kind») (tableIn table .«edge_next») c) e (n - e) ≡ hasCell (tableIn table) c)
+Inv-loop table c n e₀ e = (e ≤ n) × (some (sameAt (tableIn table) c) e (n - e) ≡ hasCell (tableIn table) c)
 
 abbrev μ-loop : tie.MeasureT-loop
 μ-loop table c n e₀ e = n - e
@@ -28,4 +28,7 @@ returns-2 : tie.Need-returns-2 Inv-loop μ-loop
 returns-2 c = search (needs, some-end)
 
 pub has-cell-spec : {M : Type 1} → statement M
-has-cell-spec = tie.close (tie.spec Inv-loop μ-loop (λ c κs. search needs) loop-holds (λ c κs. search needs) returns (λ c. search needs) (λ c. search needs) loop-again returns-2)
+has-cell-spec =
+    tie.close
+    (tie.spec Inv-loop μ-loop (λ c κs. search needs) loop-holds (λ c κs. search needs) returns (λ c. search needs) (λ c. search needs) loop-again
+    returns-2)

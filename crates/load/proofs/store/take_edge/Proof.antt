@@ -32,4 +32,7 @@ returns-5 : tie.Need-returns-5
 returns-5 c = search (needs, takeEdge-old)
 
 pub take-edge-spec : {M : Type 1} → statement M
-take-edge-spec = tie.close (tie.spec (λ c κs. search needs) (λ c κs. search needs) (λ c κs. search needs) returns returns-2 (λ c κs. search needs) (λ c κs. search needs) returns-3 with-key-requires with-edge-requires returns-4 with-edge-requires-2 returns-5)
+take-edge-spec =
+    tie.close
+    (tie.spec (λ c κs. search needs) (λ c κs. search needs) (λ c κs. search needs) returns returns-2 (λ c κs. search needs) (λ c κs. search needs)
+    returns-3 with-key-requires with-edge-requires returns-4 with-edge-requires-2 returns-5)

@@ -24,4 +24,7 @@ returns : tie.Need-returns Inv-loop μ-loop
 returns c = search (needs, written-end)
 
 pub write-key-spec : {M : Type 1} → statement M
-write-key-spec = tie.close (tie.spec Inv-loop μ-loop loop-holds (λ c. search needs) (λ c. search needs) (λ c. search needs) (λ c. search needs) (λ c. search needs) loop-again returns)
+write-key-spec =
+    tie.close
+    (tie.spec Inv-loop μ-loop loop-holds (λ c. search needs) (λ c. search needs) (λ c. search needs) (λ c. search needs) (λ c. search needs)
+    loop-again returns)

@@ -16,4 +16,7 @@ returns-2 : tie.Need-returns-2
 returns-2 c = rw (c .before .if1 .taken) (sym (setBit-out _ _ (c .if2 .left)))
 
 pub set-if-spec : {M : Type 1} → statement M
-set-if-spec = tie.close (tie.spec (λ c. search needs) (λ c. search needs) (λ c. search needs) (λ c. search needs) (λ c. search needs) returns returns-2 (λ c. search needs))
+set-if-spec =
+    tie.close
+    (tie.spec (λ c. search needs) (λ c. search needs) (λ c. search needs) (λ c. search needs) (λ c. search needs) returns returns-2
+    (λ c. search needs))

@@ -30,4 +30,7 @@ returns-3 : tie.Need-returns-3 Inv-loop μ-loop
 returns-3 c = search (needs, same-end)
 
 pub equal-spec : {M : Type 1} → statement M
-equal-spec = tie.close (tie.spec Inv-loop μ-loop loop-holds (λ c. search needs) (λ c. search needs) returns returns-2 (λ c. search needs) (λ c. search needs) loop-again returns-3)
+equal-spec =
+    tie.close
+    (tie.spec Inv-loop μ-loop loop-holds (λ c. search needs) (λ c. search needs) returns returns-2 (λ c. search needs) (λ c. search needs) loop-again
+    returns-3)

@@ -10,4 +10,7 @@ returns-4 : tie.Need-returns-4
 returns-4 c = cc
 
 pub fits-spec : {M : Type 1} → statement M
-fits-spec = tie.close (tie.spec (λ c. search needs) (λ c. search needs) (λ c κs. search needs) (λ c. search needs) (λ c. search needs) (λ c. search needs) (λ c. search needs) (λ c κs. search needs) returns (λ c. search needs) (λ c. search needs) returns-4)
+fits-spec =
+    tie.close
+    (tie.spec (λ c. search needs) (λ c. search needs) (λ c κs. search needs) (λ c. search needs) (λ c. search needs) (λ c. search needs)
+    (λ c. search needs) (λ c κs. search needs) returns (λ c. search needs) (λ c. search needs) returns-4)

@@ -10,7 +10,7 @@ use Rattle.json.specs.declared.lexer.Place.{Place}
 use Rattle.json.specs.declared.lexer.Place.the-variants as P
 use Rattle.json.specs.declared.lexer.Mode.{Mode}
 use Rattle.json.specs.declared.lexer.Mode.the-variants as M
-use Rattle.json.proofs.Proper.{Opened, ProperAt}
+use Rattle.json.specs.Proper.{Opened, ProperAt}
 use Rattle.table.specs.Table.{Table}
 use Rattle.table.specs.declared.kind.Scalar.{Scalar}
 use Rattle.table.specs.declared.kind.Finished.the-variants as Done

@@ -19,7 +19,7 @@ use Rattle.json.specs.declared.lexer.Place.the-variants as P
 use Rattle.json.specs.declared.lexer.Mode.the-variants as M
 use Rattle.json.specs.declared.lexer.Act.the-variants as A
 use Rattle.json.specs.declared.lexer.Step.{Step}
-use Rattle.json.proofs.Proper.{Opened}
+use Rattle.json.specs.Proper.{Opened}
 use Rattle.runs.specs.Runs.{beginsPart}
 use Rattle.follows.specs.Follows.{ShowsNumber}
 use Rattle.follows.proofs.NumberLaws.{beginsPart-digit1-9}

@@ -30,7 +30,8 @@ use Rattle.json.specs.declared.lexer.Top.{Top}
 use Rattle.json.specs.declared.lexer.Top.the-variants as T
 use Rattle.json.specs.declared.lexer.Act.the-variants as A
 use Rattle.json.specs.declared.lexer.Step.{Step}
-use Rattle.json.proofs.Proper.{Opened, InObject, ProperAt, Proper, proper-step}
+use Rattle.json.specs.Proper.{Opened, InObject, ProperAt, Proper}
+use Rattle.json.proofs.ProperLaws.{proper-step}
 use Rattle.table.specs.Table.{Table}
 use Rattle.table.specs.declared.kind.Scalar.{Scalar}
 use Rattle.table.specs.declared.kind.Scalar.the-variants as K

@@ -15,7 +15,7 @@ use Rattle.json.specs.declared.number.NumberMode.{NumberMode}
 use Rattle.json.specs.declared.lexer.Place.the-variants as P
 use Rattle.json.specs.declared.lexer.Mode.{Mode}
 use Rattle.json.specs.declared.lexer.Mode.the-variants as M
-use Rattle.json.proofs.Proper.{Begun, ProperAt}
+use Rattle.json.specs.Proper.{Begun, ProperAt}
 use Rattle.table.specs.Table.{Table}
 use Rattle.table.specs.declared.kind.Scalar.the-variants as K
 use Rattle.book.specs.Entry.{Entry}

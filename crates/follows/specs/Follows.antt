@@ -12,7 +12,7 @@ use Rattle.json.specs.Machine.{Stack, bare, whole, in-array, in-object, depth, 
 use Rattle.json.specs.declared.lexer.Place.the-variants as P
 use Rattle.json.specs.declared.lexer.Mode.{Mode}
 use Rattle.json.specs.declared.lexer.Mode.the-variants as M
-use Rattle.json.proofs.Proper.{ProperAt}
+use Rattle.json.specs.Proper.{ProperAt}
 use Rattle.table.specs.Table.{Table}
 use Rattle.table.specs.declared.kind.Scalar.the-variants as K
 use Rattle.table.specs.declared.kind.ValueKind.the-variants.{Rule}

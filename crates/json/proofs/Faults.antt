@@ -31,7 +31,8 @@ use Rattle.json.proofs.NumberLaws.{NumberFrom, Completed, completed, co
 use Rattle.json.proofs.StringLaws.{Goes, Ends, second-E0, second-ED, second-F0, second-F4, tail-2, tail-3, digit-1, digit-2, digit-2-below, digit-3, high-3, high-4, low-backslash, low-u, low-1, low-2, low-3, after-backslash, digit-4, low-4, tail-1}
 use Rattle.json.proofs.CharLaws.{Continues, closes, goes, ends}
 use Rattle.json.proofs.Accepted.{fault-accepts-none, Behind, text-run, key-run, number-run, accepted-of-text}
-use Rattle.json.proofs.Proper.{Opened, Begun, Proper, proper-step}
+use Rattle.json.specs.Proper.{Opened, Begun, Proper}
+use Rattle.json.proofs.ProperLaws.{proper-step}
 use Rattle.json.proofs.Sound.{Reads, reads, text-of-accepted}
 
 -- ---- a string can be completed from each mode

@@ -34,7 +34,8 @@ use Rattle.json.proofs.ByteLaws.{low-of-within, high-of-within, blank-e
 use Rattle.json.proofs.NumberLaws as Number
 use Rattle.json.proofs.StringLaws as String
 use Rattle.json.proofs.Accepted.{ends-none, topOf-finish}
-use Rattle.json.proofs.Proper.{ProperAt, Proper, proper-step}
+use Rattle.json.specs.Proper.{ProperAt, Proper}
+use Rattle.json.proofs.ProperLaws.{proper-step}
 
 -- ---- bytes that open and close nothing
 

@@ -5,7 +5,7 @@ pub mod StringLaws
 pub mod CharLaws
 pub mod Accepted
 pub mod Phrases
-pub mod Proper
+pub mod ProperLaws
 pub mod Sound
 pub mod Faults
 pub mod TreeLaws

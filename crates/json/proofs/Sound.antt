@@ -37,7 +37,8 @@ use Rattle.json.proofs.StringLaws.{Moved as StringMoved, moved-fault as
 use Rattle.json.proofs.CharLaws.{Continues, closes, goes, ends, chars-of-continues}
 use Rattle.json.proofs.Phrases.{Ending, ending, blank-ending, FromValue, from-word, from-string, from-number, from-array, from-object, AtValue, blank-value, here-value, AtFirstElement, blank-first, close-first, value-first, AfterElement, blank-element, close-array, comma-element, AtFirstKey, blank-first-key, close-first-key, quote-first-key, AtKey, blank-key, quote-key, AtColon, blank-colon, here-colon, AfterPair, blank-pair, close-object, comma-pair, text-of-phrase}
 use Rattle.json.proofs.Accepted.{ends-none, topOf-finish}
-use Rattle.json.proofs.Proper.{Opened, ProperAt, Proper, proper-step}
+use Rattle.json.specs.Proper.{Opened, ProperAt, Proper}
+use Rattle.json.proofs.ProperLaws.{proper-step}
 
 drop-all : (n : ℕ) (l : List ℕ) → length l ≤ n → drop n l ≡ []
 drop-all n [] h = drop-nil n

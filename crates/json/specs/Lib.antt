@@ -9,5 +9,6 @@ pub mod Grammar
 pub mod Classes
 pub mod Lexer
 pub mod Machine
+pub mod Proper
 pub mod Levels
 pub mod Examples

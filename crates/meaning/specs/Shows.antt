@@ -15,8 +15,7 @@ use Rattle.book.specs.Entry.{Form, obj, arr, Entry, edge, end-state}
 use Rattle.book.specs.Load.{ruleOf, formIn}
 use Rattle.book.specs.Holds.{Holds}
 use Rattle.runs.specs.Runs.{_∈_}
-use Rattle.runs.specs.Walk.{States, OpenObject, keyCount, numberIn}
-use Rattle.runs.proofs.StepLaws.{InKeys}
+use Rattle.runs.specs.Walk.{States, OpenObject, InKeys, keyCount, numberIn}
 use Rattle.frame.specs.Edges.{Edges, edgesOf}
 use Rattle.frame.specs.Frame.{isObject, currentKey, marked, seenIn, heldIn}
 use Rattle.frame.specs.Ops.{valued, closed}

@@ -29,6 +29,13 @@ never q = let z : _≡_ {A = ℕ} 0 1 = cc in absurd (omega arith)
 
 -- ---- what the tests tell
 
+-- v is what was found of b
+pub true-of-test : (b v : Bool) → v ≡ b → v ≡ true → b ≡ true
+true-of-test b v e h = sym e ∙ h
+
+pub false-of-test : (b v : Bool) → v ≡ b → v ≡ false → b ≡ false
+false-of-test b v e h = sym e ∙ h
+
 passes-by : (a : Act) (b : ℕ) (v : Bool) → eqb b 0x1E ≡ v → cond v false (isQuiet a) ≡ true → (b ≡ 0x1E → ⊥) × (isQuiet a ≡ true)
 passes-by a b true p q = never q
 passes-by a b false p q = (eqb-false b 0x1E p, q)

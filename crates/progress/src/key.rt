@@ -19,8 +19,8 @@ pub fn key_len(len: u8, c: u32) -> u8
 pub fn keep_char(key: &mut [u8], len: u8, c: u8)
     ensures { λ _. ⌜ now (key .exit) ≡ keptIn (now (key .entry)) len c ⌝ }
 {
-    if len < 32 {
-        let at = len as usize;
+    let at = len as usize;
+    if at < 32 {
         if at < key.len() {
             key[at] = c;
         }

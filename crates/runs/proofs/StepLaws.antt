@@ -11,7 +11,7 @@ use Rattle.laws.proofs.TestLaws.{T-and-right, T-or-elim}
 use Rattle.table.specs.declared.kind.ValueKind.{ValueKind}
 use Rattle.table.proofs.KeyLaws.{numberOf-le}
 use Rattle.book.specs.Entry.{Entry, keysOf}
-use Rattle.runs.specs.Walk.{States, OpenObject, keyCount, numberIn, atOpening, afterKey, afterValue, useKey, walk}
+use Rattle.runs.specs.Walk.{States, OpenObject, InKeys, keyCount, numberIn, atOpening, afterKey, afterValue, useKey, walk}
 
 module _ (es : List Entry) where
   -- ---- numbers
@@ -21,16 +21,11 @@ module _ (es : List Entry) where
   unfolding numberIn keyCount
   numberIn-le k = numberOf-le (keysOf es) k
 
-  -- the numbers that an open object keeps are numbers of keys, but that an unknown current key has the number behind them
-  pub record InKeys (o : OpenObject) : Type 0 where
-    pub current-le : o .current ≤ keyCount es
-    pub seen-lt : (c : ℕ) → T (o .seen c) → c < keyCount es
-
-  pub inKeys-atOpening : InKeys (atOpening es)
+  pub inKeys-atOpening : InKeys es (atOpening es)
   unfolding atOpening
   inKeys-atOpening = record { current-le = omega arith; seen-lt = λ c h. absurd h }
 
-  pub inKeys-afterKey : {o : OpenObject} (k : List ℕ) → InKeys o → InKeys (afterKey es o k)
+  pub inKeys-afterKey : {o : OpenObject} (k : List ℕ) → InKeys es o → InKeys es (afterKey es o k)
   unfolding afterKey
   inKeys-afterKey {o} k h = record { current-le = numberIn-le k; seen-lt = below }
     where
@@ -39,7 +34,7 @@ module _ (es : List Entry) where
           T-or-elim (o .seen c) (eqb c (numberIn es k) && ltb c (keyCount es)) (λ (d : T (o .seen c)). h .seen-lt c d)
           (λ (d : T (eqb c (numberIn es k) && ltb c (keyCount es))). ltb→lt c (keyCount es) (T-and-right (eqb c (numberIn es k)) (ltb c (keyCount es)) d)) g
 
-  pub inKeys-afterValue : {o : OpenObject} (w : ValueKind → Bool) → InKeys o → InKeys (afterValue es o w)
+  pub inKeys-afterValue : {o : OpenObject} (w : ValueKind → Bool) → InKeys es o → InKeys es (afterValue es o w)
   unfolding afterValue
   inKeys-afterValue w h = record { current-le = h .current-le; seen-lt = h .seen-lt }
 

@@ -2,8 +2,8 @@
 -- object what its frame keeps: 01, "Frames". Derived: `Judging.fits-iff-judged` joins it to `Runs.FitsInSomeOrder`. Assumes nothing.
 use mathlib.Core.Bool.{Bool, true, false, not, cond, _&&_, _||_}
 use mathlib.Core.List.{List, [], _∷_, _++_}
-use Prim.Native.Nat.{ℕ, zero, suc}
-use lib.Dec.{eqb, ltb}
+use Prim.Native.Nat.{ℕ, zero, suc, _<_, _≤_}
+use lib.Dec.{T, eqb, ltb}
 use lib.ListN.{length}
 use Rattle.laws.specs.Lists.{any}
 use Rattle.json.specs.Tree.{Word, null-word, true-word, false-word}
@@ -116,6 +116,11 @@ module _ (es : List Entry) where
   -- the number of a key; how many keys there are, where it is unknown
   unfoldable pub numberIn : List ℕ → ℕ
   numberIn k = numberOf (keysOf es) k
+
+  -- the numbers that an open object keeps are numbers of keys, but that an unknown current key has the number behind them
+  pub record InKeys (o : OpenObject) : Type 0 where
+    pub current-le : o .current ≤ keyCount
+    pub seen-lt : (c : ℕ) → T (o .seen c) → c < keyCount
 
   -- an object that was just opened: no key is the current one
   unfoldable pub atOpening : OpenObject

@@ -17,32 +17,11 @@ abbrev μ-loop : tie.MeasureT-loop
 loop-holds : tie.Need-loop-holds Inv-loop μ-loop
 loop-holds c = search (needs, kept-start)
 
-plain-at-requires : tie.Need-plain-at-requires Inv-loop μ-loop
-plain-at-requires c κs = search needs
-
-shared-slice-read-b : tie.Need-shared-slice-read-b Inv-loop μ-loop
-shared-slice-read-b c = search needs
-
-cast-key-len : tie.Need-cast-key-len Inv-loop μ-loop
-cast-key-len c = search needs
-
-add-i : tie.Need-add-i Inv-loop μ-loop
-add-i c = search needs
-
-loop-less : tie.Need-loop-less Inv-loop μ-loop
-loop-less c = search needs
-
 loop-again : tie.Need-loop-again Inv-loop μ-loop
 loop-again c = search (needs, kept-on)
 
-sub-place-at : tie.Need-sub-place-at Inv-loop μ-loop
-sub-place-at c = search needs
-
 place-at-requires : tie.Need-place-at-requires Inv-loop μ-loop
 place-at-requires c κs = search (needs, count-fits)
-
-same-length : tie.Need-same-length Inv-loop μ-loop
-same-length c = search needs
 
 returns : tie.Need-returns Inv-loop μ-loop
 returns c = search (needs, kept-at)
@@ -50,5 +29,5 @@ returns c = search (needs, kept-at)
 pub keep-to-spec : {M : Type 1} → statement M
 keep-to-spec =
     tie.close
-    (tie.spec Inv-loop μ-loop loop-holds plain-at-requires shared-slice-read-b (λ c κs. search needs) cast-key-len (λ c κs. search needs) add-i loop-less loop-again
-    sub-place-at place-at-requires same-length returns)
+    (tie.spec Inv-loop μ-loop loop-holds (λ c κs. search needs) (λ c. search needs) (λ c κs. search needs) (λ c. search needs) (λ c κs. search needs)
+    (λ c. search needs) (λ c. search needs) loop-again (λ c. search needs) place-at-requires (λ c. search needs) returns)

@@ -30,4 +30,7 @@ unfolding keepsChars
 returns-6 c = simp (c .enum-told4 .given .1)
 
 pub keeps-chars-spec : {M : Type 1} → statement M
-keeps-chars-spec = tie.close (tie.spec (λ c. search needs) (λ c. search needs) (λ c κs. search needs) (λ c κs. search needs) returns (λ c. search needs) (λ c. search needs) (λ c. search needs) returns-2 returns-3 returns-4 returns-5 returns-6)
+keeps-chars-spec =
+    tie.close
+    (tie.spec (λ c. search needs) (λ c. search needs) (λ c κs. search needs) (λ c κs. search needs) returns (λ c. search needs) (λ c. search needs)
+    (λ c. search needs) returns-2 returns-3 returns-4 returns-5 returns-6)

@@ -16,26 +16,17 @@ abbrev μ-loop : tie.MeasureT-loop
 loop-holds : tie.Need-loop-holds Inv-loop μ-loop
 loop-holds c = search (needs, runs-start)
 
-pass-some-requires : tie.Need-pass-some-requires Inv-loop μ-loop
-pass-some-requires c κs = search needs
-
 loop-less : tie.Need-loop-less Inv-loop μ-loop
 loop-less c = search (needs, leap-less)
 
 loop-again : tie.Need-loop-again Inv-loop μ-loop
 loop-again c = search (needs, leapt)
 
-sub-place-at : tie.Need-sub-place-at Inv-loop μ-loop
-sub-place-at c = search needs
-
 place-at-requires : tie.Need-place-at-requires Inv-loop μ-loop
 place-at-requires c κs = search (needs, count-fits)
 
 returns : tie.Need-returns Inv-loop μ-loop
 returns c = search (needs, out-leapt)
-
-sub-place-at-2 : tie.Need-sub-place-at-2 Inv-loop μ-loop
-sub-place-at-2 c = search needs
 
 place-at-requires-2 : tie.Need-place-at-requires-2 Inv-loop μ-loop
 place-at-requires-2 c κs = search (needs, count-fits)
@@ -46,5 +37,5 @@ returns-2 c = search (needs, out-at-end)
 pub pass-to-spec : {M : Type 1} → statement M
 pass-to-spec =
     tie.close
-    (tie.spec Inv-loop μ-loop loop-holds pass-some-requires loop-less loop-again sub-place-at place-at-requires returns sub-place-at-2 place-at-requires-2
-    (λ c κs. search needs) returns-2)
+    (tie.spec Inv-loop μ-loop loop-holds (λ c κs. search needs) loop-less loop-again (λ c. search needs) place-at-requires returns (λ c. search needs)
+    place-at-requires-2 (λ c κs. search needs) returns-2)

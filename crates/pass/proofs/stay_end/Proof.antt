@@ -1,7 +1,6 @@
--- `stay_end` meets its contract. The loop's invariant: the bytes behind it leave the mode as it is. Assumes nothing.
+-- `stay_end` meets its contract. The loop's invariant: the bytes before its place leave the mode as it is. Assumes nothing.
 use Prim.Native.Nat.{_-_}
 use borrow.Author.Needs.{needs}
-use native.Mathlib.Omega.{arith}
 use Rattle.pass.specs.Pass.{StayedTo}
 use Rattle.pass.proofs.StayLaws.{stayed-none, stayed-more}
 use Rattle.pass.proofs.stay_end.Statement.{statement}
@@ -14,25 +13,25 @@ abbrev μ-loop : tie.MeasureT-loop
 μ-loop classes m s from end i₀ i = end - i
 
 loop-holds : tie.Need-loop-holds Inv-loop μ-loop
-loop-holds c = stayed-none _ _ _ _ (c .before .pre .1)
+loop-holds c = search (needs, stayed-none)
 
 shared-slice-read-b : tie.Need-shared-slice-read-b Inv-loop μ-loop
-shared-slice-read-b c = omega (arith, c .before .before .before .before .pre .2, c .before .loop-test .taken)
+shared-slice-read-b c = search needs
 
 returns : tie.Need-returns Inv-loop μ-loop
-returns c = c .before .before .before .before .loop .inv
+returns c = search needs
 
 add-i : tie.Need-add-i Inv-loop μ-loop
-add-i c = omega (arith, c .before .before .before .loop-test .taken)
+add-i c = search needs
 
 loop-less : tie.Need-loop-less Inv-loop μ-loop
-loop-less c = omega (arith, c .before .before .before .loop-test .taken)
+loop-less c = search needs
 
 loop-again : tie.Need-loop-again Inv-loop μ-loop
-loop-again c = stayed-more _ _ _ _ _ _ _ (c .before .before .before .before .loop .inv) (c .before .before .before .loop-test .taken) (omega (arith, c .before .before .shared-slice-known2 .given (c .before .before .before .before .loop .i))) (c .before .before .before .before .before .before .pre .0) (c .before .stays .ensures) (c .if1 .taken)
+loop-again c = search (needs, stayed-more, c .before .before .shared-slice-known2 .given (c .before .before .before .before .loop .i))
 
 returns-2 : tie.Need-returns-2 Inv-loop μ-loop
-returns-2 c = c .before .loop .inv
+returns-2 c = search needs
 
 pub stay-end-spec : {M : Type 1} → statement M
 stay-end-spec = tie.close (tie.spec Inv-loop μ-loop loop-holds shared-slice-read-b (λ c κs. search needs) returns add-i loop-less loop-again returns-2)

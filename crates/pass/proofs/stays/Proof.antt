@@ -13,4 +13,7 @@ returns-4 : tie.Need-returns-4
 returns-4 c = simp (c .stays-digit .ensures, c .before .before .m2 .given .1)
 
 pub stays-spec : {M : Type 1} → statement M
-stays-spec = tie.close (tie.spec (λ c. search needs) (λ c κs. search needs) (λ c. search needs) (λ c. search needs) (λ c κs. search needs) (λ c κs. search needs) (λ c. search needs) (λ c κs. search needs) (λ c. search needs) returns (λ c. search needs) returns-3 returns-4 (λ c. search needs))
+stays-spec =
+    tie.close
+    (tie.spec (λ c. search needs) (λ c κs. search needs) (λ c. search needs) (λ c. search needs) (λ c κs. search needs) (λ c κs. search needs)
+    (λ c. search needs) (λ c κs. search needs) (λ c. search needs) returns (λ c. search needs) returns-3 returns-4 (λ c. search needs))

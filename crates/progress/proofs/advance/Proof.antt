@@ -1,48 +1,17 @@
 -- `advance` meets its contract. Assumes nothing.
 use borrow.Author.Tests.{eq-eqb, ne-eqb}
 use Rattle.progress.specs.Lex.{advanced}
-use Rattle.laws.proofs.Tests.{tests}
 use borrow.Author.Needs.{needs}
 use Rattle.progress.proofs.advance.Statement.{statement}
 use Rattle.progress.proofs.advance.Tie as tie
-
-after-head-requires : tie.Need-after-head-requires
-after-head-requires c κs = search needs
 
 returns : tie.Need-returns
 unfolding advanced
 returns c = simp (c .after-head .ensures, eq-eqb _ _ (c .before .if1 .taken))
 
-counted-requires : tie.Need-counted-requires
-counted-requires c κs = search needs
-
 returns-2 : tie.Need-returns-2
 unfolding advanced
 returns-2 c = simp (c .counted .ensures, c .before .if2 .taken, ne-eqb _ _ (c .before .before .if1 .left))
-
-enum-told : tie.Need-enum-told
-enum-told c = search needs
-
-sound-requires : tie.Need-sound-requires
-sound-requires c κs = search needs
-
-enum-told-2 : tie.Need-enum-told-2
-enum-told-2 c = search needs
-
-counted-requires-2 : tie.Need-counted-requires-2
-counted-requires-2 c κs = search needs
-
-enum-told-3 : tie.Need-enum-told-3
-enum-told-3 c = search needs
-
-counted-requires-3 : tie.Need-counted-requires-3
-counted-requires-3 c κs = search needs
-
-enum-told-4 : tie.Need-enum-told-4
-enum-told-4 c = search needs
-
-counted-requires-4 : tie.Need-counted-requires-4
-counted-requires-4 c κs = search needs
 
 returns-3 : tie.Need-returns-3
 unfolding advanced
@@ -63,20 +32,6 @@ returns-6 c = simp (c .counted4 .ensures, c .before .enum-told4 .given .1, c .be
 pub advance-spec : {M : Type 1} → statement M
 advance-spec =
     tie.close
-    (tie.spec
-    after-head-requires
-    returns
-    counted-requires
-    returns-2
-    enum-told
-    sound-requires
-    enum-told-2
-    counted-requires-2
-    enum-told-3
-    counted-requires-3
-    enum-told-4
-    counted-requires-4
-    returns-3
-    returns-4
-    returns-5
+    (tie.spec (λ c κs. search needs) returns (λ c κs. search needs) returns-2 (λ c. search needs) (λ c κs. search needs) (λ c. search needs)
+    (λ c κs. search needs) (λ c. search needs) (λ c κs. search needs) (λ c. search needs) (λ c κs. search needs) returns-3 returns-4 returns-5
     returns-6)

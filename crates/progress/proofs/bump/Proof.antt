@@ -5,9 +5,6 @@ use borrow.Author.Needs.{needs}
 use Rattle.progress.proofs.bump.Statement.{statement}
 use Rattle.progress.proofs.bump.Tie as tie
 
-add-result : tie.Need-add-result
-add-result c = search needs
-
 returns : tie.Need-returns
 unfolding bump
 returns c = search tests
@@ -17,4 +14,4 @@ unfolding bump
 returns-2 c = search tests
 
 pub bump-spec : {M : Type 1} → statement M
-bump-spec = tie.close (tie.spec add-result returns returns-2)
+bump-spec = tie.close (tie.spec (λ c. search needs) returns returns-2)

@@ -3,11 +3,8 @@ use borrow.Author.Needs.{needs}
 use Rattle.progress.proofs.faulted.Statement.{statement}
 use Rattle.progress.proofs.faulted.Tie as tie
 
-bump-requires : tie.Need-bump-requires
-bump-requires c κs = search needs
-
 returns : tie.Need-returns
 returns c = simp (c .bump .ensures)
 
 pub faulted-spec : {M : Type 1} → statement M
-faulted-spec = tie.close (tie.spec bump-requires returns)
+faulted-spec = tie.close (tie.spec (λ c κs. search needs) returns)

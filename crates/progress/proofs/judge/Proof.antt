@@ -1,6 +1,5 @@
 -- `judge` meets its contract. Assumes nothing.
 use Rattle.progress.specs.Lex.{judged}
-use Rattle.laws.proofs.Tests.{tests}
 use borrow.Author.Needs.{needs}
 use Rattle.progress.proofs.judge.Statement.{statement}
 use Rattle.progress.proofs.judge.Tie as tie
@@ -8,21 +7,6 @@ use Rattle.progress.proofs.judge.Tie as tie
 returns : tie.Need-returns
 unfolding judged
 returns c = simp (c .if1 .taken)
-
-enum-told : tie.Need-enum-told
-enum-told c = search needs
-
-whole-requires : tie.Need-whole-requires
-whole-requires c κs = search needs
-
-enum-told-2 : tie.Need-enum-told-2
-enum-told-2 c = search needs
-
-enum-told-3 : tie.Need-enum-told-3
-enum-told-3 c = search needs
-
-enum-told-4 : tie.Need-enum-told-4
-enum-told-4 c = search needs
 
 returns-2 : tie.Need-returns-2
 unfolding judged
@@ -43,14 +27,5 @@ returns-5 c = simp (c .enum-told4 .given .1, c .before .before .if1 .left)
 pub judge-spec : {M : Type 1} → statement M
 judge-spec =
     tie.close
-    (tie.spec
-    returns
-    enum-told
-    whole-requires
-    enum-told-2
-    enum-told-3
-    enum-told-4
-    returns-2
-    returns-3
-    returns-4
-    returns-5)
+    (tie.spec returns (λ c. search needs) (λ c κs. search needs) (λ c. search needs) (λ c. search needs) (λ c. search needs) returns-2 returns-3
+    returns-4 returns-5)

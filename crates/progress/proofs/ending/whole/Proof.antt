@@ -1,13 +1,9 @@
 -- `ending::whole` meets its contract. Assumes nothing.
 use borrow.Author.Tests.{eq-eqb, ne-eqb}
 use Rattle.progress.specs.Lex.{whole}
-use Rattle.laws.proofs.Tests.{tests}
 use borrow.Author.Needs.{needs}
 use Rattle.progress.proofs.ending.whole.Statement.{statement}
 use Rattle.progress.proofs.ending.whole.Tie as tie
-
-whole-in-requires : tie.Need-whole-in-requires
-whole-in-requires c κs = search needs
 
 returns : tie.Need-returns
 unfolding whole
@@ -18,4 +14,4 @@ unfolding whole
 returns-2 c = simp (ne-eqb _ _ (c .if1 .left))
 
 pub whole-spec : {M : Type 1} → statement M
-whole-spec = tie.close (tie.spec whole-in-requires returns returns-2)
+whole-spec = tie.close (tie.spec (λ c κs. search needs) returns returns-2)

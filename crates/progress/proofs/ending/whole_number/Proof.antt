@@ -5,9 +5,6 @@ use borrow.Author.Needs.{needs}
 use Rattle.progress.proofs.ending.whole_number.Statement.{statement}
 use Rattle.progress.proofs.ending.whole_number.Tie as tie
 
-may-end-requires : tie.Need-may-end-requires
-may-end-requires c κs = search needs
-
 returns : tie.Need-returns
 unfolding wholeNumber
 returns c = rw (sym (c .before .may-end .ensures) ∙ c .if1 .taken)
@@ -17,4 +14,4 @@ unfolding wholeNumber
 returns-2 c = rw (sym (c .before .may-end .ensures) ∙ c .if1 .left)
 
 pub whole-number-spec : {M : Type 1} → statement M
-whole-number-spec = tie.close (tie.spec may-end-requires returns returns-2)
+whole-number-spec = tie.close (tie.spec (λ c κs. search needs) returns returns-2)

@@ -5,11 +5,4 @@ use Rattle.progress.proofs.key.keep_char.Statement.{statement}
 use Rattle.progress.proofs.key.keep_char.Tie as tie
 
 pub keep-char-spec : {M : Type 1} → statement M
-keep-char-spec =
-    tie.close
-    (tie.spec
-    (λ c. search needs)
-    (λ c. search needs)
-    (λ c. search (needs, kept-room))
-    (λ c. search (needs, kept-past))
-    (λ c. search (needs, kept-full)))
+keep-char-spec = tie.close (tie.spec (λ c. search needs) (λ c. search needs) (λ c. search (needs, kept-room)) (λ c. search (needs, kept-past)) (λ c. search (needs, kept-full)))

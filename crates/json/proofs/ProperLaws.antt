@@ -1,5 +1,4 @@
--- The states that the machine comes to: a key is read in an object, behind an opening byte something is open, behind a value something was
--- finished, and a word has letters left. Every step keeps this. Assumes nothing.
+-- Every step of the machine keeps what `Proper` says of its states. Assumes nothing.
 use mathlib.Core.Bool.{true}
 use mathlib.Core.List.{List}
 use Prim.Native.Nat.{ℕ, _+_}
@@ -23,93 +22,58 @@ use Rattle.json.specs.declared.lexer.Place.the-variants as P
 use Rattle.json.specs.declared.lexer.Mode.{Mode}
 use Rattle.json.specs.declared.lexer.Mode.the-variants as M
 use Rattle.json.specs.declared.lexer.Step.{Step}
+use Rattle.json.specs.Proper.{InObject, Opened, Begun, ProperAt, Proper}
 use Rattle.json.proofs.Accepted.{ends-none, topOf-finish}
 
 module _ (𝕄 : Meaning) where
   open Meaning 𝕄 using (Result, of-number)
 
-  -- the innermost open value is an object
-  abbrev pub InObject : Stack 𝕄 → Type 0
-  InObject bare = ⊥
-  InObject (whole w) = ⊥
-  InObject (in-array a k) = ⊥
-  InObject (in-object o k) = T true
-
-  -- something is open
-  abbrev pub Opened : Stack 𝕄 → Type 0
-  Opened bare = ⊥
-  Opened (whole w) = ⊥
-  Opened (in-array a k) = T true
-  Opened (in-object o k) = T true
-
-  -- something was finished, or is open
-  abbrev pub Begun : Stack 𝕄 → Type 0
-  Begun bare = ⊥
-  Begun (whole w) = T true
-  Begun (in-array a k) = T true
-  Begun (in-object o k) = T true
-
-  abbrev pub ProperAt : Mode → Stack 𝕄 → Type 0
-  ProperAt (M.At P.Value) k = T true
-  ProperAt (M.At P.First) k = Opened k
-  ProperAt (M.At P.Key) k = InObject k
-  ProperAt (M.At P.Colon) k = InObject k
-  ProperAt (M.At P.After) k = Begun k
-  ProperAt (M.Key s) k = InObject k
-  ProperAt (M.Text s) k = T true
-  ProperAt (M.Number n) k = T true
-  ProperAt (M.Word w i) k = T (ltb i (length (spelling (wordOf w))))
-
-  abbrev pub Proper : State 𝕄 → Type 0
-  Proper fault = T true
-  Proper (at m g k) = ProperAt m k
-
-  begun-finish : (v : Result) (k : Stack 𝕄) → Begun (finish 𝕄 v k)
+  begun-finish : (v : Result) (k : Stack 𝕄) → Begun 𝕄 (finish 𝕄 v k)
   begun-finish v bare = tt
   begun-finish v (whole w) = tt
   begun-finish v (in-array a k) = tt
   begun-finish v (in-object o k) = tt
 
   module _ (b : ℕ) (g : Token 𝕄) where
-    proper-start : (k : Stack 𝕄) → Proper (take 𝕄 (valueStart b) 0 b g g k)
+    proper-start : (k : Stack 𝕄) → Proper 𝕄 (take 𝕄 (valueStart b) 0 b g g k)
     unfolding valueStart spelling
     proper-start k =
-        let Q : Step → Type 0 = λ st. Proper (take 𝕄 st 0 b g g k) in
+        let Q : Step → Type 0 = λ st. Proper 𝕄 (take 𝕄 st 0 b g g k) in
         cond-elim Q (eqb b 0x22) (λ _. tt) (λ _. cond-elim Q (eqb b 0x5B) (λ _. tt) (λ _. cond-elim Q (eqb b 0x7B) (λ _. tt) (λ _.
         cond-elim Q (isDigit1-9 b) (λ _. tt) (λ _. cond-elim Q (eqb b 0x30) (λ _. tt) (λ _. cond-elim Q (eqb b 0x2D) (λ _. tt) (λ _.
         cond-elim Q (eqb b 0x6E) (λ _. tt) (λ _. cond-elim Q (eqb b 0x74) (λ _. tt) (λ _. cond-elim Q (eqb b 0x66) (λ _. tt) (λ _. tt)))))))))
 
-    proper-after : (k : Stack 𝕄) → Begun k → Proper (take 𝕄 (afterValue (topOf 𝕄 k) b) 0 b g g k)
+    proper-after : (k : Stack 𝕄) → Begun 𝕄 k → Proper 𝕄 (take 𝕄 (afterValue (topOf 𝕄 k) b) 0 b g g k)
     unfolding afterRoot afterElement afterPair
     proper-after bare h = absurd h
-    proper-after (whole w) h = cond-elim (λ st. Proper (take 𝕄 st 0 b g g (whole w))) (isBlank b) (λ _. tt) (λ _. tt)
+    proper-after (whole w) h = cond-elim (λ st. Proper 𝕄 (take 𝕄 st 0 b g g (whole w))) (isBlank b) (λ _. tt) (λ _. tt)
     proper-after (in-array a k) h =
-        let Q : Step → Type 0 = λ st. Proper (take 𝕄 st 0 b g g (in-array a k)) in
+        let Q : Step → Type 0 = λ st. Proper 𝕄 (take 𝕄 st 0 b g g (in-array a k)) in
         cond-elim Q (isBlank b) (λ _. tt) (λ _. cond-elim Q (eqb b 0x2C) (λ _. tt) (λ _. cond-elim Q (eqb b 0x5D) (λ _. begun-finish _ k) (λ _. tt)))
     proper-after (in-object o k) h =
-        let Q : Step → Type 0 = λ st. Proper (take 𝕄 st 0 b g g (in-object o k)) in
+        let Q : Step → Type 0 = λ st. Proper 𝕄 (take 𝕄 st 0 b g g (in-object o k)) in
         cond-elim Q (isBlank b) (λ _. tt) (λ _. cond-elim Q (eqb b 0x2C) (λ _. tt) (λ _. cond-elim Q (eqb b 0x7D) (λ _. begun-finish _ k) (λ _. tt)))
 
-    proper-place : (p : Place) (k : Stack 𝕄) → ProperAt (M.At p) k → Proper (step 𝕄 (at (M.At p) g k) b)
+    proper-place : (p : Place) (k : Stack 𝕄) → ProperAt 𝕄 (M.At p) k → Proper 𝕄 (step 𝕄 (at (M.At p) g k) b)
     unfolding step atValue atFirstElement atFirstKey atKey atColon
-    proper-place P.Value k h = cond-elim (λ st. Proper (take 𝕄 st 0 b g g k)) (isBlank b) (λ _. tt) (λ _. proper-start k)
+    proper-place P.Value k h = cond-elim (λ st. Proper 𝕄 (take 𝕄 st 0 b g g k)) (isBlank b) (λ _. tt) (λ _. proper-start k)
     proper-place P.First bare h = absurd h
     proper-place P.First (whole w) h = absurd h
     proper-place P.First (in-array a k) h =
-        let Q : Step → Type 0 = λ st. Proper (take 𝕄 st 0 b g g (in-array a k)) in
+        let Q : Step → Type 0 = λ st. Proper 𝕄 (take 𝕄 st 0 b g g (in-array a k)) in
         cond-elim Q (isBlank b) (λ _. tt) (λ _. cond-elim Q (eqb b 0x5D) (λ _. begun-finish _ k) (λ _. proper-start (in-array a k)))
     proper-place P.First (in-object o k) h =
-        let Q : Step → Type 0 = λ st. Proper (take 𝕄 st 0 b g g (in-object o k)) in
+        let Q : Step → Type 0 = λ st. Proper 𝕄 (take 𝕄 st 0 b g g (in-object o k)) in
         cond-elim Q (isBlank b) (λ _. tt) (λ _. cond-elim Q (eqb b 0x7D) (λ _. begun-finish _ k) (λ _. cond-elim Q (eqb b 0x22) (λ _. tt) (λ _. tt)))
     proper-place P.Key k h =
-        let Q : Step → Type 0 = λ st. Proper (take 𝕄 st 0 b g g k) in
+        let Q : Step → Type 0 = λ st. Proper 𝕄 (take 𝕄 st 0 b g g k) in
         cond-elim Q (isBlank b) (λ _. h) (λ _. cond-elim Q (eqb b 0x22) (λ _. h) (λ _. tt))
     proper-place P.Colon k h =
-        let Q : Step → Type 0 = λ st. Proper (take 𝕄 st 0 b g g k) in
+        let Q : Step → Type 0 = λ st. Proper 𝕄 (take 𝕄 st 0 b g g k) in
         cond-elim Q (isBlank b) (λ _. h) (λ _. cond-elim Q (eqb b 0x3A) (λ _. tt) (λ _. tt))
     proper-place P.After k h = proper-after k h
 
-    proper-key : (x : StringMove) (c : ℕ) (e : Token 𝕄) (k : Stack 𝕄) → InObject k → Proper (take 𝕄 (keyStep x) c b g e k)
+    proper-key : (x : StringMove) (c : ℕ) (e : Token 𝕄) (k : Stack 𝕄) → InObject 𝕄 k → Proper 𝕄 (take 𝕄 (keyStep x) c b g e k)
     proper-key SM.Fault c e k h = tt
     proper-key (SM.Go s) c e k h = h
     proper-key SM.Char c e k h = h
@@ -118,13 +82,13 @@ module _ (𝕄 : Meaning) where
     proper-key SM.Close c e (in-array a k) h = absurd h
     proper-key SM.Close c e (in-object o k) h = tt
 
-    proper-text : (x : StringMove) (c : ℕ) (e : Token 𝕄) (k : Stack 𝕄) → Proper (take 𝕄 (textStep x) c b g e k)
+    proper-text : (x : StringMove) (c : ℕ) (e : Token 𝕄) (k : Stack 𝕄) → Proper 𝕄 (take 𝕄 (textStep x) c b g e k)
     proper-text SM.Fault c e k = tt
     proper-text (SM.Go s) c e k = tt
     proper-text SM.Char c e k = tt
     proper-text SM.Close c e k = begun-finish _ k
 
-    proper-number : (x : NumberMove) (k : Stack 𝕄) → Proper (take 𝕄 (numberStep x (topOf 𝕄 k) b) 0 b g g k)
+    proper-number : (x : NumberMove) (k : Stack 𝕄) → Proper 𝕄 (take 𝕄 (numberStep x (topOf 𝕄 k) b) 0 b g g k)
     proper-number NM.Fault k = tt
     proper-number (NM.Go n) k = tt
     proper-number NM.End k =
@@ -132,16 +96,16 @@ module _ (𝕄 : Meaning) where
         let p = proper-after (finish 𝕄 v k) (begun-finish v k) in
         rw (topOf-finish 𝕄 v k, ends-none (topOf 𝕄 k) b) at p
 
-    proper-word : (w : Word) (i : ℕ) (k : Stack 𝕄) → Proper (take 𝕄 (wordStep (letterMove (spelling (wordOf w)) i b) w i) 0 b g g k)
+    proper-word : (w : Word) (i : ℕ) (k : Stack 𝕄) → Proper 𝕄 (take 𝕄 (wordStep (letterMove (spelling (wordOf w)) i b) w i) 0 b g g k)
     unfolding letterMove
     proper-word w i k =
         let l : List ℕ = spelling (wordOf w) in
-        let Q : WordMove → Type 0 = λ x. Proper (take 𝕄 (wordStep x w i) 0 b g g k) in
+        let Q : WordMove → Type 0 = λ x. Proper 𝕄 (take 𝕄 (wordStep x w i) 0 b g g k) in
         cond-elim Q (ltb i (length l)) (λ _. cond-elim Q (eqb b (getD l i 0))
         (λ _. cond-elim Q (ltb (i + 1) (length l)) (λ h. h) (λ _. begun-finish _ k)) (λ _. tt)) (λ _. tt)
 
   -- every step keeps it
-  pub proper-step : (q : State 𝕄) (b : ℕ) → Proper q → Proper (step 𝕄 q b)
+  pub proper-step : (q : State 𝕄) (b : ℕ) → Proper 𝕄 q → Proper 𝕄 (step 𝕄 q b)
   unfolding step
   proper-step fault b h = tt
   proper-step (at (M.At p) g k) b h = proper-place b g p k h

@@ -1,6 +1,7 @@
 // The judging program: judges standard input by the rules of book.txt, and prints a line for each record. What it prints is made by crate report,
 // which is proved; here bytes are only read and written.
 ghost use mathlib.Core.Path.{_≡_};
+ghost use Prim.Native.Nat.{_≤_};
 ghost use lib.ListN.{length};
 use libc::STDIN_FILENO;
 use libc::STDOUT_FILENO;
@@ -61,7 +62,52 @@ fn stopped(r: Reader) -> State {
     }
 }
 
-// Reports a piece, and prints its lines as they come. A report that reads nothing, or more than there is, would be a call refused or a slip: it stops.
+// A piece under way: the reader, and the bytes of the piece that are read.
+struct Part {
+    reader: Reader,
+    read: usize,
+}
+
+// The bytes read with so many more; the same where there are not so many.
+fn read_more(read: usize, more: usize, len: usize) -> usize
+    requires { ⌜ read ≤ len ⌝ }
+    ensures { λ r. ⌜ r ≤ len ⌝ }
+{
+    if len - read < more {
+        return read;
+    }
+    read + more
+}
+
+// Reports what is unread of a piece, and prints its lines. Where they cannot be printed, no more counts as read.
+fn judge_next<'a>(
+    r: Reader,
+    table: &'a [u8; 7920],
+    work: &mut [u8],
+    piece: &'a [u8],
+    out: &mut [u8],
+    read: usize,
+) -> Part
+    requires { ⌜ read ≤ length (now piece) ⌝ }
+    ensures { λ x. ⌜ x .read ≤ length (now (piece .entry)) ⌝ }
+{
+    let x = report::report(r, table, work, &piece[read..], out);
+    let used = x.used;
+    let next = x.reader;
+    let behind = read_more(read, x.read, piece.len());
+    if print(out, used) {
+        return Part {
+            reader: next,
+            read: behind,
+        };
+    }
+    Part {
+        reader: next,
+        read: read,
+    }
+}
+
+// Reports a piece, and prints its lines as they come. A turn that reads nothing is a call refused, a slip or a failed print: it stops.
 fn judge_piece<'a>(
     r: Reader,
     table: &'a [u8; 7920],
@@ -72,20 +118,13 @@ fn judge_piece<'a>(
     let mut next = r;
     let mut read = 0;
     while read < piece.len() {
-        let x = report::report(next, table, work, &piece[read..], out);
-        let used = x.used;
-        let more = x.read;
+        let x = judge_next(next, table, work, piece, out, read);
+        let behind = x.read;
         next = x.reader;
-        if print(out, used) {} else {
+        if behind <= read {
             return stopped(next);
         }
-        if more == 0 {
-            return stopped(next);
-        }
-        if piece.len() - read < more {
-            return stopped(next);
-        }
-        read += more;
+        read = behind;
     }
     State {
         reader: next,

@@ -1,7 +1,7 @@
 -- The record that pick gives is the one to which the reader gives verdict n: `picked-has-verdict`, `picked-none`. Assumes nothing.
 use mathlib.Core.Bool.{Bool, true, false, cond, _&&_}
 use mathlib.Core.List.{List, [], _∷_}
-use mathlib.Core.Path.{_≡_, refl, sym, _∙_}
+use mathlib.Core.Path.{_≡_, refl, _∙_}
 use Prim.Native.Nat.{ℕ, zero, suc, _≤_, _<_}
 use native.Mathlib.Omega.{arith}
 use lib.Dec.{eqb, eqb·suc-zero}
@@ -10,9 +10,9 @@ use Rattle.book.specs.Entry.{Entry}
 use Rattle.verdict.specs.declared.Verdict.{Verdict}
 use Rattle.verdict.specs.declared.Verdict.the-variants as Is
 use Rattle.reader.specs.declared.Reader.{Reader}
-use Rattle.reader.specs.Paper.{Call, Judge, Judges, nonempty}
+use Rattle.reader.specs.Paper.{Call, Judge, nonempty}
 use Rattle.reader.specs.Claim.{answers}
-use Rattle.stream.specs.Records.{split, given, givenAll, verdictsOf, verdictsIn, StreamOf}
+use Rattle.stream.specs.Records.{split, givenAll, verdictsOf, verdictsIn, StreamOf}
 use Rattle.stream.proofs.JudgeLaws.{judgeOf}
 use Rattle.demand.specs.Book.{Book}
 use Rattle.demand.proofs.Corollaries.{verdicts-of-stream, judge-of-stream}

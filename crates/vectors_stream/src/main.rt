@@ -166,8 +166,9 @@ fn run(calls: &[u8], work: &mut [u8]) {
         if n - i < m {
             return;
         }
-        s = call(s, op, k, &mut table, work, &calls[i..i + m]);
-        i += m;
+        let end = i + m;
+        s = call(s, op, k, &mut table, work, &calls[i..end]);
+        i = end;
     }
 }
 

@@ -90,6 +90,7 @@ pub fn feed_all<'a>(t: &'a [u8; 7920], s: Stream, work: &mut [u8], piece: &'a [u
     let mut now = s;
     let mut at: usize = 0;
     while at < piece.len() {
+        let left = piece.len() - at;
         let r = now.reader;
         let vs = now.verdicts;
         let x = reader::feed(r, t, work, &piece[at..]);
@@ -100,10 +101,10 @@ pub fn feed_all<'a>(t: &'a [u8; 7920], s: Stream, work: &mut [u8], piece: &'a [u
         if n == 0 {
             return now;
         }
-        if piece.len() - at < n {
+        if left < n {
             return now;
         }
-        at += n;
+        at = piece.len() - (left - n);
     }
     now
 }

@@ -1,7 +1,6 @@
 -- `ends_part` meets its contract: only an RS ends a part. Assumes nothing.
 use Rattle.pick.specs.Scan.{endsPart}
 use Rattle.laws.proofs.Tests.{tests}
-use borrow.Author.Needs.{needs}
 use Rattle.pick.proofs.ends_part.Statement.{statement}
 use Rattle.pick.proofs.ends_part.Tie as tie
 

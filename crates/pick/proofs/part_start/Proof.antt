@@ -1,7 +1,6 @@
 -- `part_start` meets its contract: an RS moves it. Assumes nothing.
 use Rattle.pick.specs.Scan.{partStart}
 use Rattle.laws.proofs.Tests.{tests}
-use borrow.Author.Needs.{needs}
 use Rattle.pick.proofs.part_start.Statement.{statement}
 use Rattle.pick.proofs.part_start.Tie as tie
 

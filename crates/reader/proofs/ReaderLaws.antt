@@ -20,10 +20,12 @@ use Rattle.reader.specs.Machine.{Outcome, freshReader, zeroTally, tallie
 -- ---- start, by its gate
 
 module _ (t : Table) (w : List ℕ) (a : Gate) (p : a ≡ startGate t (length w)) (r : Reader) where
+  -- a shut gate gives a reader with 0 frames
   pub start-refused : (k : Refusal) → a ≡ Is.Shut k → r ≡ freshReader 0 true zeroTally → record { reader = r; answer = Says.Refused k } ≡ startOf t w
   unfolding startOf
   start-refused k e f = rw (sym p ∙ e, f)
 
+  -- an open one gives the frames of the buffer
   pub start-done : (n : ℕ) → a ≡ Is.Open → n ≡ frameCount (length w) → r ≡ freshReader n true zeroTally
       → record { reader = r; answer = Says.Quiet } ≡ startOf t w
   unfolding startOf
@@ -32,19 +34,22 @@ module _ (t : Table) (w : List ℕ) (a : Gate) (p : a ≡ startGate t (length w)
 -- ---- feed and close, by their gate
 
 module _ (r : Reader) (t : Table) (w : List ℕ) (a : Gate) (p : a ≡ callGate (withinReader r) (r .frames) t (length w)) where
+  -- a refused feed
   pub feed-shut : (s : List ℕ) (n : Refusal) → a ≡ Is.Shut n → refusing r w n ≡ feedOf r t w s
   unfolding feedOf
   feed-shut s n e = rw (sym p ∙ e)
 
+  -- a feed that is let in
   pub feed-open : (s : List ℕ) (o : Outcome) → a ≡ Is.Open → o ≡ feeding r t w s → o ≡ feedOf r t w s
   unfolding feedOf
   feed-open s o e h = rw (sym p ∙ e) h
 
+  -- a refused close
   pub close-shut : (n : Refusal) → a ≡ Is.Shut n → refusing r w n ≡ closeOf r t w
   unfolding closeOf
   close-shut n e = rw (sym p ∙ e)
 
-  -- a record ends: f is what `ended` gives
+  -- a close that ends a record, where f is what `ended` gives
   pub close-ended : a ≡ Is.Open → 0 < r .lex .pos → (f : Fed)
       → f ≡ record {
         reader = freshReader (r .frames) true (tallied (judged (r .lex) (r .root)) (r .tally));
@@ -55,7 +60,7 @@ module _ (r : Reader) (t : Table) (w : List ℕ) (a : Gate) (p : a ≡ callGate 
   unfolding closeOf closing
   close-ended e h f q = rw (sym p ∙ e, lt-ltb 0 (r .lex .pos) h, q)
 
-  -- nothing was read
+  -- a close where nothing was read
   pub close-empty : a ≡ Is.Open → r .lex .pos ≤ 0 → (n : Reader) → n ≡ freshReader (r .frames) true (r .tally)
       → record { reader = n; count = 0; answer = Says.Quiet; work = w } ≡ closeOf r t w
   unfolding closeOf closing

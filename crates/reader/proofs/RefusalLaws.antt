@@ -27,10 +27,12 @@ pub through-elim : {A : Type 0} (P : A → Type 0) {refused : Refusal → A} {do
 through-elim P Is.Open f d = d refl
 through-elim P (Is.Shut k) f d = f k refl
 
+-- the gate of a call that is not refused is open
 pub open-of-isOpen : (a : Gate) → isOpen a ≡ true → a ≡ Is.Open
 open-of-isOpen Is.Open e = refl
 open-of-isOpen (Is.Shut k) e = true-neq-false (sym e)
 
+-- that of any other is shut, with its refusal
 pub shut-of-not-isOpen : (a : Gate) → isOpen a ≡ false → (k : Refusal) × (a ≡ Is.Shut k)
 shut-of-not-isOpen Is.Open e = true-neq-false e
 shut-of-not-isOpen (Is.Shut k) e = (k, refl)
@@ -38,7 +40,7 @@ shut-of-not-isOpen (Is.Shut k) e = (k, refl)
 -- ---- a ladder
 
 module _ (g : Rung) (gs : List Rung) where
-  -- an open ladder has a first rung that holds, and the rest is open
+  -- the first rung of an open ladder holds
   first-of-open : firstRefusal (g ∷ gs) ≡ Is.Open → g .holds ≡ true
   unfolding firstRefusal
   first-of-open = go (g .holds)
@@ -47,16 +49,14 @@ module _ (g : Rung) (gs : List Rung) where
       go true e = refl
       go false e = open-neq-shut (g .refusal) (sym e)
 
+  -- where the first rung holds, the others count
   rest-of-holds : g .holds ≡ true → firstRefusal (g ∷ gs) ≡ firstRefusal gs
   unfolding firstRefusal
   rest-of-holds e = rw e
 
+  -- the others of an open ladder are open
   rest-of-open : firstRefusal (g ∷ gs) ≡ Is.Open → firstRefusal gs ≡ Is.Open
   rest-of-open e = sym (rest-of-holds (first-of-open e)) ∙ e
-
-  shut-of-fails : g .holds ≡ false → firstRefusal (g ∷ gs) ≡ Is.Shut (g .refusal)
-  unfolding firstRefusal
-  shut-of-fails e = rw e
 
   -- a rung that shuts a gate alone shuts every ladder that begins with it
   shut-of-first : (k : Refusal) → firstRefusal (g ∷ []) ≡ Is.Shut k → firstRefusal (g ∷ gs) ≡ Is.Shut k
@@ -69,7 +69,7 @@ module _ (g : Rung) (gs : List Rung) where
 
 -- ---- what the gates tell
 
--- a start whose gate is open
+-- a start whose gate is open has a table within its limits, and a buffer of 96 bytes or more; and the other way round
 module _ (t : Table) (n : ℕ) where
   pub table-of-start : startGate t n ≡ Is.Open → withinLimits t ≡ true
   unfolding startGate
@@ -83,7 +83,7 @@ module _ (t : Table) (n : ℕ) where
   unfolding startGate firstRefusal
   start-open-of-room e h = rw (e, le-leb 96 n h)
 
--- a call whose gate is open
+-- a call whose gate is open has a table within its limits, and a buffer with all frames of its reader
 module _ (within : Bool) (f : ℕ) (t : Table) (n : ℕ) where
   pub table-of-call : callGate within f t n ≡ Is.Open → withinLimits t ≡ true
   unfolding callGate
@@ -94,11 +94,12 @@ module _ (within : Bool) (f : ℕ) (t : Table) (n : ℕ) where
   room-of-call e = leb-true (96 * f) n (first-of-open _ _ (rest-of-open _ _ (rest-of-open _ _ e)))
 
 module _ (f : ℕ) (t : Table) (n : ℕ) where
+  -- with a reader within its bounds it is also the other way round
   pub call-open-of-room : withinLimits t ≡ true → 96 * f ≤ n → callGate true f t n ≡ Is.Open
   unfolding callGate firstRefusal
   call-open-of-room e h = rw (e, le-leb (96 * f) n h)
 
-  -- with a reader in its bounds 23 is for the table
+  -- with such a reader 23 is for the table
   pub table-of-above-limit : callGate true f t n ≡ Is.Shut No.AboveLimit → withinLimits t ≡ false
   unfolding callGate firstRefusal
   table-of-above-limit = go (withinLimits t) (leb (96 * f) n)
@@ -108,7 +109,7 @@ module _ (f : ℕ) (t : Table) (n : ℕ) where
       go true false e = cc
       go false b e = refl
 
--- a gate that is open, in the form of the code's need
+-- the table of a call that is let in, in the form of the code's need
 pub table-let-in : (within : Bool) (f : ℕ) (t : Table) (n : ℕ) (a : Gate) → a ≡ callGate within f t n → a ≡ Is.Open → withinLimits t ≡ true
 table-let-in within f t n a p e = table-of-call within f t n (sym p ∙ e)
 
@@ -131,6 +132,7 @@ module _ (f l k : ℕ) where
   unfolding fitReader
   fit-none a = rw (lt-leb 1 f a)
 
+  -- a reader within its bounds has at most 64 frames
   pub frames-le : (v : Bool) → v ≡ fitReader f l k → v ≡ true → f ≤ 64
   unfolding fitReader
   frames-le v p e = go (leb 1 f) (leb f 64) refl (sym p ∙ e)
@@ -152,8 +154,9 @@ module _ (t : Table) (b : Bool) (p : b ≡ withinLimits t) where
   table-shut e = rw (sym p ∙ e)
 
 module _ (t : Table) (a : Gate) (p : a ≡ firstRefusal (tableRung t ∷ [])) where
-  passed : a ≡ Is.Open → withinLimits t ≡ true
-  passed e = first-of-open (tableRung t) [] (sym p ∙ e)
+  -- the table of a call that its first rung lets pass
+  within-of-passed : a ≡ Is.Open → withinLimits t ≡ true
+  within-of-passed e = first-of-open (tableRung t) [] (sym p ∙ e)
 
   pub start-shut : (n : ℕ) (k : Refusal) → a ≡ Is.Shut k → a ≡ startGate t n
   unfolding startGate
@@ -161,10 +164,10 @@ module _ (t : Table) (a : Gate) (p : a ≡ firstRefusal (tableRung t ∷ [])) wh
 
   pub start-small : (n : ℕ) → a ≡ Is.Open → n < 96 → Is.Shut No.SmallBuffer ≡ startGate t n
   unfolding startGate firstRefusal
-  start-small n e h = rw (passed e, lt-leb 96 n h)
+  start-small n e h = rw (within-of-passed e, lt-leb 96 n h)
 
   pub start-open : (n : ℕ) → a ≡ Is.Open → 96 ≤ n → Is.Open ≡ startGate t n
-  start-open n e h = sym (start-open-of-room t n (passed e) h)
+  start-open n e h = sym (start-open-of-room t n (within-of-passed e) h)
 
   module _ (f l k n : ℕ) where
     pub call-shut : (x : Refusal) → a ≡ Is.Shut x → a ≡ callGate (fitReader f l k) f t n
@@ -174,11 +177,11 @@ module _ (t : Table) (a : Gate) (p : a ≡ firstRefusal (tableRung t ∷ [])) wh
     module _ (e : a ≡ Is.Open) (v : Bool) (q : v ≡ fitReader f l k) where
       pub call-reader : v ≡ false → Is.Shut No.AboveLimit ≡ callGate (fitReader f l k) f t n
       unfolding callGate firstRefusal
-      call-reader z = rw (passed e, sym q ∙ z)
+      call-reader z = rw (within-of-passed e, sym q ∙ z)
 
       pub call-short : v ≡ true → n < 96 * f → Is.Shut No.ShortBuffer ≡ callGate (fitReader f l k) f t n
       unfolding callGate firstRefusal
-      call-short z h = rw (passed e, sym q ∙ z, lt-leb (96 * f) n h)
+      call-short z h = rw (within-of-passed e, sym q ∙ z, lt-leb (96 * f) n h)
 
       pub call-open : v ≡ true → 96 * f ≤ n → Is.Open ≡ callGate (fitReader f l k) f t n
-      call-open z h = rw (sym q ∙ z) (sym (call-open-of-room f t n (passed e) h))
+      call-open z h = rw (sym q ∙ z) (sym (call-open-of-room f t n (within-of-passed e) h))

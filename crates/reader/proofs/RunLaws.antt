@@ -28,12 +28,14 @@ use Rattle.reader.specs.declared.Answer.the-variants as Says
 use Rattle.reader.specs.Machine.{freshReader, tallied, feeding}
 use Rattle.reader.specs.Went.{StepsAs, WentTo}
 
--- ---- the end of a record
+-- ---- the end of a record, by the code's tests
 
+-- a byte other than RS ends none
 pub ends-other : (x : Lex) (b : ℕ) → (b ≡ 0x1E → ⊥) → false ≡ endsRecord x b
 unfolding endsRecord
 ends-other x b h = rw (ne-eqb b 0x1E h)
 
+-- an RS ends one that has a byte
 pub ends-rs : (x : Lex) (b : ℕ) → b ≡ 0x1E → ltb 0 (x .pos) ≡ endsRecord x b
 unfolding endsRecord
 ends-rs x b h = rw (eq-eqb b 0x1E h)
@@ -41,10 +43,12 @@ ends-rs x b h = rw (eq-eqb b 0x1E h)
 -- ---- the run
 
 module _ (t : Table) (n : ℕ) (m : Mem) (s : List ℕ) (i : ℕ) where
+  -- the byte at place i ends the record
   run-end : i < length s → endsRecord (m .lex) (getD s i 0) ≡ true → runMem t n m i (drop i s) ≡ record { memory = m; count = i + 1; ended = true }
   unfolding runMem
   run-end h e = rw (drop-cons s i 0, e)
 
+  -- it has its turn, with a step that is as good as its own
   run-turn : (k : Mem) (st : Step) → i < length s → endsRecord (m .lex) (getD s i 0) ≡ false
       → advanced (m .lex) n (getD s i 0) st ≡ advanced (m .lex) n (getD s i 0) (stepOf (m .lex .mode) (topAt (m .work) (m .lex .level)) (getD s i 0))
       → k ≡ turned t n m (getD s i 0) st → runMem t n k (i + 1) (drop (i + 1) s) ≡ runMem t n m i (drop i s)
@@ -53,6 +57,7 @@ module _ (t : Table) (n : ℕ) (m : Mem) (s : List ℕ) (i : ℕ) where
       rw (drop-cons s i 0, e, q ∙ turned-stepMem t n m (getD s i 0) st g)
       (ap (λ (j : ℕ). runMem t n (stepMem t n m (getD s i 0)) (i + 1) (drop j s)) (add-one i))
 
+  -- there is none
   run-done : length s ≤ i → runMem t n m i (drop i s) ≡ record { memory = m; count = i; ended = false }
   unfolding runMem
   run-done h = rw (drop-of-length-le s h)
@@ -60,20 +65,22 @@ module _ (t : Table) (n : ℕ) (m : Mem) (s : List ℕ) (i : ℕ) where
 -- ---- one byte, by the code's tests
 
 module _ (t : Table) (n : ℕ) (x : Lex) (root : Bool) (key w s : List ℕ) (i : ℕ) (h : i < length s) (v : Bool) (e : v ≡ endsRecord x (getD s i 0)) where
+  -- the byte ends the record
   pub went-ended : v ≡ true → WentTo t n (mem x root key w) s i (mem x root key w) (i + 1) true
   went-ended f = record { low = omega arith; high = omega arith; run = run-end t n (mem x root key w) s i h (sym e ∙ f) }
 
+  -- the byte has its turn
   pub went-turned : (st : Step) (k : Mem) → v ≡ false → StepsAs x n w (getD s i 0) st → k ≡ turned t n (mem x root key w) (getD s i 0) st
       → WentTo t n (mem x root key w) s i k (i + 1) false
   unfolding StepsAs
   went-turned st k f g u =
       record { low = omega arith; high = omega arith; run = sym (run-turn t n (mem x root key w) s i k st h (sym e ∙ f) g u) }
 
--- ---- the bytes passed over: x becomes y while the characters of a key are kept, and y becomes z behind the bytes that only move it on
+-- ---- the bytes passed over: x becomes y while the characters of a key are kept, and y becomes z over the bytes that only move it on
 
 module _ (s : List ℕ) (i at end : ℕ) (x y z : Lex) (top : Top) (st : Step) (key kept w : List ℕ) (a : KeptTo x s i key y at kept) (b : PassedTo y top s at z end st)
     (e : top ≡ topAt w (y .level)) where
-  -- the step that is left is as good as the next byte's own
+  -- the step st is as good as the next byte's own
   pub step-passed : (n : ℕ) → end < length s → StepsAs z n w (getD s end 0) st
   unfolding StepsAs
   step-passed n h =
@@ -81,26 +88,28 @@ module _ (s : List ℕ) (i at end : ℕ) (x y z : Lex) (top : Top) (st : Step) (
       ∙ ap (λ (k : Top). advanced z n (getD s end 0) (stepOf (z .mode) k (getD s end 0))) (e ∙ ap (λ (l : ℕ). topAt w l) (sym (b .runs .level)))
 
   module _ (t : Table) (n : ℕ) (root : Bool) where
-    -- the run behind them is the run over the whole
+    -- the run after them gives what the run over the whole gives
     run-passed : runMem t n (mem z root kept w) end (drop end s) ≡ runMem t n (mem x root key w) i (drop i s)
     run-passed = b .runs .same t n root kept w (sym e) ∙ a .same t n root w
 
-    -- to the end of the piece
+    -- they reach the end of the piece
     pub went-all : i < length s → length s ≤ end → WentTo t n (mem x root key w) s i (mem z root kept w) end false
     went-all h l = record { low = omega arith; high = b .runs .high; run = sym run-passed }
 
-    -- and further
+    -- one goes on after them
     pub went-on : (k : Mem) (j : ℕ) (v : Bool) → WentTo t n (mem z root kept w) s end k j v → WentTo t n (mem x root key w) s i k j v
     went-on k j v g = record { low = omega (arith, a .low, b .runs .low, g .low); high = g .high; run = sym run-passed ∙ g .run }
 
 -- ---- what the test of a table tells
 
+-- at most 128 keys
 pub keys-le : (t : Table) → withinLimits t ≡ true → t .keys ≤ 128
 keys-le t e = withinLimits-sound t (T-of-true (withinLimits t) e) .keys
 
 -- ---- the loop over a piece
 
--- from the memory m behind i bytes of the piece s what is left gives what the whole gives from the memory o; the key has its 32 places
+-- after i bytes of the piece s, with the memory m, the run over the rest gives what the run over the whole gives with the memory o. The key keeps
+-- its 32 places, and the buffer its length
 pub record Left (t : Table) (n : ℕ) (s : List ℕ) (o m : Mem) (i : ℕ) : Type 0 where
   pub inside : i ≤ length s
   pub room : length (m .work) ≡ length (o .work)
@@ -108,17 +117,20 @@ pub record Left (t : Table) (n : ℕ) (s : List ℕ) (o m : Mem) (i : ℕ) : Typ
   pub run : runMem t n m i (drop i s) ≡ runMem t n o 0 s
 
 module _ (t : Table) (n : ℕ) (s : List ℕ) (o : Mem) where
+  -- before the first byte
   pub left-start : length (o .key) ≡ 32 → Left t n s o o 0
   left-start h = record { inside = omega arith; room = refl; key = h; run = refl }
 
   module _ (m k : Mem) (i j : ℕ) (v : Bool) (l : Left t n s o m i) (g : WentTo t n m s i k j v) where
+    -- the record goes on
     pub left-on : v ≡ false → length (k .work) ≡ length (m .work) → length (k .key) ≡ 32 → Left t n s o k j
     left-on e a b = record { inside = g .high; room = a ∙ l .room; key = b; run = sym (rw e at (g .run)) ∙ l .run }
 
+    -- an RS ends it
     run-of-ended : v ≡ true → runMem t n o 0 s ≡ record { memory = k; count = j; ended = true }
     run-of-ended e = sym (l .run) ∙ rw e at (g .run)
 
--- the two ways out, where f is what `ended` or `read_all` gives
+-- the two ways out of the loop, where f is what `ended` or `read_all` gives
 module _ (r : Reader) (t : Table) (w s key : List ℕ) (same : key ≡ r .key) (f : Fed) (x : Lex) (root : Bool) (kept v : List ℕ) (i : ℕ) where
   abbrev Gives : Type 0
   Gives = record { reader = f .reader; count = f .count; answer = f .answer; work = v } ≡ feeding r t w s

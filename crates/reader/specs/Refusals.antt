@@ -22,6 +22,7 @@ refusalNumber No.AboveLimit = 23
 unfoldable pub fitReader : ℕ → ℕ → ℕ → Bool
 fitReader frames level len = leb 1 frames && (leb frames 64 && (leb level frames && leb len 33))
 
+-- a reader within its bounds
 abbrev pub withinReader : Reader → Bool
 withinReader r = fitReader (r .frames) (r .lex .level) (r .lex .len)
 
@@ -37,19 +38,19 @@ unfoldable pub firstRefusal : List Rung → Gate
 firstRefusal [] = Is.Open
 firstRefusal (g ∷ gs) = cond (g .holds) (firstRefusal gs) (Is.Shut (g .refusal))
 
--- 23: the numbers of the table are within their limits; every call begins with it
+-- 23 for a table with a number above its limit; every call asks this first
 abbrev pub tableRung : Table → Rung
 tableRung t = record { holds = withinLimits t; refusal = No.AboveLimit }
 
--- 23: so are those of the reader
+-- 23 for a reader that is not within its bounds
 abbrev pub readerRung : Bool → Rung
 readerRung within = record { holds = within; refusal = No.AboveLimit }
 
--- 21: a buffer of n bytes has room for a frame
+-- 21 for a buffer of n bytes that is under 96
 abbrev pub oneFrameRung : ℕ → Rung
 oneFrameRung n = record { holds = leb 96 n; refusal = No.SmallBuffer }
 
--- 22: it has room for all frames of the reader
+-- 22 for a buffer of n bytes that is under 96 times the frames of the reader
 abbrev pub framesRung : ℕ → ℕ → Rung
 framesRung frames n = record { holds = leb (96 * frames) n; refusal = No.ShortBuffer }
 

@@ -119,9 +119,9 @@ fn admit_table(table: &[u8; 7920]) -> Gate
 fn admit_start(table: &[u8; 7920], n: usize) -> Gate
     ensures { λ a. ⌜ a ≡ startGate (tableIn (now (table .entry))) n ⌝ }
 {
-    let first = admit_table(table);
-    if let Gate::Shut(_) = first {
-        return first;
+    let gate = admit_table(table);
+    if let Gate::Shut(_) = gate {
+        return gate;
     }
     if n < Reader::FRAME {
         return Gate::Shut(Refusal::SmallBuffer);

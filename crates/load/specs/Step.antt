@@ -2,7 +2,7 @@
 -- `readBook` of the book. Assumes nothing.
 use mathlib.Core.Bool.{Bool, false, not, cond, _&&_, _||_}
 use mathlib.Core.List.{List, [], _∷_}
-use Prim.Native.Nat.{ℕ, zero, suc, _+_, _*_}
+use Prim.Native.Nat.{ℕ, zero, suc, _+_, _*_, _-_}
 use lib.Dec.{leb, ltb, eqb}
 use lib.ListN.{length, getD, set, take, drop}
 use Rattle.laws.specs.Bits.{bitAt, setBit}
@@ -34,68 +34,47 @@ firstAt f g i (suc n) = cond (f i) (g i) (firstAt f g (suc i) n)
 
 -- ---- tables
 
--- one end state more, of a rule with form f
-abbrev pub withEnd : Table → ℕ → ℕ → ℕ → Table
-withEnd t r f q = record {
-  edges = t .edges;
-  keys = t .keys;
+-- the table t with e edges and k keys, and with each of its arrays changed as g says, which is told its number: 1 to 5 of edges the rules,
+-- states, keys, kinds and nexts, 6 their lines, 8 the bytes of keys, 9 their lengths, 10 the end states, 11 the forms
+abbrev pub changed : Table → ℕ → ℕ → (ℕ → List ℕ → List ℕ) → Table
+changed t e k g = record {
+  edges = e;
+  keys = k;
   spare = t .spare;
-  «edge_rule» = t .«edge_rule»;
-  «edge_state» = t .«edge_state»;
-  «edge_key» = t .«edge_key»;
-  «edge_kind» = t .«edge_kind»;
-  «edge_next» = t .«edge_next»;
-  «edge_line» = t .«edge_line»;
-  «key_bytes» = t .«key_bytes»;
-  «key_len» = t .«key_len»;
-  ends = setBit (t .ends) (16 * r + q);
-  forms = set (t .forms) r f;
+  «edge_rule» = g 1 (t .«edge_rule»);
+  «edge_state» = g 2 (t .«edge_state»);
+  «edge_key» = g 3 (t .«edge_key»);
+  «edge_kind» = g 4 (t .«edge_kind»);
+  «edge_next» = g 5 (t .«edge_next»);
+  «edge_line» = g 6 (t .«edge_line»);
+  «key_bytes» = g 8 (t .«key_bytes»);
+  «key_len» = g 9 (t .«key_len»);
+  ends = g 10 (t .ends);
+  forms = g 11 (t .forms);
 }
 
--- one edge more, of a rule with form f, on line n
+-- one end state more, of a rule with form f
+abbrev pub withEnd : Table → ℕ → ℕ → ℕ → Table
+withEnd t r f q = changed t (t .edges) (t .keys) (λ j xs. cond (eqb j 10) (setBit xs (16 * r + q)) (cond (eqb j 11) (set xs r f) xs))
+
+-- one edge more, of a rule with form f, on line n: its numbers stand at its place in the arrays 1 to 6
 abbrev pub withEdge : Table → ℕ → Cell → ℕ → Table
-withEdge t f c n = record {
-  edges = t .edges + 1;
-  keys = t .keys;
-  spare = t .spare;
-  «edge_rule» = set (t .«edge_rule») (t .edges) (c .rule);
-  «edge_state» = set (t .«edge_state») (t .edges) (c .state);
-  «edge_key» = set (t .«edge_key») (t .edges) (c .key);
-  «edge_kind» = set (t .«edge_kind») (t .edges) (c .kind);
-  «edge_next» = set (t .«edge_next») (t .edges) (c .next);
-  «edge_line» = set (t .«edge_line») (t .edges) n;
-  «key_bytes» = t .«key_bytes»;
-  «key_len» = t .«key_len»;
-  ends = t .ends;
-  forms = set (t .forms) (c .rule) f;
-}
+withEdge t f c n =
+    changed t (t .edges + 1) (t .keys)
+    (λ j xs. cond (ltb j 7)
+    (set xs (t .edges) (getD (c .rule ∷ c .state ∷ c .key ∷ c .kind ∷ c .next ∷ n ∷ []) (j - 1) 0))
+    (cond (eqb j 11) (set xs (c .rule) f) xs))
 
 -- the bytes k from place a on
 unfoldable pub written : List ℕ → ℕ → List ℕ → List ℕ
 written w a [] = w
 written w a (b ∷ k) = written (set w a b) (suc a) k
 
--- one key more, of n bytes, where w is the bytes of all keys
-abbrev pub withKeyIn : Table → List ℕ → ℕ → Table
-withKeyIn t w n = record {
-  edges = t .edges;
-  keys = t .keys + 1;
-  spare = t .spare;
-  «edge_rule» = t .«edge_rule»;
-  «edge_state» = t .«edge_state»;
-  «edge_key» = t .«edge_key»;
-  «edge_kind» = t .«edge_kind»;
-  «edge_next» = t .«edge_next»;
-  «edge_line» = t .«edge_line»;
-  «key_bytes» = w;
-  «key_len» = set (t .«key_len») (t .keys) n;
-  ends = t .ends;
-  forms = t .forms;
-}
-
 -- one key more
 abbrev pub withKey : Table → List ℕ → Table
-withKey t k = withKeyIn t (written (t .«key_bytes») (32 * t .keys) k) (length k)
+withKey t k =
+    changed t (t .edges) (t .keys + 1)
+    (λ j xs. cond (eqb j 8) (written xs (32 * t .keys) k) (cond (eqb j 9) (set xs (t .keys) (length k)) xs))
 
 -- ---- one line
 

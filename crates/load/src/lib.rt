@@ -73,8 +73,8 @@ pub fn line_of(a: Answer) -> usize
 }
 
 // Loads a rule book, whose bytes stay as they are. Every byte string has an answer: the number and line that the paper's `loads` gives it, and
-// the table of the entries that it gives; every byte of a refused book's table is 0. Ruled out are, for example, a program that reports the earlier line of a pair of clashing edges, and
-// one that finds a repeated line only where it directly follows.
+// the table of the entries that it gives; every byte of a refused book's table is 0. Ruled out are, for example, a program that reports the
+// earlier line of a pair of clashing edges, and one that finds a repeated line only where it directly follows.
 pub fn load(book: &[u8], table: &mut [u8; 7920]) -> Answer
     ensures { λ r. ⌜ LoadsAs (now (book .entry)) (loadedAs r (tableIn (now (table .exit)))) ⌝ }
     ensures { λ _. ⌜ Blank (now (book .entry)) (now (table .exit)) ⌝ }

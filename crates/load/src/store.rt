@@ -33,12 +33,6 @@ pub fn clear(table: &mut [u8; 7920])
     *table = [0u8; 7920];
 }
 
-fn wide(x: u8) -> usize
-    ensures { λ r. ⌜ r ≡ x ⌝ }
-{
-    x as usize
-}
-
 // ---- edges
 
 // The numbers are those of the cell.
@@ -219,7 +213,7 @@ fn take_edge(table: &mut [u8; 7920], line: u16, form: u8, c: Cell, key: &[u8]) -
     if 512 <= edges {
         return 5;
     }
-    if is_new(key.len(), wide(c.key), keys) {
+    if is_new(key.len(), flat::wide(c.key), keys) {
         if 128 <= keys {
             return 5;
         }

@@ -1,4 +1,5 @@
--- The numbers of a book, which a table's bytes mean: `Flat` says where they stand, docs/LIMITS.md names the limit of each. Stated. Assumes nothing.
+-- The numbers of a book, which a table's bytes mean: `Flat` says where they stand, and docs/LIMITS.md what each value of a byte
+-- comes to. Stated. Assumes nothing.
 use mathlib.Core.List.{List}
 use Prim.Native.Nat.{ℕ}
 

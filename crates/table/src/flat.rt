@@ -31,7 +31,8 @@ pub const END: usize = 7824;
 
 pub const FORM: usize = 7888;
 
-fn wide(x: u8) -> usize
+// A byte as a number.
+pub fn wide(x: u8) -> usize
     ensures { λ r. ⌜ (r ≡ x) × (r < 256) ⌝ }
 {
     x as usize

@@ -21,7 +21,9 @@ returns : tie.Need-returns
 returns c =
     let d = c .before .before .before .before in
     let a = d .before .before .before .args in
-    putFrame-of-lent _ _ _ (d .before .place .ensures) (d .if1 .taken) (valued (edgesIn (tableIn (a .table .now))) (tableIn (a .table .now) .«edge_kind») (tableIn (a .table .now) .forms) (a .v)) _ (c .before .before .value-frame .ensures)
+    let t = tableIn (a .table .now) in
+    putFrame-of-lent _ _ _ (d .before .place .ensures) (d .if1 .taken) (valued (edgesIn t) (t .«edge_kind») (t .forms) (a .v)) _
+    (c .before .before .value-frame .ensures)
 
 returns-2 : tie.Need-returns-2
 returns-2 c = putFrame-none _ _ _ (none-of-place _ _ _ (c .before .place .ensures) (c .if1 .left))

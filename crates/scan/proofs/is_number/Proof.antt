@@ -17,7 +17,11 @@ returns-4 : tie.Need-returns-4
 returns-4 c = search (needs, isNumber-other)
 
 returns-5 : tie.Need-returns-5
-returns-5 c = isNumber-zero _ (c .before .before .before .before .before .before .before .if1 .left) _ (c .before .before .before .before .before .is-between .ensures) (c .before .before .before .before .if2 .left) _ (c .before .before .before .all-between .ensures) (c .before .before .if3 .left) (c .if4 .left)
+returns-5 c =
+    let d = c .before .before in
+    let e = d .before .before in
+    isNumber-zero _ (e .before .before .before .if1 .left) _ (e .before .is-between .ensures) (e .if2 .left) _ (d .before .all-between .ensures)
+    (d .if3 .left) (c .if4 .left)
 
 pub is-number-spec : {M : Type 1} → statement M
 is-number-spec =

@@ -24,7 +24,7 @@ use Rattle.progress.specs.declared.Advanced.{Advanced}
 use Rattle.progress.specs.Act.{keptIn}
 use Rattle.progress.specs.Lex.{advanced}
 use Rattle.progress.specs.Memory.{Mem, mem, topAt, valueAt, rulesAt, closeAt, perform, stepMem}
-use Rattle.turn.specs.Turn.{ClosedTo, namedAt, turned}
+use Rattle.turn.specs.Turn.{ClosedTo, namedAt, PerformedTo, turned}
 
 -- ---- the innermost open value
 
@@ -75,39 +75,40 @@ module _ (t : Table) (w : List ℕ) (l s d : ℕ) (v : List ℕ) (root : Bool)
 
 -- ---- the tasks
 
--- from what is known of the record before the byte (old) and after it (x), its root, key and buffer
-module _ (t : Table) (k : Task) (old x : Lex) (root : Bool) (key w : List ℕ) where
-  pub idle-done : k ≡ To.Idle → mem x root key w ≡ perform k t (mem old root key w) x
-  idle-done h = rw h
+module _ (t : Table) (k : Task) (level len up : ℕ) (root : Bool) (key w : List ℕ) where
+  pub idle-done : k ≡ To.Idle → PerformedTo k t level len up root key w root key w
+  idle-done h = record { same = λ old x p q u. rw h }
 
-  pub put-done : (c : ℕ) (next : List ℕ) → k ≡ To.Put c → next ≡ keptIn key (old .len) c → mem x root next w ≡ perform k t (mem old root key w) x
-  put-done c next h e = rw (h, e)
+  pub put-done : (c : ℕ) (next : List ℕ) → k ≡ To.Put c → next ≡ keptIn key len c → PerformedTo k t level len up root key w root next w
+  put-done c next h e = record { same = λ old x p q u. rw (h, q, e) }
 
-  pub named-done : (v : List ℕ) → k ≡ To.Named → v ≡ namedAt t key (old .len) w (old .level) → mem x root key v ≡ perform k t (mem old root key w) x
-  named-done v h e = rw (h, e)
+  pub named-done : (v : List ℕ) → k ≡ To.Named → v ≡ namedAt t key len w level → PerformedTo k t level len up root key w root key v
+  named-done v h e = record { same = λ old x p q u. rw (h, q, p, e) }
 
-  pub opened-done : (o : Bool) (v : List ℕ) → k ≡ To.Open o → v ≡ putFrame w (x .level) (opened (t .forms) o) → mem x root key v ≡ perform k t (mem old root key w) x
-  opened-done o v h e = rw (h, e)
+  pub opened-done : (o : Bool) (v : List ℕ) → k ≡ To.Open o → v ≡ putFrame w up (opened (t .forms) o) → PerformedTo k t level len up root key w root key v
+  opened-done o v h e = record { same = λ old x p q u. rw (h, u, e) }
 
   pub finish-done : (s : Scalar) (v : List ℕ) → k ≡ To.Finish s
-      → v ≡ putFrame w (old .level) (valued (edgesOf (t .edges) (t .«edge_rule») (t .«edge_state») (t .«edge_key») (t .«edge_next»)) (t .«edge_kind») (t .forms) (Done.Scalar s) (frameAt w (old .level)))
-      → mem x root key v ≡ perform k t (mem old root key w) x
+      → v ≡ putFrame w level (valued (edgesOf (t .edges) (t .«edge_rule») (t .«edge_state») (t .«edge_key») (t .«edge_next»)) (t .«edge_kind») (t .forms) (Done.Scalar s) (frameAt w level))
+      → PerformedTo k t level len up root key w root key v
   unfolding valueAt
-  finish-done s v h e = rw (h, e)
+  finish-done s v h e = record { same = λ old x p q u. rw (h, p, e) }
 
-  pub close-done : (r : Bool) (v : List ℕ) → k ≡ To.Close → ClosedTo t w (old .level) root r v → mem x r key v ≡ perform k t (mem old root key w) x
+  pub close-done : (r : Bool) (v : List ℕ) → k ≡ To.Close → ClosedTo t w level root r v → PerformedTo k t level len up root key w r key v
   unfolding closeAt
-  close-done r v h e = rw (h, e .root, e .work)
+  close-done r v h e = record { same = λ old x p q u. rw (h, p, e .root, e .work) }
 
-  pub finish-close-done : (s : Scalar) (u : List ℕ) (r : Bool) (v : List ℕ) → k ≡ To.FinishClose s
-      → u ≡ putFrame w (old .level) (valued (edgesOf (t .edges) (t .«edge_rule») (t .«edge_state») (t .«edge_key») (t .«edge_next»)) (t .«edge_kind») (t .forms) (Done.Scalar s) (frameAt w (old .level)))
-      → ClosedTo t u (old .level) root r v → mem x r key v ≡ perform k t (mem old root key w) x
+  pub finish-close-done : (s : Scalar) (o : List ℕ) (r : Bool) (v : List ℕ) → k ≡ To.FinishClose s
+      → o ≡ putFrame w level (valued (edgesOf (t .edges) (t .«edge_rule») (t .«edge_state») (t .«edge_key») (t .«edge_next»)) (t .«edge_kind») (t .forms) (Done.Scalar s) (frameAt w level))
+      → ClosedTo t o level root r v → PerformedTo k t level len up root key w r key v
   unfolding closeAt valueAt
-  finish-close-done s u r v h g e = rw (h, e .root, e .work, g)
+  finish-close-done s o r v h g e = record { same = λ old x p q u. rw (h, p, e .root, e .work, g) }
 
 -- where the task and the record after the byte are what the limits make of the step, a turn has done the task
-pub turned-of-performed : (t : Table) (n : ℕ) (m y : Mem) (b : ℕ) (st : Step) (a : Advanced) → a ≡ advanced (m .lex) n b st → y ≡ perform (a .task) t m (a .lex) → y ≡ turned t n m b st
-turned-of-performed t n m y b st a f h = h ∙ ap (λ (x : Advanced). perform (x .task) t m (x .lex)) f
+pub turned-of-performed : (t : Table) (n : ℕ) (old : Lex) (root : Bool) (key w : List ℕ) (b : ℕ) (st : Step) (a : Advanced) (r : Bool) (kept v : List ℕ) → a ≡ advanced old n b st
+    → PerformedTo (a .task) t (old .level) (old .len) (a .lex .level) root key w r kept v → mem (a .lex) r kept v ≡ turned t n (mem old root key w) b st
+turned-of-performed t n old root key w b st a r kept v f h =
+    h .same old (a .lex) refl refl refl ∙ ap (λ (x : Advanced). perform (x .task) t (mem old root key w) (x .lex)) f
 
 -- where the limits make of the step st what they make of the byte's own, a turn is the step of the memory
 pub turned-stepMem : (t : Table) (n : ℕ) (m : Mem) (b : ℕ) (st : Step)

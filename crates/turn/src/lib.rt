@@ -3,8 +3,8 @@ ghost use mathlib.Core.Path.{_≡_};
 ghost use Prim.Native.Nat.{_≤_};
 ghost use lib.ListN.{length};
 ghost use Rattle.table.specs.Flat.{tableIn};
-ghost use Rattle.progress.specs.Memory.{mem, topAt, perform};
-ghost use Rattle.turn.specs.Turn.{ClosedTo, namedAt, turned};
+ghost use Rattle.progress.specs.Memory.{mem, topAt};
+ghost use Rattle.turn.specs.Turn.{ClosedTo, namedAt, PerformedTo, turned};
 use json::lexer::Step;
 use json::lexer::Top;
 use progress::Lex;
@@ -55,32 +55,33 @@ fn name_level<'a>(work: &mut [u8], level: usize, table: &'a [u8; 7920], key: &'a
     frame::key_level(work, level, k);
 }
 
-// Does a task to the key and the frames of the record x, of which `next` is known after the byte; gives whether the root fits rule 0.
+// Does a task to the key, of which len characters are kept, and to the frames: level is that of the record before the byte, up that after it.
+// Gives whether the root fits rule 0.
 fn perform(
     task: Task,
-    x: Lex,
-    next: Lex,
+    level: usize,
+    len: u8,
+    up: usize,
     root: bool,
     key: &mut [u8],
     work: &mut [u8],
     table: &[u8; 7920],
 ) -> bool
     requires { ⌜ (tableIn (now table) .keys ≤ 128) × (length (now key) ≡ 32) ⌝ }
-    ensures { λ r. ⌜ mem next r (now (key .exit)) (now (work .exit)) ≡ perform task (tableIn (now (table .entry))) (mem x root (now (key .entry)) (now (work .entry))) next ⌝ }
+    ensures { λ r. ⌜ PerformedTo task (tableIn (now (table .entry))) level len up root (now (key .entry)) (now (work .entry)) r (now (key .exit)) (now (work .exit)) ⌝ }
 {
-    let level = x.level;
     match task {
         Task::Idle => root,
         Task::Put(c) => {
-            key::keep_char(key, x.len, c);
+            key::keep_char(key, len, c);
             root
         }
         Task::Named => {
-            name_level(work, level, table, key, x.len);
+            name_level(work, level, table, key, len);
             root
         }
         Task::Open(object) => {
-            frame::open_level(work, next.level, object, table);
+            frame::open_level(work, up, object, table);
             root
         }
         Task::Finish(s) => {
@@ -112,7 +113,7 @@ pub fn turn(
     let a = progress::advance(x, frames, b, st);
     let next = a.lex;
     let task = a.task;
-    let fit = perform(task, x, next, root, key, work, table);
+    let fit = perform(task, x.level, x.len, next.level, root, key, work, table);
     Turned {
         lex: next,
         root: fit,

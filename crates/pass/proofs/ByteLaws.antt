@@ -127,3 +127,7 @@ rest-fits len from pos end i e h l =
     let whole : pos + (end - from) ≤ 16777216 = omega arith in
     let split : end - from ≡ i - from + (end - i) = omega arith in
     omega arith
+
+-- nor does the byte at a place before the end
+pub byte-fits : (len from pos end j : ℕ) → end ≡ from + min (len - from) (16777216 - pos) → from ≤ j → j < end → pos + (j - from) < 16777216
+byte-fits len from pos end j e h l = omega arith

@@ -4,7 +4,6 @@ use mathlib.Core.List.{List}
 use mathlib.Core.Path.{_≡_, refl, sym, ap, _∙_}
 use Prim.Native.Nat.{ℕ, suc, _+_, _-_, _<_, _≤_, min}
 use native.Mathlib.Omega.{arith}
-use native.Mathlib.Decide.{decLt}
 use lib.Dec.{ltb}
 use lib.ListN.{length, getD, drop}
 use borrow.Author.Tests.{le-ltb, ltb-true, ltb-false}
@@ -21,9 +20,9 @@ use Rattle.progress.specs.Memory.{mem, topAt, runMem}
 use Rattle.lexer.specs.Table.{classTable, classAt}
 use Rattle.lexer.specs.Given.{stepBy}
 use Rattle.lexer.proofs.GivenLaws.{stepBy-classTable}
-use Rattle.pass.specs.Pass.{StayedTo, bitsOver, passes, isSound, readsOn, placed, stood, RunsTo, LeapsTo, PassedTo}
-use Rattle.pass.specs.declared.Stand.{Stand}
-use Rattle.pass.proofs.ByteLaws.{bump-below, never, next-run, passes-quiet, quiet-step, reads-told, rest-fits}
+use Rattle.pass.specs.Pass.{StayedTo, bitsOver, passes, isSound, readsOn, placed, reached, passedAt, RunsTo, PassedTo}
+use Rattle.pass.specs.declared.Passed.{Passed}
+use Rattle.pass.proofs.ByteLaws.{bump-below, never, next-run, passes-quiet, quiet-step, reads-told, rest-fits, byte-fits}
 use Rattle.pass.proofs.StayLaws.{stay-some}
 
 -- ---- passing over: the record x is read
@@ -86,52 +85,9 @@ module _ (x : Lex) (top : Top) (s : List ℕ) (o : readsOn x ≡ true) where
             (quiet-step t n x root key w b (told .0) (told .1) v st (e ∙ ap (λ (k : Top). stepOf (x .mode) k b) (sym z)) c));
       }
 
--- ---- some bytes passed over
-
 -- with the class of each byte from the lent table, a step is the lexer's
 pub step-of-lent : (m : Mode) (top : Top) (b : ℕ) (classes : List ℕ) (st : Step) → b < 256 → classes ≡ classTable → st ≡ stepBy (classAt classes b) m top b → st ≡ stepOf m top b
 step-of-lent m top b classes st h c a = a ∙ ap (λ (k : List ℕ). stepBy (classAt k b) m top b) c ∙ stepBy-classTable m top b h
-
-abbrev stand : Mode → ℕ → ℕ → Stand
-stand m bits high = record { mode = m; bits = bits; high = high }
-
--- up to j they leave the mode as it is
-module _ (p : Stand) (top : Top) (s : List ℕ) (from end j bits : ℕ) (h : end ≤ length s) (g : StayedTo (p .mode) s from end j)
-    (e : bits ≡ bitsOver (ltb from j) (p .mode) (p .bits)) where
-  stayed : (x : Lex) (pos : ℕ) → readsOn x ≡ true → pos + (end - from) ≤ 16777216
-      → RunsTo (stood x p pos) top s from (stood x (stand (p .mode) bits (p .high)) (pos + (j - from))) j
-  unfolding readsOn
-  stayed x pos o q = rw e (stay-on (stood x p pos) top s o from end j g h q)
-
-  -- that is the end
-  pub leap-end : (st : Step) → j ≡ end → LeapsTo p top s from end (stand (p .mode) bits (p .high)) j st false
-  leap-end st q =
-      record { low = g .low; high = g .high; further = λ n. never n; runs = stayed; step = λ n l. absurd (omega arith) }
-
-  -- of the byte there the lexer makes the step st
-  module _ (st : Step) (a : st ≡ stepOf (p .mode) top (getD s j 0)) where
-    -- which is not passed over
-    pub leap-stop : LeapsTo p top s from end (stand (p .mode) bits (p .high)) j st false
-    leap-stop = record { low = g .low; high = g .high; further = λ n. never n; runs = stayed; step = λ n l. a }
-
-    -- which is passed over
-    pub leap-on : (more next : ℕ) (v : Bool) → (j ≡ end → ⊥) → v ≡ passes (st .act) (st .ends) (getD s j 0) → v ≡ true
-        → next ≡ highIn (p .mode) bits (p .high) (getD s j 0) → more ≡ bitsIn (p .mode) bits (getD s j 0)
-        → LeapsTo p top s from end (stand (st .mode) more next) (j + 1) st true
-    unfolding readsOn
-    leap-on more next v l q y f d =
-        let less : j < end = omega (arith, g .high) in
-        record {
-          low = omega (arith, g .low);
-          high = omega arith;
-          further = λ n. omega (arith, g .low);
-          runs = λ x pos o z.
-              let k : pos + (j + 1 - from) ≡ pos + (j - from) + 1 = omega (arith, g .low) in
-              runs-on (stayed x pos o z)
-              (rw (k, f, d)
-              (pass-on (stood x (stand (p .mode) bits (p .high)) (pos + (j - from))) top s o j st (omega arith) (omega (arith, g .low)) a (sym q ∙ y)));
-          step = λ n z. never (sym n);
-        }
 
 -- of a record that is not read the step does not matter
 unread-by : (x : Lex) (n b : ℕ) (a z : Step) (h : Bool) (f : Fault) → x .head ≡ h → x .fault ≡ f → cond h false (isSound f) ≡ false → advanced x n b a ≡ advanced x n b z
@@ -163,32 +119,42 @@ too-long y n b a z h f p = rw (h, f, le-ltb (y .pos) 16777216 p)
 module _ (x : Lex) (top : Top) (s : List ℕ) (from end : ℕ) (o : readsOn x ≡ true) (w : from ≤ length s)
     (d : end ≡ from + min (length s - from) (16777216 - x .pos)) where
   -- at the end of the piece, or where the record is too long
-  pub out-at-end : (p : Stand) (i : ℕ) (y : Lex) (st : Step) → RunsTo x top s from (stood x p (x .pos + (i - from))) i
-      → y ≡ stood x p (x .pos + (i - from)) → end ≤ i → PassedTo x top s from y i st
-  out-at-end p i y st r e l =
+  pub out-at-end : (m : Mode) (bits high i : ℕ) (y : Passed) (st : Step) → RunsTo x top s from (reached x m bits high from i) i → end ≤ i
+      → y ≡ passedAt x m bits high from i st → PassedTo x top s from (y .lex) (y .at) (y .step)
+  out-at-end m bits high i y st r l e =
       let told = reads-told x o in
       rw e
       record {
         runs = r;
-        step = λ n h.
-            too-long (stood x p (x .pos + (i - from))) n (getD s i 0) st (stepOf (p .mode) top (getD s i 0)) (told .0) (told .1) (omega (arith, r .low));
+        step = λ n h. too-long (reached x m bits high from i) n (getD s i 0) st (stepOf m top (getD s i 0)) (told .0) (told .1) (omega (arith, r .low));
       }
 
-  -- after some bytes more
-  module _ (p q : Stand) (i j : ℕ) (st : Step) (on : Bool) (r : RunsTo x top s from (stood x p (x .pos + (i - from))) i) (g : LeapsTo p top s i end q j st on)
-      (h : i < end) where
-    pub leapt : RunsTo x top s from (stood x q (x .pos + (j - from))) j
-    leapt =
+  -- from i the bytes up to j leave the mode as it is; more: the bits after them
+  module _ (m : Mode) (bits high i j more : ℕ) (r : RunsTo x top s from (reached x m bits high from i) i) (h : i < end) (g : StayedTo m s i end j)
+      (e : more ≡ bitsOver (ltb i j) m bits) where
+    stayed : RunsTo x top s from (reached x m more high from j) j
+    unfolding readsOn
+    stayed =
         let z : x .pos + (j - from) ≡ x .pos + (i - from) + (j - i) = omega (arith, r .low, g .low) in
-        runs-on r (rw z (g .runs x (x .pos + (i - from)) o (rest-fits (length s) from (x .pos) end i d (r .low) h)))
+        let l : end ≤ length s = omega arith in
+        runs-on r
+        (rw (e, z) (stay-on (reached x m bits high from i) top s o i end j g l (rest-fits (length s) from (x .pos) end i d (r .low) h)))
 
-    pub leap-less : on ≡ true → end - j < end - i
-    leap-less e = omega (arith, g .further e, g .high)
+    pub out-stayed : (y : Passed) (st : Step) → j ≡ end → y ≡ passedAt x m more high from j st → PassedTo x top s from (y .lex) (y .at) (y .step)
+    out-stayed y st q f = out-at-end m more high j y st stayed (omega arith) f
 
-    -- at a byte that is not passed over
-    pub out-leapt : (y : Lex) → on ≡ false → y ≡ stood x q (x .pos + (j - from)) → PassedTo x top s from y j st
-    out-leapt y n e = go (decLt j end)
-      where
-        go : Dec (j < end) → PassedTo x top s from y j st
-        go (yes l) = rw e record { runs = leapt; step = λ k u. ap (λ (z : Step). advanced (stood x q (x .pos + (j - from))) k (getD s j 0) z) (g .step n l) }
-        go (no l) = out-at-end q j y st leapt e (omega arith)
+    -- of the byte there the lexer makes the step st
+    module _ (st : Step) (a : st ≡ stepOf m top (getD s j 0)) where
+      -- which is not passed over
+      pub out-at-byte : (y : Passed) → y ≡ passedAt x m more high from j st → PassedTo x top s from (y .lex) (y .at) (y .step)
+      out-at-byte y f = rw f record { runs = stayed; step = λ n l. ap (λ (z : Step). advanced (reached x m more high from j) n (getD s j 0) z) a }
+
+      -- which is passed over
+      pub passed-on : (later next : ℕ) (v : Bool) → (j ≡ end → ⊥) → v ≡ passes (st .act) (st .ends) (getD s j 0) → v ≡ true → next ≡ highIn m more high (getD s j 0)
+          → later ≡ bitsIn m more (getD s j 0) → RunsTo x top s from (reached x (st .mode) later next from (j + 1)) (j + 1)
+      unfolding readsOn
+      passed-on later next v n q y f c =
+          let less : j < end = omega (arith, g .high) in
+          let z : x .pos + (j + 1 - from) ≡ x .pos + (j - from) + 1 = omega (arith, r .low, g .low) in
+          let short : x .pos + (j - from) < 16777216 = byte-fits (length s) from (x .pos) end j d (stayed .low) less in
+          runs-on stayed (rw (z, f, c) (pass-on (reached x m more high from j) top s o j st (omega arith) short a (sym q ∙ y)))

@@ -28,7 +28,7 @@ use Rattle.progress.specs.declared.Fault.the-variants as F
 use Rattle.progress.specs.declared.Lex.{Lex}
 use Rattle.progress.specs.Lex.{bitsIn, advanced}
 use Rattle.progress.specs.Memory.{mem, topAt, runMem}
-use Rattle.pass.specs.declared.Stand.{Stand}
+use Rattle.pass.specs.declared.Passed.{Passed}
 
 -- ---- bytes that leave the mode as it is
 
@@ -157,6 +157,13 @@ abbrev pub placed : Lex → Mode → ℕ → ℕ → ℕ → ℕ → Lex
 placed x m bits high pos len =
     record { mode = m; fault = x .fault; head = x .head; level = x .level; pos = pos; place = x .place; bits = bits; high = high; len = len }
 
+-- the record x, whose next byte stood at one place of a piece, at another place of it
+abbrev pub reached : Lex → Mode → ℕ → ℕ → ℕ → ℕ → Lex
+reached x m bits high from at = placed x m bits high (x .pos + (at - from)) (x .len)
+
+abbrev pub passedAt : Lex → Mode → ℕ → ℕ → ℕ → ℕ → Step → Passed
+passedAt x m bits high from at st = record { lex = reached x m bits high from at; at = at; step = st }
+
 -- ---- passing over
 
 -- the bytes of s from one place to another make y of the record x, whatever else is remembered; the innermost open value is of kind top
@@ -166,19 +173,6 @@ pub record RunsTo (x : Lex) (top : Top) (s : List ℕ) (from : ℕ) (y : Lex) (a
   pub level : y .level ≡ x .level
   pub same : (t : Table) (n : ℕ) (root : Bool) (key w : List ℕ) → topAt w (x .level) ≡ top
       → runMem t n (mem y root key w) at (drop at s) ≡ runMem t n (mem x root key w) from (drop from s)
-
--- the record x with its reader at p, after pos bytes
-abbrev pub stood : Lex → Stand → ℕ → Lex
-stood x p pos = placed x (p .mode) (p .bits) (p .high) pos (x .len)
-
--- a reader that stands at p and passes over the bytes of s from one place to another, the latter not past an end, stands at `to`; on tells whether
--- more may be passed over, and where not, st is the step of the byte there, if that is before the end
-pub record LeapsTo (p : Stand) (top : Top) (s : List ℕ) (from end : ℕ) (to : Stand) (at : ℕ) (st : Step) (on : Bool) : Type 0 where
-  pub low : from ≤ at
-  pub high : at ≤ end
-  pub further : on ≡ true → from < at
-  pub runs : (x : Lex) (pos : ℕ) → readsOn x ≡ true → pos + (end - from) ≤ 16777216 → RunsTo (stood x p pos) top s from (stood x to (pos + (at - from))) at
-  pub step : on ≡ false → at < end → st ≡ stepOf (to .mode) top (getD s at 0)
 
 -- and of the byte there the limits make with the step st what they make of its own
 pub record PassedTo (x : Lex) (top : Top) (s : List ℕ) (from : ℕ) (y : Lex) (at : ℕ) (st : Step) : Type 0 where

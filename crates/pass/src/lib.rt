@@ -7,7 +7,7 @@ ghost use lib.ListN.{length, getD};
 ghost use Rattle.json.specs.Lexer.{stepOf};
 ghost use Rattle.json.specs.Numbers.{isDigit};
 ghost use Rattle.lexer.specs.Table.{classTable, classAt};
-ghost use Rattle.pass.specs.Pass.{plainClass, awaitsChar, inDigits, staysIn, StayedTo, bitsOver, isQuiet, passes, readsOn, keepsChars, placed, LeapsTo, PassedTo, PlainAt, KeptTo};
+ghost use Rattle.pass.specs.Pass.{plainClass, awaitsChar, inDigits, staysIn, StayedTo, bitsOver, isQuiet, passes, readsOn, keepsChars, placed, passedAt, PassedTo, PlainAt, KeptTo};
 use json::class::Class;
 use json::lexer::Act;
 use json::lexer::Mode;
@@ -20,22 +20,6 @@ use progress::Fault;
 use progress::Lex;
 use progress::key;
 use progress::register;
-
-// Where the reader stands in the record: the mode, and the registers of an open character.
-pub struct Stand {
-    pub mode: Mode,
-    pub bits: u32,
-    pub high: u32,
-}
-
-// Some bytes passed over: where the reader stands after them, where that is in the piece, the step that the lexer makes of the byte there, and
-// whether more may be passed over.
-struct Leap {
-    to: Stand,
-    at: usize,
-    step: Step,
-    on: bool,
-}
 
 // After the bytes passed over: what is known of the record, where that is in the piece, and the step that the lexer makes of the byte there.
 pub struct Passed {
@@ -247,11 +231,10 @@ fn room(len: usize, from: usize, pos: u32) -> usize
 }
 
 // The record x at another mode, with other registers, and count bytes further.
-fn place_at(x: Lex, p: Stand, count: usize, len: u8) -> Lex
+fn place_at(x: Lex, m: Mode, bits: u32, high: u32, count: usize, len: u8) -> Lex
     requires { ⌜ x .pos + count ≤ 4294967295 ⌝ }
-    ensures { λ r. ⌜ r ≡ placed x (p .mode) (p .bits) (p .high) (x .pos + count) len ⌝ }
+    ensures { λ r. ⌜ r ≡ placed x m bits high (x .pos + count) len ⌝ }
 {
-    let m = p.mode;
     let f = x.fault;
     Lex {
         mode: m,
@@ -260,9 +243,21 @@ fn place_at(x: Lex, p: Stand, count: usize, len: u8) -> Lex
         level: x.level,
         pos: x.pos + (count as u32),
         place: x.place,
-        bits: p.bits,
-        high: p.high,
+        bits: bits,
+        high: high,
         len: len,
+    }
+}
+
+// The record x at another mode, with other registers, where the bytes of the piece from one place to another were passed over.
+fn passed_at(x: Lex, m: Mode, bits: u32, high: u32, from: usize, at: usize, st: Step) -> Passed
+    requires { ⌜ (from ≤ at) × (x .pos + (at - from) ≤ 4294967295) ⌝ }
+    ensures { λ r. ⌜ r ≡ passedAt x m bits high from at st ⌝ }
+{
+    Passed {
+        lex: place_at(x, m, bits, high, at - from, x.len),
+        at: at,
+        step: st,
     }
 }
 
@@ -283,62 +278,6 @@ fn step_at<'a>(classes: &'a [u8; 256], m: Mode, top: Top, s: &'a [u8], at: usize
     lexer::step::step(classes, m, top, s[at])
 }
 
-// Passes over the bytes that leave the mode as it is, and over the byte after them where its act is quiet.
-fn pass_some<'a>(
-    classes: &'a [u8; 256],
-    p: Stand,
-    top: Top,
-    s: &'a [u8],
-    from: usize,
-    end: usize,
-) -> Leap
-    requires { ⌜ (now classes ≡ classTable) × (from ≤ end) × (end ≤ length (now s)) ⌝ }
-    ensures { λ r. ⌜ LeapsTo p top (now (s .entry)) from end (r .to) (r .at) (r .step) (r .on) ⌝ }
-{
-    let m = p.mode;
-    let j = stay_end(classes, m, s, from, end);
-    let bits = bits_over(from < j, m, p.bits);
-    if j == end {
-        return Leap {
-            to: Stand {
-                mode: m,
-                bits: bits,
-                high: p.high,
-            },
-            at: j,
-            step: no_step(),
-            on: false,
-        };
-    }
-    let b = s[j];
-    let st = step_at(classes, m, top, s, j);
-    let a = st.act;
-    if passes(a, st.ends, b) {
-        let next = st.mode;
-        let high = register::high_in(m, bits, p.high, b);
-        return Leap {
-            to: Stand {
-                mode: next,
-                bits: register::bits_in(m, bits, b),
-                high: high,
-            },
-            at: j + 1,
-            step: st,
-            on: true,
-        };
-    }
-    Leap {
-        to: Stand {
-            mode: m,
-            bits: bits,
-            high: p.high,
-        },
-        at: j,
-        step: st,
-        on: false,
-    }
-}
-
 // Passes over bytes up to a place where the record is not too long yet.
 fn pass_to<'a>(
     classes: &'a [u8; 256],
@@ -351,32 +290,29 @@ fn pass_to<'a>(
     requires { ⌜ (now classes ≡ classTable) × (readsOn x ≡ true) × (from ≤ length (now s)) × (end ≡ from + min (length (now s) - from) (16777216 - x .pos)) ⌝ }
     ensures { λ r. ⌜ PassedTo x top (now (s .entry)) from (r .lex) (r .at) (r .step) ⌝ }
 {
-    let m = x.mode;
-    let mut p = Stand {
-        mode: m,
-        bits: x.bits,
-        high: x.high,
-    };
+    let mut m = x.mode;
+    let mut bits = x.bits;
+    let mut high = x.high;
     let mut i = from;
     while i < end {
-        let l = pass_some(classes, p, top, s, i, end);
-        let to = l.to;
-        p = to;
-        i = l.at;
-        if l.on {} else {
-            let st = l.step;
-            return Passed {
-                lex: place_at(x, p, i - from, x.len),
-                at: i,
-                step: st,
-            };
+        let j = stay_end(classes, m, s, i, end);
+        bits = bits_over(i < j, m, bits);
+        if j == end {
+            return passed_at(x, m, bits, high, from, j, no_step());
         }
+        let b = s[j];
+        let st = step_at(classes, m, top, s, j);
+        let a = st.act;
+        if passes(a, st.ends, b) {} else {
+            return passed_at(x, m, bits, high, from, j, st);
+        }
+        high = register::high_in(m, bits, high, b);
+        bits = register::bits_in(m, bits, b);
+        let next = st.mode;
+        m = next;
+        i = j + 1;
     }
-    Passed {
-        lex: place_at(x, p, i - from, x.len),
-        at: i,
-        step: no_step(),
-    }
+    passed_at(x, m, bits, high, from, i, no_step())
 }
 
 // Passes over the bytes of a piece that only change where the reader stands in the record. Ruled out: a pass over the RS that ends a record,
@@ -448,13 +384,8 @@ fn keep_to<'a>(
         bits = 0;
         i += 1;
     }
-    let p = Stand {
-        mode: m,
-        bits: bits,
-        high: x.high,
-    };
     Kept {
-        lex: place_at(x, p, i - from, len),
+        lex: place_at(x, m, bits, x.high, i - from, len),
         at: i,
     }
 }

@@ -14,7 +14,7 @@ use Rattle.table.specs.Keys.{numberOf}
 use Rattle.book.specs.Entry.{obj, arr, sameForm, Entry, edge, end-state, withKey, keysFrom, keysOf, clash}
 use Rattle.book.specs.Text.{isEmpty, onto, between, split, isNumber, numberFrom, number}
 use Rattle.book.specs.Line.{isForm, formOf, isKey, keyOf, behindR, isPlain, isKind, kindIn, smallKind, formed, small, entryOf, sayFields, sayParts, sayLine}
-use Rattle.book.specs.Load.{ruleOf, formIn, sameEntry, changesForm, isEdge, edgeCount, tooMany, faultOf, readOn, readLines, names, readBook, firstLine, hasRule, dangles, clashes, firstClash, checkBook, checked, loads}
+use Rattle.book.specs.Load.{ruleOf, formIn, sameEntry, changesForm, isEdge, edgeCount, tooMany, faultOf, readOn, readLines, namesLine, readBook, firstLine, hasRule, dangles, clashes, firstClash, checkBook, checked, loads}
 
 -- a book, and the number and line of its answer
 pub record Case : Type 0 where
@@ -35,48 +35,48 @@ cases =
     ∷ case 2 1 (ascii "rule form state key value next")  -- 2: the names line without LF
     ∷ case 2 1 (ascii "rule form state key value next\r\n")  -- 2: the names line with CR
     ∷ case 2 1 (ascii "rule form state key value nexx\n")  -- 2: another name
-    ∷ case 0 0 (names ++ linesOfB)  -- book B
-    ∷ case 9 2 (names ++ (ascii "0 obj 0 a int 0\n"))  -- 9: the edge of the example, whose next is its own state
-    ∷ case 3 2 (names ++ (ascii "0 obj 0 a int\n"))  -- 3: five fields
-    ∷ case 3 2 (names ++ (ascii "0 obj 0 a int 1 1\n"))  -- 3: seven fields
-    ∷ case 3 2 (names ++ (ascii "0 obj 0  a int 1\n"))  -- 3: two spaces
-    ∷ case 3 2 (names ++ (ascii "0 obj 0 a int 1\r\n"))  -- 3: CR before LF
-    ∷ case 3 3 (names ++ (ascii "0 obj 0 a int 1\n\n"))  -- 3: an empty line behind a good one
-    ∷ case 3 3 (names ++ (ascii "0 obj 0 a int 1\n0 obj 1 - end -"))  -- 3: the last LF is missing
-    ∷ case 3 2 (names ++ (ascii "00 obj 0 a int 1\n"))  -- 3: a leading zero
-    ∷ case 3 2 (names ++ (ascii "0 obj 0 a r01 1\n"))  -- 3: a leading zero behind r
-    ∷ case 3 2 (names ++ (ascii "0 obj 0 a r 1\n"))  -- 3: r alone
-    ∷ case 3 2 (names ++ (ascii "0 set 0 a int 1\n"))  -- 3: a form that is none
-    ∷ case 3 2 (names ++ (ascii "0 obj 0 a bool 1\n"))  -- 3: a value that is none
-    ∷ case 3 2 (names ++ (ascii "0 obj 0 kkkkkkkkkkkkkkkkkkkkkkkkkkkkkkkkk int 1\n"))  -- 3: a key of 33 bytes
-    ∷ case 0 0 (names ++ (ascii "0 obj 0 kkkkkkkkkkkkkkkkkkkkkkkkkkkkkkkk int 1\n"))  -- a key of 32 bytes
-    ∷ case 3 2 (names ++ (ascii "0 obj 0 - int 1\n"))  -- 3: an obj edge without a key
-    ∷ case 3 2 (names ++ (ascii "0 arr 0 a int 1\n"))  -- 3: an arr edge with a key
-    ∷ case 3 2 (names ++ (ascii "0 obj 0 - end 1\n"))  -- 3: an end line with a next
-    ∷ case 3 2 (names ++ (ascii "0 obj 0 a int -\n"))  -- 3: an edge without a next
-    ∷ case 3 2 (names ++ (ascii "32 obj 0 a int 01\n"))  -- 3 before 4 on one line
-    ∷ case 4 3 (names ++ (ascii "0 obj 0 a int 1\n32 obj 0 - end -\n"))  -- 4: rule 32
-    ∷ case 0 0 (names ++ (ascii "0 obj 0 a r31 1\n31 obj 0 - end -\n"))  -- rule 31
-    ∷ case 4 2 (names ++ (ascii "0 obj 16 - end -\n"))  -- 4: state 16
-    ∷ case 4 2 (names ++ (ascii "0 obj 0 a int 16\n"))  -- 4: next 16
-    ∷ case 0 0 (names ++ (ascii "0 obj 14 a int 15\n0 obj 15 - end -\n"))  -- state and next 15
-    ∷ case 4 2 (names ++ (ascii "0 obj 0 a r32 1\n"))  -- 4: a reference to rule 32
-    ∷ case 4 2 (names ++ (ascii "100000000000000000000000000000000000000000 obj 0 a int 1\n"))  -- 4: a number of many digits
-    ∷ case 4 3 (names ++ (ascii "0 obj 0 a int 1\n0 arr 16 - end -\n"))  -- 4 before 6
-    ∷ case 6 3 (names ++ (ascii "0 obj 0 a int 1\n0 arr 0 - end -\n"))  -- 6: the form of rule 0 changes
-    ∷ case 7 4 (names ++ (ascii "0 obj 0 a int 1\n0 obj 1 - end -\n0 obj 0 a int 1\n"))  -- 7: a line repeated, not directly
-    ∷ case 7 4 (names ++ (ascii "0 arr 0 - end -\n0 arr 0 - int 0\n0 arr 0 - end -\n"))  -- 7: an end line repeated
-    ∷ case 0 0 (names ++ (ascii "0 obj 0 a int 1\n0 obj 0 a int 2\n"))  -- lines that differ in next alone
-    ∷ case 8 0 (names)  -- 8: no lines
-    ∷ case 8 0 (names ++ (ascii "1 obj 0 - end -\n"))  -- 8: rule 0 has none
-    ∷ case 8 3 (names ++ (ascii "0 obj 0 - end -\n0 obj 0 a r2 1\n0 obj 0 b r3 1\n"))  -- 8: a reference without lines, on the first such line
-    ∷ case 8 3 (names ++ (ascii "0 obj 0 a int 0\n0 obj 0 b r3 1\n"))  -- 8 before 9
-    ∷ case 9 5 (names ++ (ascii "0 obj 0 a int 1\n0 obj 0 b int 2\n0 obj 1 b int 2\n0 obj 2 b int 3\n0 obj 2 a int 3\n"))  -- 9: the later line of a pair
-    ∷ case 9 3 (names ++ (ascii "0 obj 0 a int 1\n0 obj 1 a int 2\n"))  -- 9: an equal key
-    ∷ case 0 0 (names ++ (ascii "0 obj 0 a int 1\n0 obj 1 b int 2\n"))  -- keys that ascend
-    ∷ case 0 0 (names ++ (ascii "0 obj 0 b int 1\n1 obj 1 a int 2\n"))  -- keys of another rule do not matter
-    ∷ case 0 0 (names ++ (ascii "0 arr 0 - int 0\n"))  -- an arr rule has no keys to ascend
-    ∷ case 9 4 (names ++ (ascii "0 obj 0 a int 9\n0 obj 1 b int 2\n0 obj 9 c int 1\n"))  -- 9: the pair stands in the other order
+    ∷ case 0 0 (namesLine ++ linesOfB)  -- book B
+    ∷ case 9 2 (namesLine ++ (ascii "0 obj 0 a int 0\n"))  -- 9: the edge of the example, whose next is its own state
+    ∷ case 3 2 (namesLine ++ (ascii "0 obj 0 a int\n"))  -- 3: five fields
+    ∷ case 3 2 (namesLine ++ (ascii "0 obj 0 a int 1 1\n"))  -- 3: seven fields
+    ∷ case 3 2 (namesLine ++ (ascii "0 obj 0  a int 1\n"))  -- 3: two spaces
+    ∷ case 3 2 (namesLine ++ (ascii "0 obj 0 a int 1\r\n"))  -- 3: CR before LF
+    ∷ case 3 3 (namesLine ++ (ascii "0 obj 0 a int 1\n\n"))  -- 3: an empty line behind a good one
+    ∷ case 3 3 (namesLine ++ (ascii "0 obj 0 a int 1\n0 obj 1 - end -"))  -- 3: the last LF is missing
+    ∷ case 3 2 (namesLine ++ (ascii "00 obj 0 a int 1\n"))  -- 3: a leading zero
+    ∷ case 3 2 (namesLine ++ (ascii "0 obj 0 a r01 1\n"))  -- 3: a leading zero behind r
+    ∷ case 3 2 (namesLine ++ (ascii "0 obj 0 a r 1\n"))  -- 3: r alone
+    ∷ case 3 2 (namesLine ++ (ascii "0 set 0 a int 1\n"))  -- 3: a form that is none
+    ∷ case 3 2 (namesLine ++ (ascii "0 obj 0 a bool 1\n"))  -- 3: a value that is none
+    ∷ case 3 2 (namesLine ++ (ascii "0 obj 0 kkkkkkkkkkkkkkkkkkkkkkkkkkkkkkkkk int 1\n"))  -- 3: a key of 33 bytes
+    ∷ case 0 0 (namesLine ++ (ascii "0 obj 0 kkkkkkkkkkkkkkkkkkkkkkkkkkkkkkkk int 1\n"))  -- a key of 32 bytes
+    ∷ case 3 2 (namesLine ++ (ascii "0 obj 0 - int 1\n"))  -- 3: an obj edge without a key
+    ∷ case 3 2 (namesLine ++ (ascii "0 arr 0 a int 1\n"))  -- 3: an arr edge with a key
+    ∷ case 3 2 (namesLine ++ (ascii "0 obj 0 - end 1\n"))  -- 3: an end line with a next
+    ∷ case 3 2 (namesLine ++ (ascii "0 obj 0 a int -\n"))  -- 3: an edge without a next
+    ∷ case 3 2 (namesLine ++ (ascii "32 obj 0 a int 01\n"))  -- 3 before 4 on one line
+    ∷ case 4 3 (namesLine ++ (ascii "0 obj 0 a int 1\n32 obj 0 - end -\n"))  -- 4: rule 32
+    ∷ case 0 0 (namesLine ++ (ascii "0 obj 0 a r31 1\n31 obj 0 - end -\n"))  -- rule 31
+    ∷ case 4 2 (namesLine ++ (ascii "0 obj 16 - end -\n"))  -- 4: state 16
+    ∷ case 4 2 (namesLine ++ (ascii "0 obj 0 a int 16\n"))  -- 4: next 16
+    ∷ case 0 0 (namesLine ++ (ascii "0 obj 14 a int 15\n0 obj 15 - end -\n"))  -- state and next 15
+    ∷ case 4 2 (namesLine ++ (ascii "0 obj 0 a r32 1\n"))  -- 4: a reference to rule 32
+    ∷ case 4 2 (namesLine ++ (ascii "100000000000000000000000000000000000000000 obj 0 a int 1\n"))  -- 4: a number of many digits
+    ∷ case 4 3 (namesLine ++ (ascii "0 obj 0 a int 1\n0 arr 16 - end -\n"))  -- 4 before 6
+    ∷ case 6 3 (namesLine ++ (ascii "0 obj 0 a int 1\n0 arr 0 - end -\n"))  -- 6: the form of rule 0 changes
+    ∷ case 7 4 (namesLine ++ (ascii "0 obj 0 a int 1\n0 obj 1 - end -\n0 obj 0 a int 1\n"))  -- 7: a line repeated, not directly
+    ∷ case 7 4 (namesLine ++ (ascii "0 arr 0 - end -\n0 arr 0 - int 0\n0 arr 0 - end -\n"))  -- 7: an end line repeated
+    ∷ case 0 0 (namesLine ++ (ascii "0 obj 0 a int 1\n0 obj 0 a int 2\n"))  -- lines that differ in next alone
+    ∷ case 8 0 (namesLine)  -- 8: no lines
+    ∷ case 8 0 (namesLine ++ (ascii "1 obj 0 - end -\n"))  -- 8: rule 0 has none
+    ∷ case 8 3 (namesLine ++ (ascii "0 obj 0 - end -\n0 obj 0 a r2 1\n0 obj 0 b r3 1\n"))  -- 8: a reference without lines, on the first such line
+    ∷ case 8 3 (namesLine ++ (ascii "0 obj 0 a int 0\n0 obj 0 b r3 1\n"))  -- 8 before 9
+    ∷ case 9 5 (namesLine ++ (ascii "0 obj 0 a int 1\n0 obj 0 b int 2\n0 obj 1 b int 2\n0 obj 2 b int 3\n0 obj 2 a int 3\n"))  -- 9: the later line of a pair
+    ∷ case 9 3 (namesLine ++ (ascii "0 obj 0 a int 1\n0 obj 1 a int 2\n"))  -- 9: an equal key
+    ∷ case 0 0 (namesLine ++ (ascii "0 obj 0 a int 1\n0 obj 1 b int 2\n"))  -- keys that ascend
+    ∷ case 0 0 (namesLine ++ (ascii "0 obj 0 b int 1\n1 obj 1 a int 2\n"))  -- keys of another rule do not matter
+    ∷ case 0 0 (namesLine ++ (ascii "0 arr 0 - int 0\n"))  -- an arr rule has no keys to ascend
+    ∷ case 9 4 (namesLine ++ (ascii "0 obj 0 a int 9\n0 obj 1 b int 2\n0 obj 9 c int 1\n"))  -- 9: the pair stands in the other order
     ∷ []
 
 -- every case has its answer
@@ -106,7 +106,7 @@ abbrev pub name : List ℕ
 name = ascii "name"
 
 -- book B loads to its entries
-pub book-B-entries : loads (names ++ linesOfB) .entries
+pub book-B-entries : loads (namesLine ++ linesOfB) .entries
     ≡ edge 0 obj 0 corners (Rule 1) 1 ∷ edge 0 obj 1 name (Plain Str) 2 ∷ end-state 0 obj 2 ∷ edge 1 arr 0 [] (Rule 2) 0 ∷ end-state 1 arr 0
     ∷ edge 2 arr 0 [] (Plain Int) 1 ∷ edge 2 arr 1 [] (Plain Int) 2 ∷ end-state 2 arr 2 ∷ []
 unfolding same all any isEmpty onto split between isNumber numberFrom number isForm formOf isKey keyOf behindR isPlain isKind kindIn smallKind formed small entryOf sayFields sayParts sayLine ruleOf formIn sameForm sameEntry changesForm isEdge edgeCount tooMany faultOf readOn readLines readBook firstLine hasRule dangles clashes firstClash checkBook checked loads withKey keysFrom keysOf numberOf clash codeOf

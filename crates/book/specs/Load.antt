@@ -74,14 +74,14 @@ readLines es (l ∷ []) = cond (isEmpty l) (entries es) (refused 3 (length es + 
 readLines es (l ∷ (x ∷ ls)) = readOn es (length es + 2) (sayLine l) (λ e. readLines (es ++ (e ∷ [])) (x ∷ ls))
 
 -- the names line of the example, with its LF
-abbrev pub names : List ℕ
-names = ascii "rule form state key value next\n"
+abbrev pub namesLine : List ℕ
+namesLine = ascii "rule form state key value next\n"
 
 -- refusals 1 and 2, then the lines
 unfoldable pub readBook : List ℕ → Read
 readBook b =
     cond (isEmpty b || ltb 65536 (length b)) (refused 1 0)
-    (cond (same (take 31 b) names) (readLines [] (split 10 (drop 31 b))) (refused 2 1))
+    (cond (same (take 31 b) namesLine) (readLines [] (split 10 (drop 31 b))) (refused 2 1))
 
 -- ---- after all lines
 
@@ -110,16 +110,16 @@ firstClash ks n seen [] = 0
 firstClash ks n seen (e ∷ es) = cond (any (clashes ks e) (seen ++ (e ∷ []))) n (firstClash ks (suc n) (seen ++ (e ∷ [])) es)
 
 -- what load gives: number and line of a refusal, and no entries; or 0, 0 and the entries of the book
-pub record Answer : Type 0 where
+pub record PaperAnswer : Type 0 where
   pub number : ℕ
   pub line : ℕ
   pub entries : List Entry
 
-abbrev pub refuse : ℕ → ℕ → Answer
+abbrev pub refuse : ℕ → ℕ → PaperAnswer
 refuse k n = record { number = k; line = n; entries = [] }
 
 -- refusal 8 by the first line that refers to a rule without lines, or by line 0 where rule 0 has none; then refusal 9
-unfoldable pub checkBook : List Entry → Answer
+unfoldable pub checkBook : List Entry → PaperAnswer
 checkBook es =
     cond (eqb (firstLine (dangles es) 2 es) 0)
     (cond (hasRule es 0)
@@ -129,10 +129,10 @@ checkBook es =
     (refuse 8 0))
     (refuse 8 (firstLine (dangles es) 2 es))
 
-unfoldable pub checked : Read → Answer
+unfoldable pub checked : Read → PaperAnswer
 checked (refused k n) = refuse k n
 checked (entries es) = checkBook es
 
 -- load on paper
-unfoldable pub loads : List ℕ → Answer
+unfoldable pub loads : List ℕ → PaperAnswer
 loads b = checked (readBook b)

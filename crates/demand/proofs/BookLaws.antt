@@ -20,11 +20,11 @@ use Rattle.book.proofs.HoldLaws.{Each, FormKept, form-of-code}
 use Rattle.book.proofs.TruthLaws.{and-true, true-not-false}
 use Rattle.load.specs.Proper.{isArr, ProperEdge, Proper}
 use Rattle.load.specs.Step.{tableOf}
-use Rattle.load.proofs.KeptLaws.{Kept as Loading}
+use Rattle.load.proofs.KeptLaws.{Loading}
 use Rattle.load.proofs.LoadedLaws.{loads-kept, loads-apart}
 use Rattle.runs.specs.Runs.{_∈_}
 use Rattle.runs.specs.Sound.{Sound}
-use Rattle.meaning.specs.Shows.{EdgeLimits, Kept}
+use Rattle.meaning.specs.Shows.{EdgeLimits, Carries}
 use Rattle.follows.specs.Follows.{PlainKeys}
 use Rattle.demand.specs.Book.{Book}
 
@@ -84,7 +84,7 @@ module _ (es : List Entry) (k : Loading (tableOf es) es) where
       form-of-code (formIn a) (formIn b)
       (of-each (FormKept es) es (k .forms) i ∙ ap (ruleForm es) e ∙ sym (of-each (FormKept es) es (k .forms) j))
 
-  kept-of-loading : Kept (tableOf es) es
+  kept-of-loading : Carries (tableOf es) es
   kept-of-loading =
       record {
         holds = k .holds;
@@ -109,7 +109,7 @@ module _ {t : Table} {es : List Entry} (book : Book t es) where
   loading = rw (← (book .entries)) (loads-kept (book .bytes))
 
   -- its table keeps its entries
-  pub kept-of-book : Kept t es
+  pub kept-of-book : Carries t es
   kept-of-book = rw (sym (book .table) ∙ book .gave .table ∙ ap tableOf (book .entries)) (kept-of-loading es loading)
 
   pub plain-of-book : PlainKeys es

@@ -8,7 +8,7 @@ use lib.Dec.{T, eqb, ltb}
 use lib.ListN.{length}
 use Rattle.laws.proofs.TestLaws.{cond-elim}
 use Rattle.table.specs.Table.{Table}
-use Rattle.progress.specs.declared.Lex.{Lex}
+use Rattle.progress.specs.declared.Progress.{Progress}
 use Rattle.progress.specs.Memory.{Mem, Ran, endsRecord, runMem, stepMem}
 use Rattle.follows.proofs.MemoryLaws.{length-stepMem}
 use Rattle.reader.specs.declared.Reader.{Reader}
@@ -38,7 +38,7 @@ count-of-run : (t : Table) (n : ℕ) (m : Mem) (i : ℕ) (s : List ℕ) → runM
 unfolding runMem
 count-of-run t n m i [] = omega arith
 count-of-run t n m i (b ∷ s) =
-    cond-elim (λ (e : Ran). e .count ≤ i + suc (length s)) (endsRecord (m .lex) b) (λ _. omega arith)
+    cond-elim (λ (e : Ran). e .count ≤ i + suc (length s)) (endsRecord (m .progress) b) (λ _. omega arith)
     (λ _. omega (arith, count-of-run t n (stepMem t n m b) (i + 1) s))
 
 pub count-of-feed : (r : Reader) (t : Table) (w s : List ℕ) → feedOf r t w s .count ≤ length s
@@ -52,13 +52,13 @@ some-of-run : (t : Table) (n : ℕ) (m : Mem) (i : ℕ) (s : List ℕ) → i ≤
 unfolding runMem
 some-of-run t n m i [] = omega arith
 some-of-run t n m i (b ∷ s) =
-    cond-elim (λ (e : Ran). i ≤ e .count) (endsRecord (m .lex) b) (λ _. omega arith) (λ _. omega (arith, some-of-run t n (stepMem t n m b) (i + 1) s))
+    cond-elim (λ (e : Ran). i ≤ e .count) (endsRecord (m .progress) b) (λ _. omega arith) (λ _. omega (arith, some-of-run t n (stepMem t n m b) (i + 1) s))
 
 first-of-run : (t : Table) (n : ℕ) (m : Mem) (s : List ℕ) → 0 < length s → 0 < runMem t n m 0 s .count
 unfolding runMem
 first-of-run t n m [] h = omega (arith, h)
 first-of-run t n m (b ∷ s) h =
-    cond-elim (λ (e : Ran). 0 < e .count) (endsRecord (m .lex) b) (λ _. omega arith) (λ _. omega (arith, some-of-run t n (stepMem t n m b) (0 + 1) s))
+    cond-elim (λ (e : Ran). 0 < e .count) (endsRecord (m .progress) b) (λ _. omega arith) (λ _. omega (arith, some-of-run t n (stepMem t n m b) (0 + 1) s))
 
 -- an answer that is no refusal
 abbrev Served : Answer → Type 0
@@ -80,10 +80,10 @@ ended-of-run : (t : Table) (n : ℕ) (m : Mem) (i : ℕ) (s : List ℕ) → T (r
 unfolding runMem
 ended-of-run t n m i [] = λ h. absurd h
 ended-of-run t n m i (b ∷ s) =
-    cond-elim (λ (e : Ran). T (e .ended) → i + 1 ≤ e .count) (endsRecord (m .lex) b) (λ _ _. omega arith)
+    cond-elim (λ (e : Ran). T (e .ended) → i + 1 ≤ e .count) (endsRecord (m .progress) b) (λ _ _. omega arith)
     (λ _ h. omega (arith, ended-of-run t n (stepMem t n m b) (i + 1) s h))
 
-none-ends : (x : Lex) (b : ℕ) → x .pos ≡ 0 → endsRecord x b ≡ false
+none-ends : (x : Progress) (b : ℕ) → x .pos ≡ 0 → endsRecord x b ≡ false
 unfolding endsRecord
 none-ends x b z = rw z (go (eqb b 0x1E))
   where
@@ -91,12 +91,12 @@ none-ends x b z = rw z (go (eqb b 0x1E))
     go true = refl
     go false = refl
 
-first-ended : (t : Table) (n : ℕ) (m : Mem) (s : List ℕ) → m .lex .pos ≡ 0 → T (runMem t n m 0 s .ended) → 2 ≤ runMem t n m 0 s .count
+first-ended : (t : Table) (n : ℕ) (m : Mem) (s : List ℕ) → m .progress .pos ≡ 0 → T (runMem t n m 0 s .ended) → 2 ≤ runMem t n m 0 s .count
 unfolding runMem
 first-ended t n m [] z = λ h. absurd h
-first-ended t n m (b ∷ s) z = rw (none-ends (m .lex) b z) (λ h. omega (arith, ended-of-run t n (stepMem t n m b) (0 + 1) s h))
+first-ended t n m (b ∷ s) z = rw (none-ends (m .progress) b z) (λ h. omega (arith, ended-of-run t n (stepMem t n m b) (0 + 1) s h))
 
-pub weight-of-feed : (r : Reader) (t : Table) (w s : List ℕ) → r .lex .pos ≡ 0 → weight (feedOf r t w s .answer) ≤ feedOf r t w s .count
+pub weight-of-feed : (r : Reader) (t : Table) (w s : List ℕ) → r .progress .pos ≡ 0 → weight (feedOf r t w s .answer) ≤ feedOf r t w s .count
 weight-of-feed r t w s z =
     feed-elim r t w s (λ (o : Outcome). weight (o .answer) ≤ o .count) (λ _. omega arith) (λ h. first-ended t (r .frames) (memoryOf r w) s z h) (omega arith)
 
@@ -106,7 +106,7 @@ length-of-run : (t : Table) (n : ℕ) (m : Mem) (i : ℕ) (s : List ℕ) → len
 unfolding runMem
 length-of-run t n m i [] = refl
 length-of-run t n m i (b ∷ s) =
-    cond-elim (λ (e : Ran). length (e .memory .work) ≡ length (m .work)) (endsRecord (m .lex) b) (λ _. refl)
+    cond-elim (λ (e : Ran). length (e .memory .work) ≡ length (m .work)) (endsRecord (m .progress) b) (λ _. refl)
     (λ _. length-of-run t n (stepMem t n m b) (i + 1) s ∙ length-stepMem t n m b)
 
 pub length-of-feed : (r : Reader) (t : Table) (w s : List ℕ) → length (feedOf r t w s .work) ≡ length w

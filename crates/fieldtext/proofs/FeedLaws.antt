@@ -98,7 +98,7 @@ module _ (t : Table) (size : ℕ) (w₀ s o₀ : List ℕ) (r : Reader) where
     pub feed : ℕ
     pub enough : length s ≤ read + feed
     pub inside : read ≤ length s
-    pub fresh : read ≡ 0 → next .lex .pos ≡ 0
+    pub fresh : read ≡ 0 → next .progress .pos ≡ 0
     pub few : made ≤ read - 1
     pub reader : feeds feed t size next w read (drop read s) .reader ≡ whole .reader
     pub work : feeds feed t size next w read (drop read s) .work ≡ whole .work
@@ -106,7 +106,7 @@ module _ (t : Table) (size : ℕ) (w₀ s o₀ : List ℕ) (r : Reader) where
     pub out : withEntries o made (feeds feed t size next w read (drop read s) .entries) ≡ withEntries o₀ 0 (whole .entries)
     pub count : made + length (feeds feed t size next w read (drop read s) .entries) ≡ length (whole .entries)
 
-  pub going-start : r .lex .pos ≡ 0 → Going w₀ o₀ r 0 0
+  pub going-start : r .progress .pos ≡ 0 → Going w₀ o₀ r 0 0
   going-start start =
       record {
         feed = length s;

@@ -10,7 +10,7 @@ use borrow.Author.Tests.{eq-eqb, ne-eqb}
 use Rattle.table.specs.Table.{Table}
 use Rattle.book.specs.Load.{loads}
 use Rattle.load.specs.Step.{Loaded}
-use Rattle.load.specs.Answer as load
+use Rattle.load.specs.BookAnswer as load
 use Rattle.load.specs.Loads.{LoadsAs}
 use Rattle.reader.specs.declared.Answer.{Answer}
 use Rattle.reader.specs.declared.Answer.the-variants as Says
@@ -19,15 +19,15 @@ use Rattle.reader.specs.Refusals.{refusalNumber, startGate}
 use Rattle.reader.specs.Machine.{Start, startOf}
 use Rattle.reader.proofs.RefusalLaws.{through-elim}
 use Rattle.verdict.specs.declared.Verdict.{Verdict}
-use Rattle.verdict.specs.Verdict.{told}
+use Rattle.verdict.specs.Verdict.{shown}
 use Rattle.text.specs.Text.{wordNumber}
 use Rattle.fieldtext.specs.Entries.{verdictEntry, withEntry, withEntries}
-use Rattle.fieldtext.specs.Judge.{answerEntries, isQuiet, Judged, Called, streamed, judges, inOut, judgeTableOf, judgeOf}
+use Rattle.fieldtext.specs.Judge.{answerEntries, isQuiet, StreamEntries, Called, streamed, judges, inOut, judgeTableOf, judgeOf}
 
 -- ---- the entry of a verdict, and of an answer
 
-pub verdict-entry : (o : List ℕ) (i : ℕ) (v : Verdict) (read : ℕ) (now : List ℕ) (word number place : ℕ) → word ≡ wordNumber (told v .word)
-    → number ≡ told v .number → place ≡ told v .place → now ≡ withEntry o i (record { word = word; number = number; place = place; read = read })
+pub verdict-entry : (o : List ℕ) (i : ℕ) (v : Verdict) (read : ℕ) (now : List ℕ) (word number place : ℕ) → word ≡ wordNumber (shown v .word)
+    → number ≡ shown v .number → place ≡ shown v .place → now ≡ withEntry o i (record { word = word; number = number; place = place; read = read })
     → now ≡ withEntry o i (verdictEntry v read)
 verdict-entry o i v read now word number place e d f h =
     let same : record { word = word; number = number; place = place; read = read } ≡ verdictEntry v read = rw (e, d, f) in
@@ -51,10 +51,10 @@ module _ (o : List ℕ) (i : ℕ) (a : Answer) (read : ℕ) where
 
 -- ---- a start
 
-pub start-fresh : (t : Table) (w : List ℕ) (y : Start) → y ≡ startOf t w → y .reader .lex .pos ≡ 0
+pub start-fresh : (t : Table) (w : List ℕ) (y : Start) → y ≡ startOf t w → y .reader .progress .pos ≡ 0
 unfolding startOf
 start-fresh t w y e =
-    rw e (through-elim (λ (z : Start). z .reader .lex .pos ≡ 0) (startGate t (length w)) (λ _ _. refl) (λ _. refl))
+    rw e (through-elim (λ (z : Start). z .reader .progress .pos ≡ 0) (startGate t (length w)) (λ _ _. refl) (λ _. refl))
 
 module _ (t : Table) (s : List ℕ) (size : ℕ) (w o : List ℕ) (y : Start) (st : y ≡ startOf t w) (quiet : Bool) (q : quiet ≡ isQuiet (y .answer)) where
   pub judge-streamed : quiet ≡ true → (z : Called) → z ≡ inOut o (streamed t size (y .reader) w s) → z ≡ judgeTableOf t s size w o
@@ -71,14 +71,14 @@ module _ (t : Table) (s : List ℕ) (size : ℕ) (w o : List ℕ) (y : Start) (s
 -- ---- the book
 
 module _ (b : List ℕ) (x : Loaded) (l : LoadsAs b x) where
-  pub number-of-book : (n : ℕ) → n ≡ load.told (x .answer) .number → n ≡ loads b .number
-  number-of-book n e = e ∙ ap (λ (y : load.Told). y .number) (l .answer)
+  pub number-of-book : (n : ℕ) → n ≡ load.numbered (x .answer) .number → n ≡ loads b .number
+  number-of-book n e = e ∙ ap (λ (y : load.Numbered). y .number) (l .answer)
 
-  pub line-of-book : (n : ℕ) → n ≡ load.told (x .answer) .line → n ≡ loads b .line
-  line-of-book n e = e ∙ ap (λ (y : load.Told). y .line) (l .answer)
+  pub line-of-book : (n : ℕ) → n ≡ load.numbered (x .answer) .line → n ≡ loads b .line
+  line-of-book n e = e ∙ ap (λ (y : load.Numbered). y .line) (l .answer)
 
-  module _ (s : List ℕ) (size : ℕ) (w o : List ℕ) (number : ℕ) (n : number ≡ load.told (x .answer) .number) where
-    pub judge-refused : (number ≡ 0 → ⊥) → (line : ℕ) → line ≡ load.told (x .answer) .line → (after : List ℕ)
+  module _ (s : List ℕ) (size : ℕ) (w o : List ℕ) (number : ℕ) (n : number ≡ load.numbered (x .answer) .number) where
+    pub judge-refused : (number ≡ 0 → ⊥) → (line : ℕ) → line ≡ load.numbered (x .answer) .line → (after : List ℕ)
         → after ≡ withEntry o 0 (record { word = 2; number = number; place = line; read = 0 })
         → record { work = w; out = after; made = 1 } ≡ judgeOf b s size w o
     unfolding judgeOf judges withEntries

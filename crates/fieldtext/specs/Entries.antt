@@ -6,7 +6,7 @@ use lib.Dec.{ltb}
 use lib.ListN.{length}
 use lib.Seq.{sets}
 use Rattle.verdict.specs.declared.Verdict.{Verdict}
-use Rattle.verdict.specs.Verdict.{Told, told}
+use Rattle.verdict.specs.Verdict.{Shown, shown}
 use Rattle.text.specs.Text.{wordNumber}
 
 -- a verdict's fields, or a refusal's, and the bytes of the stream read by then
@@ -16,11 +16,11 @@ pub record Entry : Type 0 where
   pub place : ℕ
   pub read : ℕ
 
-abbrev pub entryOf : Told → ℕ → Entry
+abbrev pub entryOf : Shown → ℕ → Entry
 entryOf x read = record { word = wordNumber (x .word); number = x .number; place = x .place; read = read }
 
 abbrev pub verdictEntry : Verdict → ℕ → Entry
-verdictEntry v read = entryOf (told v) read
+verdictEntry v read = entryOf (shown v) read
 
 -- a refused book with its line, or a refused call with place 0
 abbrev pub refusalEntry : ℕ → ℕ → ℕ → Entry

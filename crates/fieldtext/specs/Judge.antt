@@ -82,25 +82,25 @@ pub record Feeds (f : Fed) (o : List ℕ) (reader : Reader) (work : List ℕ) (r
 -- ---- a stream, and a book
 
 -- the work buffer and the entries behind the close
-pub record Judged : Type 0 where
+pub record StreamEntries : Type 0 where
   pub work : List ℕ
   pub entries : List Entry
 
 -- a close, which says why where a feed was refused
-abbrev pub closes : Table → Fed → Judged
+abbrev pub closes : Table → Fed → StreamEntries
 closes t f = record { work = f .work; entries = f .entries ++ answerEntries (closeOf (f .reader) t (f .work) .answer) (f .read) }
 
 -- every byte of the stream takes at most one feed
-unfoldable pub streamed : Table → ℕ → Reader → List ℕ → List ℕ → Judged
+unfoldable pub streamed : Table → ℕ → Reader → List ℕ → List ℕ → StreamEntries
 streamed t size r w s = closes t (feeds (length s) t size r w 0 s)
 
 -- a start; where it is refused, only its entry
-abbrev pub started : Table → ℕ → List ℕ → List ℕ → Judged
+abbrev pub started : Table → ℕ → List ℕ → List ℕ → StreamEntries
 started t size w s =
     cond (isQuiet (startOf t w .answer)) (streamed t size (startOf t w .reader) w s)
     (record { work = w; entries = answerEntries (startOf t w .answer) 0 })
 
-unfoldable pub judges : List ℕ → ℕ → List ℕ → List ℕ → Judged
+unfoldable pub judges : List ℕ → ℕ → List ℕ → List ℕ → StreamEntries
 judges b size w s =
     cond (eqb (loads b .number) 0) (started (tableOf (loads b .entries)) size w s)
     (record { work = w; entries = refusalEntry (loads b .number) (loads b .line) 0 ∷ [] })
@@ -113,7 +113,7 @@ pub record Called : Type 0 where
   pub made : ℕ
 
 -- entries from the first place of the output on
-abbrev pub inOut : List ℕ → Judged → Called
+abbrev pub inOut : List ℕ → StreamEntries → Called
 inOut o x = record { work = x .work; out = withEntries o 0 (x .entries); made = length (x .entries) }
 
 -- a call with a table that is lent

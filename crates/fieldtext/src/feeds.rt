@@ -115,7 +115,7 @@ fn feed_all<'a>(
     work: &mut [u8],
     out: &mut [u8],
 ) -> Fed
-    requires { ⌜ r .lex .pos ≡ 0 ⌝ }
+    requires { ⌜ r .progress .pos ≡ 0 ⌝ }
     ensures { λ x. ⌜ Feeds (Judge·feeds (length (now (stream .entry))) (tableIn (now (table .entry))) size r (now (work .entry)) 0 (now (stream .entry))) (now (out .entry)) (x .reader) (now (work .exit)) (x .read) (now (out .exit)) (x .made) ⌝ }
     ensures { λ x. ⌜ x .made < 18446744073709551615 ⌝ }
 {
@@ -143,7 +143,7 @@ pub fn feed_close<'a>(
     work: &mut [u8],
     out: &mut [u8],
 ) -> usize
-    requires { ⌜ r .lex .pos ≡ 0 ⌝ }
+    requires { ⌜ r .progress .pos ≡ 0 ⌝ }
     ensures { λ x. ⌜ record { work = now (work .exit); out = now (out .exit); made = x } ≡ inOut (now (out .entry)) (streamed (tableIn (now (table .entry))) size r (now (work .entry)) (now (stream .entry))) ⌝ }
 {
     let f = feed_all(r, table, stream, size, work, out);

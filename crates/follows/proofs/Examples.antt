@@ -10,9 +10,9 @@ use Rattle.laws.proofs.ListLaws.{T-of-all}
 use Rattle.table.specs.Table.{Table}
 use Rattle.book.specs.Entry.{withKey, keysFrom, keysOf}
 use Rattle.runs.specs.Examples.{bookB}
-use Rattle.meaning.specs.Shows.{Kept}
+use Rattle.meaning.specs.Shows.{Carries}
 use Rattle.verdict.specs.Track.{track, trackStart, trackEnd}
-use Rattle.progress.specs.Lex.{judged}
+use Rattle.progress.specs.Progress.{judged}
 use Rattle.progress.specs.Fresh.{freshMem}
 use Rattle.follows.specs.Follows.{PlainKeys, NoRS, readPart}
 use Rattle.follows.proofs.PartLaws.{judged-part}
@@ -25,7 +25,7 @@ plain-b = record {
 }
 
 -- crate meaning has such a table
-pub judged-b : {t : Table} → Kept t bookB → (p : List ℕ) → NoRS p
-    → judged (readPart t 64 (freshMem false (replicate 6144 0)) p .lex) (readPart t 64 (freshMem false (replicate 6144 0)) p .root)
+pub judged-b : {t : Table} → Carries t bookB → (p : List ℕ) → NoRS p
+    → judged (readPart t 64 (freshMem false (replicate 6144 0)) p .progress) (readPart t 64 (freshMem false (replicate 6144 0)) p .root)
     ≡ trackEnd bookB (track bookB 64 (trackStart bookB) p)
 judged-b kept p h = judged-part kept plain-b 64 (lit≤ tt) (replicate 6144 0) p (lit≤ tt) h

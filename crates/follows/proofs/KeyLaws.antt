@@ -20,7 +20,7 @@ use Rattle.table.specs.Keys.{keyAt, tableKeys, numberOf, orUnknown, keyFound}
 use Rattle.book.specs.Entry.{Entry, keysOf}
 use Rattle.book.proofs.KeyLaws.{any-last, numberOf-new}
 use Rattle.runs.specs.Walk.{keyCount, numberIn}
-use Rattle.meaning.specs.Shows.{Kept, ShowsKey}
+use Rattle.meaning.specs.Shows.{Carries, ShowsKey}
 use Rattle.follows.specs.Follows.{PlainKeys, NoKey, KeyKept, all-kept, none-kept}
 
 -- ---- one more character
@@ -78,7 +78,7 @@ unknown-of-noKey {es} plain s h = go h (decLt (numberOf (keysOf es) s) (length (
     go (inr g) (yes l) = absurd (not-all-of-any (λ (c : ℕ). ltb c 128) s (plain .low (member-of-number (keysOf es) s l)) g)
     go g (no l) = omega arith
 
-module _ {t : Table} {es : List Entry} (kept : Kept t es) where
+module _ {t : Table} {es : List Entry} (kept : Carries t es) where
   -- a table has the keys of its book
   keys-eq : t .keys ≡ keyCount es
   unfolding keyCount tableKeys

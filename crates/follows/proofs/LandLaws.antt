@@ -6,8 +6,8 @@ use Prim.Native.Nat.{ℕ, suc, _*_, _-_, _≤_, _<_}
 use native.Mathlib.Omega.{arith}
 use lib.ListN.{length}
 use Rattle.json.specs.Machine.{Stack, bare, whole, in-array, in-object, depth, finish, close, Token, fault, at}
-use Rattle.json.specs.declared.lexer.Place.{Place}
-use Rattle.json.specs.declared.lexer.Place.the-variants as P
+use Rattle.json.specs.declared.lexer.Awaited.{Awaited}
+use Rattle.json.specs.declared.lexer.Awaited.the-variants as P
 use Rattle.json.specs.declared.lexer.Mode.{Mode}
 use Rattle.json.specs.declared.lexer.Mode.the-variants as M
 use Rattle.json.specs.Proper.{Opened, ProperAt}
@@ -18,15 +18,15 @@ use Rattle.table.specs.declared.kind.ValueKind.{ValueKind}
 use Rattle.table.specs.declared.kind.ValueKind.the-variants.{Rule}
 use Rattle.book.specs.Entry.{Entry}
 use Rattle.runs.specs.Walk.{judging, ofScalar}
-use Rattle.meaning.specs.Shows.{Kept, ShowsValue}
+use Rattle.meaning.specs.Shows.{Carries, ShowsValue}
 use Rattle.meaning.proofs.CloseLaws.{shows-scalar}
 use Rattle.verdict.specs.Verdict.{longest}
 use Rattle.verdict.specs.declared.Verdict.the-variants as Is
 use Rattle.verdict.specs.Track.{trackTo}
 use Rattle.verdict.proofs.TrackLaws.{trackTo-fault, trackTo-deep, trackTo-sound}
 use Rattle.progress.specs.declared.Fault.the-variants as F
-use Rattle.progress.specs.declared.Lex.{Lex}
-use Rattle.progress.specs.Lex.{bump, faulted}
+use Rattle.progress.specs.declared.Progress.{Progress}
+use Rattle.progress.specs.Progress.{bump, faulted}
 use Rattle.progress.specs.Memory.{mem, valueAt, rulesAt, closeAt}
 use Rattle.follows.specs.Follows.{lexAt, ShowsStack, NoRoot, AnyRoot, ShowsRoot, Shown, follows, Tracks, on-track, off-track}
 use Rattle.follows.proofs.StackLaws.{shows-finished, shows-rules-array, shows-rules-object, root-closed}
@@ -54,13 +54,13 @@ module _ (es : List Entry) where
 
 module _ (es : List Entry) (n : ℕ) {i : ℕ} where
   -- a byte that brings a fault
-  pub lands-malformed : (x : Lex) (root : Bool) (key w : List ℕ) → x .head ≡ false → x .pos ≡ i
-      → Tracks es n (mem (faulted x F.Malformed .lex) root key w) (trackTo es n fault i)
+  pub lands-malformed : (x : Progress) (root : Bool) (key w : List ℕ) → x .head ≡ false → x .pos ≡ i
+      → Tracks es n (mem (faulted x F.Malformed .progress) root key w) (trackTo es n fault i)
   lands-malformed x root key w h e = rw (trackTo-fault es n fault i refl) (off-track {v = Is.Malformed i} h (refl, e) (one-le-bump (x .pos)))
 
   -- a byte that opens one level too many
-  pub lands-deep : (x : Lex) (root : Bool) (key w : List ℕ) (m : Mode) (g : Token (judging es)) (k : Stack (judging es)) → x .head ≡ false → x .pos ≡ i
-      → n < depth (judging es) k → Tracks es n (mem (faulted x F.TooDeep .lex) root key w) (trackTo es n (at m g k) i)
+  pub lands-deep : (x : Progress) (root : Bool) (key w : List ℕ) (m : Mode) (g : Token (judging es)) (k : Stack (judging es)) → x .head ≡ false → x .pos ≡ i
+      → n < depth (judging es) k → Tracks es n (mem (faulted x F.TooDeep .progress) root key w) (trackTo es n (at m g k) i)
   lands-deep x root key w m g k h e l =
       rw (trackTo-deep es n (at m g k) i refl l) (off-track {v = Is.TooDeep i} h (refl, e) (one-le-bump (x .pos)))
 
@@ -70,11 +70,11 @@ module _ (es : List Entry) (n : ℕ) {i : ℕ} where
       → Tracks es n (mem (lexAt m level (bump i) place bits high len) root key w) (trackTo es n (at m g k) i)
   lands {m} {g} {k} h e eb eh s = rw (e, eb, eh, bump-below i (omega arith), trackTo-sound es n (at m g k) i refl (s .room)) (on-track (follows s))
 
-module _ {t : Table} {es : List Entry} (kept : Kept t es) (n : ℕ) (few : n ≤ 64) (i : ℕ) (h : i < longest) (place len : ℕ) (root : Bool) (key : List ℕ)
+module _ {t : Table} {es : List Entry} (kept : Carries t es) (n : ℕ) (few : n ≤ 64) (i : ℕ) (h : i < longest) (place len : ℕ) (root : Bool) (key : List ℕ)
     (keyLong : length key ≡ 32) (g : Token (judging es)) (level bits high : ℕ) (eb : bits ≡ g .bits) (eh : high ≡ g .high) (w : List ℕ)
     (long : 96 * n ≤ length w) where
   -- a scalar is finished
-  pub lands-finished : (k : Stack (judging es)) → level ≡ depth (judging es) k → depth (judging es) k ≤ n → ShowsStack es w k → (s : Scalar) (p : Place)
+  pub lands-finished : (k : Stack (judging es)) → level ≡ depth (judging es) k → depth (judging es) k ≤ n → ShowsStack es w k → (s : Scalar) (p : Awaited)
       → ProperAt (judging es) (M.At p) (finish (judging es) (ofScalar s) k) → ShowsRoot es (M.At p) root (finish (judging es) (ofScalar s) k)
       → Tracks es n (mem (lexAt (M.At p) level (bump i) place bits high len) root key (valueAt t w level (Done.Scalar s)))
       (trackTo es n (at (M.At p) g (finish (judging es) (ofScalar s) k)) i)

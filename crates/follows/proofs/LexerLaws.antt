@@ -15,7 +15,7 @@ use Rattle.json.specs.declared.number.NumberMode.{NumberMode}
 use Rattle.json.specs.declared.number.NumberMode.the-variants as N
 use Rattle.json.specs.declared.word.Word.{Word}
 use Rattle.json.specs.declared.word.Word.the-variants as W
-use Rattle.json.specs.declared.lexer.Place.the-variants as P
+use Rattle.json.specs.declared.lexer.Awaited.the-variants as P
 use Rattle.json.specs.declared.lexer.Mode.the-variants as M
 use Rattle.json.specs.declared.lexer.Act.the-variants as A
 use Rattle.json.specs.declared.lexer.Step.{Step}

@@ -29,12 +29,12 @@ use Rattle.meaning.specs.Shows.{valuedBy, lentEdges}
 use Rattle.verdict.specs.Verdict.{longest}
 use Rattle.progress.specs.declared.Fault.{Fault}
 use Rattle.progress.specs.declared.Fault.the-variants as F
-use Rattle.progress.specs.declared.Lex.{Lex}
+use Rattle.progress.specs.declared.Progress.{Progress}
 use Rattle.progress.specs.declared.Task.{Task}
 use Rattle.progress.specs.declared.Task.the-variants as To
 use Rattle.progress.specs.declared.Advanced.{Advanced}
 use Rattle.progress.specs.Act.{firstFault}
-use Rattle.progress.specs.Lex.{bump, actedBy, sound, byFault, advanced}
+use Rattle.progress.specs.Progress.{bump, actedBy, sound, byFault, advanced}
 use Rattle.progress.specs.Memory.{Mem, valueAt, rulesAt, closeAt, perform, topAt, advancedAt, stepMem}
 
 -- ---- lengths
@@ -59,22 +59,22 @@ pub length-keyed-frame : (w : List ℕ) (l c : ℕ) → length (putFrame w l (ke
 length-keyed-frame w l c = length-worked w l (keyed c) (λ f e. length-keyed f c ∙ e)
 
 -- no task changes the length of the buffer
-pub length-perform : (x : Task) (t : Table) (m : Mem) (y : Lex) → length (perform x t m y .work) ≡ length (m .work)
+pub length-perform : (x : Task) (t : Table) (m : Mem) (y : Progress) → length (perform x t m y .work) ≡ length (m .work)
 unfolding closeAt
 length-perform To.Idle t m y = refl
 length-perform (To.Put c) t m y = refl
-length-perform To.Named t m y = length-keyed-frame (m .work) (m .lex .level) (keyFound t (m .key) (m .lex .len))
+length-perform To.Named t m y = length-keyed-frame (m .work) (m .progress .level) (keyFound t (m .key) (m .progress .len))
 length-perform (To.Open o) t m y = length-opened-frame t (m .work) (y .level) o
-length-perform (To.Finish s) t m y = length-valueAt t (m .work) (m .lex .level) (Done.Scalar s)
-length-perform To.Close t m y = length-valueAt t (m .work) (m .lex .level - 1) (Done.Rules (rulesAt t (m .work) (m .lex .level)))
+length-perform (To.Finish s) t m y = length-valueAt t (m .work) (m .progress .level) (Done.Scalar s)
+length-perform To.Close t m y = length-valueAt t (m .work) (m .progress .level - 1) (Done.Rules (rulesAt t (m .work) (m .progress .level)))
 length-perform (To.FinishClose s) t m y =
-    let w = valueAt t (m .work) (m .lex .level) (Done.Scalar s) in
-    length-valueAt t w (m .lex .level - 1) (Done.Rules (rulesAt t w (m .lex .level))) ∙ length-valueAt t (m .work) (m .lex .level) (Done.Scalar s)
+    let w = valueAt t (m .work) (m .progress .level) (Done.Scalar s) in
+    length-valueAt t w (m .progress .level - 1) (Done.Rules (rulesAt t w (m .progress .level))) ∙ length-valueAt t (m .work) (m .progress .level) (Done.Scalar s)
 
 -- so no byte does
 pub length-stepMem : (t : Table) (n : ℕ) (m : Mem) (b : ℕ) → length (stepMem t n m b .work) ≡ length (m .work)
 unfolding stepMem
-length-stepMem t n m b = length-perform (advancedAt n m b .task) t m (advancedAt n m b .lex)
+length-stepMem t n m b = length-perform (advancedAt n m b .task) t m (advancedAt n m b .progress)
 
 -- ---- the count of bytes
 
@@ -89,44 +89,44 @@ unfolding bump
 bump-below i h = rw (lt-ltb i 4294967295 h, add-one i)
 
 -- the byte is counted, and the head stays the head
-pub record Counts (x y : Lex) : Type 0 where
+pub record Counts (x y : Progress) : Type 0 where
   pub pos : y .pos ≡ bump (x .pos)
   pub head : y .head ≡ x .head
 
-module _ (x : Lex) (n b : ℕ) where
-  counts-actedBy : (f : Fault) (a : Act) (e : Bool) (m : Mode) → Counts x (actedBy f a e x n b m .lex)
+module _ (x : Progress) (n b : ℕ) where
+  counts-actedBy : (f : Fault) (a : Act) (e : Bool) (m : Mode) → Counts x (actedBy f a e x n b m .progress)
   counts-actedBy F.Sound a e m = record { pos = refl; head = refl }
   counts-actedBy F.Malformed a e m = record { pos = refl; head = refl }
   counts-actedBy F.TooDeep a e m = record { pos = refl; head = refl }
   counts-actedBy F.TooLong a e m = record { pos = refl; head = refl }
 
-  counts-byFault : (f : Fault) (st : Step) → Counts x (byFault f x n b st .lex)
+  counts-byFault : (f : Fault) (st : Step) → Counts x (byFault f x n b st .progress)
   unfolding sound
   counts-byFault F.Sound st =
-      cond-elim (λ (a : Advanced). Counts x (a .lex)) (ltb (x .pos) longest) (λ _. counts-actedBy (firstFault (st .act) (x .level) n) (st .act) (st .ends) (st .mode))
+      cond-elim (λ (a : Advanced). Counts x (a .progress)) (ltb (x .pos) longest) (λ _. counts-actedBy (firstFault (st .act) (x .level) n) (st .act) (st .ends) (st .mode))
       (λ _. record { pos = refl; head = refl })
   counts-byFault F.Malformed st = record { pos = refl; head = refl }
   counts-byFault F.TooDeep st = record { pos = refl; head = refl }
   counts-byFault F.TooLong st = record { pos = refl; head = refl }
 
-  counts-advanced : (st : Step) → eqb b 0x1E ≡ false → Counts x (advanced x n b st .lex)
+  counts-advanced : (st : Step) → eqb b 0x1E ≡ false → Counts x (advanced x n b st .progress)
   unfolding advanced
   counts-advanced st e =
-      rw e (cond-elim (λ (a : Advanced). Counts x (a .lex)) (x .head) (λ _. record { pos = refl; head = refl }) (λ _. counts-byFault (x .fault) st))
+      rw e (cond-elim (λ (a : Advanced). Counts x (a .progress)) (x .head) (λ _. record { pos = refl; head = refl }) (λ _. counts-byFault (x .fault) st))
 
-lex-perform : (x : Task) (t : Table) (m : Mem) (y : Lex) → perform x t m y .lex ≡ y
+progress-perform : (x : Task) (t : Table) (m : Mem) (y : Progress) → perform x t m y .progress ≡ y
 unfolding closeAt
-lex-perform To.Idle t m y = refl
-lex-perform (To.Put c) t m y = refl
-lex-perform To.Named t m y = refl
-lex-perform (To.Open o) t m y = refl
-lex-perform (To.Finish s) t m y = refl
-lex-perform To.Close t m y = refl
-lex-perform (To.FinishClose s) t m y = refl
+progress-perform To.Idle t m y = refl
+progress-perform (To.Put c) t m y = refl
+progress-perform To.Named t m y = refl
+progress-perform (To.Open o) t m y = refl
+progress-perform (To.Finish s) t m y = refl
+progress-perform To.Close t m y = refl
+progress-perform (To.FinishClose s) t m y = refl
 
 -- each byte but RS is counted, with or without a fault and in the head too
-pub counts-stepMem : (t : Table) (n : ℕ) (m : Mem) (b : ℕ) → eqb b 0x1E ≡ false → Counts (m .lex) (stepMem t n m b .lex)
+pub counts-stepMem : (t : Table) (n : ℕ) (m : Mem) (b : ℕ) → eqb b 0x1E ≡ false → Counts (m .progress) (stepMem t n m b .progress)
 unfolding stepMem
 counts-stepMem t n m b e =
-    rw (lex-perform (advancedAt n m b .task) t m (advancedAt n m b .lex))
-    (counts-advanced (m .lex) n b (stepOf (m .lex .mode) (topAt (m .work) (m .lex .level)) b) e)
+    rw (progress-perform (advancedAt n m b .task) t m (advancedAt n m b .progress))
+    (counts-advanced (m .progress) n b (stepOf (m .progress .mode) (topAt (m .work) (m .progress .level)) b) e)

@@ -10,10 +10,10 @@ use lib.ListN.{length}
 use borrow.Author.Tests.{lt-ltb}
 use Rattle.table.specs.Table.{Table}
 use Rattle.book.specs.Entry.{Entry}
-use Rattle.meaning.specs.Shows.{Kept}
+use Rattle.meaning.specs.Shows.{Carries}
 use Rattle.verdict.specs.declared.Verdict.the-variants as Is
 use Rattle.verdict.specs.Track.{Track, track, trackByte, trackStart, trackEnd}
-use Rattle.progress.specs.Lex.{advanced, judged}
+use Rattle.progress.specs.Progress.{advanced, judged}
 use Rattle.progress.specs.Memory.{Mem, stepMem, endsRecord, runMem}
 use Rattle.progress.specs.Fresh.{freshMem}
 use Rattle.follows.specs.Follows.{PlainKeys, Tracks, NoRS, nonempty, readPart}
@@ -27,7 +27,7 @@ noRS-last (c ∷ p) b h e = (h .0, noRS-last p b (h .1) e)
 
 -- ---- the verdict
 
-module _ {t : Table} {es : List Entry} (kept : Kept t es) (plain : PlainKeys es) (n : ℕ) (few : n ≤ 64) where
+module _ {t : Table} {es : List Entry} (kept : Carries t es) (plain : PlainKeys es) (n : ℕ) (few : n ≤ 64) where
   -- a memory that keeps a track keeps it over a part
   pub tracks-more : (m : Mem) (s : Track es) (p : List ℕ) → NoRS p → Tracks es n m s → Tracks es n (readPart t n m p) (track es n s p)
   tracks-more m s [] h r = r
@@ -39,7 +39,7 @@ module _ {t : Table} {es : List Entry} (kept : Kept t es) (plain : PlainKeys es)
 
   -- so its verdict is that of the part
   pub judged-part : (w p : List ℕ) → 96 * n ≤ length w → NoRS p
-      → judged (readPart t n (freshMem false w) p .lex) (readPart t n (freshMem false w) p .root) ≡ trackEnd es (track es n (trackStart es) p)
+      → judged (readPart t n (freshMem false w) p .progress) (readPart t n (freshMem false w) p .root) ≡ trackEnd es (track es n (trackStart es) p)
   judged-part w p long h =
       tracks-judged (readPart t n (freshMem false w) p) (track es n (trackStart es) p) (tracks-part w p long h)
 
@@ -52,37 +52,37 @@ module _ (t : Table) (n : ℕ) where
   length-part m (b ∷ p) = length-part (stepMem t n m b) p ∙ length-stepMem t n m b
 
   -- the head stays the head
-  pub head-part : (m : Mem) (p : List ℕ) → NoRS p → readPart t n m p .lex .head ≡ m .lex .head
+  pub head-part : (m : Mem) (p : List ℕ) → NoRS p → readPart t n m p .progress .head ≡ m .progress .head
   head-part m [] h = refl
   head-part m (b ∷ p) h = head-part (stepMem t n m b) p (h .1) ∙ counts-stepMem t n m b (h .0) .head
 
   -- whose verdict is 15, whatever was read
-  pub judged-head : (m : Mem) (p : List ℕ) → NoRS p → m .lex .head ≡ true → judged (readPart t n m p .lex) (readPart t n m p .root) ≡ Is.Head
+  pub judged-head : (m : Mem) (p : List ℕ) → NoRS p → m .progress .head ≡ true → judged (readPart t n m p .progress) (readPart t n m p .root) ≡ Is.Head
   unfolding judged
   judged-head m p h e = rw (head-part m p h, e)
 
   -- each byte of a part is counted, up to the largest number
-  pub pos-counts : (m : Mem) (p : List ℕ) → NoRS p → m .lex .pos + length p ≤ 4294967295 → readPart t n m p .lex .pos ≡ m .lex .pos + length p
-  pos-counts m [] h l = sym (add-zero (m .lex .pos))
+  pub pos-counts : (m : Mem) (p : List ℕ) → NoRS p → m .progress .pos + length p ≤ 4294967295 → readPart t n m p .progress .pos ≡ m .progress .pos + length p
+  pos-counts m [] h l = sym (add-zero (m .progress .pos))
   pos-counts m (b ∷ p) h l =
-      let e : stepMem t n m b .lex .pos ≡ suc (m .lex .pos) = counts-stepMem t n m b (h .0) .pos ∙ bump-below (m .lex .pos) (omega arith) in
+      let e : stepMem t n m b .progress .pos ≡ suc (m .progress .pos) = counts-stepMem t n m b (h .0) .pos ∙ bump-below (m .progress .pos) (omega arith) in
       pos-counts (stepMem t n m b) p (h .1) (omega arith) ∙ omega arith
 
   -- a count of at least 1 stays so
-  one-le-pos-more : (m : Mem) (p : List ℕ) → NoRS p → 1 ≤ m .lex .pos → 1 ≤ readPart t n m p .lex .pos
+  one-le-pos-more : (m : Mem) (p : List ℕ) → NoRS p → 1 ≤ m .progress .pos → 1 ≤ readPart t n m p .progress .pos
   one-le-pos-more m [] h l = l
   one-le-pos-more m (b ∷ p) h l =
-      one-le-pos-more (stepMem t n m b) p (h .1) (omega (arith, counts-stepMem t n m b (h .0) .pos, one-le-bump (m .lex .pos)))
+      one-le-pos-more (stepMem t n m b) p (h .1) (omega (arith, counts-stepMem t n m b (h .0) .pos, one-le-bump (m .progress .pos)))
 
   -- behind a byte at least one is counted
-  pub one-le-pos : (m : Mem) (b : ℕ) (p : List ℕ) → NoRS (b ∷ p) → 1 ≤ readPart t n m (b ∷ p) .lex .pos
+  pub one-le-pos : (m : Mem) (b : ℕ) (p : List ℕ) → NoRS (b ∷ p) → 1 ≤ readPart t n m (b ∷ p) .progress .pos
   one-le-pos m b p h =
-      one-le-pos-more (stepMem t n m b) p (h .1) (omega (arith, counts-stepMem t n m b (h .0) .pos, one-le-bump (m .lex .pos)))
+      one-le-pos-more (stepMem t n m b) p (h .1) (omega (arith, counts-stepMem t n m b (h .0) .pos, one-le-bump (m .progress .pos)))
 
   -- so the count of a fresh memory, in the head or not, tells whether a part is empty
-  pub pos-part : (head : Bool) (w p : List ℕ) → NoRS p → ltb 0 (readPart t n (freshMem head w) p .lex .pos) ≡ nonempty p
+  pub pos-part : (head : Bool) (w p : List ℕ) → NoRS p → ltb 0 (readPart t n (freshMem head w) p .progress .pos) ≡ nonempty p
   pos-part head w [] h = refl
-  pos-part head w (b ∷ p) h = lt-ltb 0 (readPart t n (freshMem head w) (b ∷ p) .lex .pos) (one-le-pos (freshMem head w) b p h)
+  pos-part head w (b ∷ p) h = lt-ltb 0 (readPart t n (freshMem head w) (b ∷ p) .progress .pos) (one-le-pos (freshMem head w) b p h)
 
   -- a part is read byte by byte: its last byte last
   pub readPart-last : (m : Mem) (p : List ℕ) (b : ℕ) → readPart t n m (p ++ (b ∷ [])) ≡ stepMem t n (readPart t n m p) b

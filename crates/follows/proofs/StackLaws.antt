@@ -20,7 +20,7 @@ use Rattle.runs.specs.Walk.{judging, States, OpenObject, startOf, atOpening, af
 use Rattle.frame.specs.Frame.{frameCount, hasFrame, frameAt, putFrame}
 use Rattle.frame.specs.Ops.{opened, keyed}
 use Rattle.frame.proofs.LevelLaws.{frameAt-putFrame, frameAt-putFrame-other}
-use Rattle.meaning.specs.Shows.{Kept, ShowsValue, ShowsArray, ShowsObject, ShowsKey}
+use Rattle.meaning.specs.Shows.{Carries, ShowsValue, ShowsArray, ShowsObject, ShowsKey}
 use Rattle.meaning.proofs.OpenLaws.{shows-open-array, shows-open-object, shows-key}
 use Rattle.meaning.proofs.ValueLaws.{shows-pair, shows-element}
 use Rattle.meaning.proofs.CloseLaws.{shows-array, shows-object}
@@ -50,7 +50,7 @@ shows-below es w f l (in-array S k) long d h =
 shows-below es w f l (in-object o k) long d h =
     (rw (frameAt-putFrame-other w f l long (suc (depth (judging es) k)) (λ e. omega arith)) (h .0), shows-below es w f l k long (omega arith) (h .1))
 
-module _ {t : Table} {es : List Entry} (kept : Kept t es) (n : ℕ) (few : n ≤ 64) (w : List ℕ) (long : 96 * n ≤ length w) where
+module _ {t : Table} {es : List Entry} (kept : Carries t es) (n : ℕ) (few : n ≤ 64) (w : List ℕ) (long : 96 * n ≤ length w) where
   -- a frame that is put at the level above a stack stands there, and leaves the stack
   shows-put : (f : List ℕ) (k : Stack (judging es)) → depth (judging es) k < n → ShowsStack es w k → length f ≡ 96
       → (frameAt (putFrame w (suc (depth (judging es) k)) f) (suc (depth (judging es) k)) ≡ f) × ShowsStack es (putFrame w (suc (depth (judging es) k)) f) k

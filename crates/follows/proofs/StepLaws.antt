@@ -22,8 +22,8 @@ use Rattle.json.specs.declared.word.Word.{Word}
 use Rattle.json.specs.declared.word.Word.the-variants as W
 use Rattle.json.specs.declared.word.WordMove.{WordMove}
 use Rattle.json.specs.declared.word.WordMove.the-variants as WM
-use Rattle.json.specs.declared.lexer.Place.{Place}
-use Rattle.json.specs.declared.lexer.Place.the-variants as P
+use Rattle.json.specs.declared.lexer.Awaited.{Awaited}
+use Rattle.json.specs.declared.lexer.Awaited.the-variants as P
 use Rattle.json.specs.declared.lexer.Mode.{Mode}
 use Rattle.json.specs.declared.lexer.Mode.the-variants as M
 use Rattle.json.specs.declared.lexer.Top.{Top}
@@ -43,17 +43,17 @@ use Rattle.table.specs.declared.kind.ValueKind.{ValueKind}
 use Rattle.table.specs.Keys.{keyFound}
 use Rattle.frame.specs.Frame.{frameAt, putFrame}
 use Rattle.frame.specs.Ops.{opened, keyed}
-use Rattle.meaning.specs.Shows.{Kept}
+use Rattle.meaning.specs.Shows.{Carries}
 use Rattle.meaning.proofs.CloseLaws.{shows-scalar}
 use Rattle.verdict.specs.Verdict.{longest}
 use Rattle.verdict.specs.declared.Verdict.the-variants as Is
 use Rattle.verdict.specs.Track.{sound, trackTo, trackByte}
 use Rattle.verdict.proofs.TrackLaws.{trackByte-short, trackByte-long}
 use Rattle.progress.specs.declared.Fault.the-variants as F
-use Rattle.progress.specs.declared.Lex.{Lex}
+use Rattle.progress.specs.declared.Progress.{Progress}
 use Rattle.progress.specs.declared.Advanced.{Advanced}
 use Rattle.progress.specs.Act.{openFault, openLevel, keyLen, keyTask, keptIn}
-use Rattle.progress.specs.Lex.{advance, advanced, faulted, moved, sound as sounding, bump, bitsIn, highIn, acted}
+use Rattle.progress.specs.Progress.{advance, advanced, faulted, moved, sound as sounding, bump, bitsIn, highIn, acted}
 use Rattle.progress.specs.declared.Task.the-variants as To
 use Rattle.progress.specs.Memory.{Mem, mem, valueAt, perform, stepMem}
 use Rattle.follows.specs.Follows.{PlainKeys, all-kept, ShowsText, ShowsNumber, lexAt, ShowsStack, NoRoot, AnyRoot, ShowsRoot, Shown, Follows, follows, Tracks, off-track}
@@ -106,7 +106,7 @@ opened-finish es v (in-object x k) o = tt
 
 -- the memory at mode m, the state behind a step, and the claim that the one tracks the other
 module _ (t : Table) (es : List Entry) (n : ℕ) (g : Token (judging es)) (k : Stack (judging es)) (i place len : ℕ) (root : Bool) (key w : List ℕ) (b : ℕ) (m : Mode) where
-  abbrev before : Lex
+  abbrev before : Progress
   before = lexAt m (depth (judging es) k) i place (g .bits) (g .high) len
 
   abbrev behind : Step → State (judging es)
@@ -115,10 +115,10 @@ module _ (t : Table) (es : List Entry) (n : ℕ) (g : Token (judging es)) (k : S
   abbrev StepTracked : Step → Type 0
   StepTracked st =
       Proper (judging es) (behind st)
-      → Tracks es n (perform (acted (st .act) (st .ends) before n b (st .mode) .task) t (mem before root key w) (acted (st .act) (st .ends) before n b (st .mode) .lex))
+      → Tracks es n (perform (acted (st .act) (st .ends) before n b (st .mode) .task) t (mem before root key w) (acted (st .act) (st .ends) before n b (st .mode) .progress))
       (trackTo es n (behind st) i)
 
-module _ {t : Table} {es : List Entry} (kept : Kept t es) (plain : PlainKeys es) (n : ℕ) (few : n ≤ 64) (g : Token (judging es)) (k : Stack (judging es))
+module _ {t : Table} {es : List Entry} (kept : Carries t es) (plain : PlainKeys es) (n : ℕ) (few : n ≤ 64) (g : Token (judging es)) (k : Stack (judging es))
     (i place len : ℕ) (root : Bool) (key w : List ℕ) (b : ℕ) (h : i < longest) where
   -- what is known of the state and the memory at mode m
   abbrev Known : Mode → Type 0
@@ -127,7 +127,7 @@ module _ {t : Table} {es : List Entry} (kept : Kept t es) (plain : PlainKeys es)
   abbrev Tracked : Mode → Step → Type 0
   Tracked m st = StepTracked t es n g k i place len root key w b m st
 
-  abbrev lexer : Mode → Lex
+  abbrev lexer : Mode → Progress
   lexer m = before t es n g k i place len root key w b m
 
   -- a fault
@@ -180,11 +180,11 @@ module _ {t : Table} {es : List Entry} (kept : Kept t es) (plain : PlainKeys es)
       → (ltb (depth (judging es) k) n ≡ false → y ≡ faulted (lexer m) F.TooDeep) → suc (depth (judging es) k) ≡ depth (judging es) k′
       → (depth (judging es) k < n → ShowsStack es (putFrame w (suc (depth (judging es) k)) (opened (t .forms) o)) k′) → NoRoot es root k′
       → Opened (judging es) k′
-      → Tracks es n (perform (y .task) t (mem (lexer m) root key w) (y .lex)) (trackTo es n (at (M.At P.First) (gather (judging es) m g b) k′) i)
+      → Tracks es n (perform (y .task) t (mem (lexer m) root key w) (y .progress)) (trackTo es n (at (M.At P.First) (gather (judging es) m g b) k′) i)
   step-opened m o k′ y s fits deep d c r p = go (ltb (depth (judging es) k) n) refl
     where
       go : (v : Bool) → ltb (depth (judging es) k) n ≡ v
-          → Tracks es n (perform (y .task) t (mem (lexer m) root key w) (y .lex)) (trackTo es n (at (M.At P.First) (gather (judging es) m g b) k′) i)
+          → Tracks es n (perform (y .task) t (mem (lexer m) root key w) (y .progress)) (trackTo es n (at (M.At P.First) (gather (judging es) m g b) k′) i)
       go true e =
           let l = ltb-true (depth (judging es) k) n e in
           rw (fits e)
@@ -270,7 +270,7 @@ module _ {t : Table} {es : List Entry} (kept : Kept t es) (plain : PlainKeys es)
           }
 
   -- the innermost value is closed
-  step-closed : (p : Place) → Known (M.At p) → NoRoot es root k → Opened (judging es) k → Tracked (M.At p) (stepTo (M.At P.After) A.Close)
+  step-closed : (p : Awaited) → Known (M.At p) → NoRoot es root k → Opened (judging es) k → Tracked (M.At p) (stepTo (M.At P.After) A.Close)
   step-closed p s r o y =
       lands-closed kept n few i h place len root key (s .key-long) g (depth (judging es) k) (g .bits) (g .high) refl refl w (s .long) k refl (s .room) (s .stack) r o y
 
@@ -284,7 +284,7 @@ module _ {t : Table} {es : List Entry} (kept : Kept t es) (plain : PlainKeys es)
     anyRoot-number : AnyRoot es root (finish (judging es) numberFits k)
     anyRoot-number = root-finished es root numberFits (scalar-no-rule es (cond (g .number) K.Int K.Num)) k (s .root-shown)
 
-    step-endedPass : (p : Place) → ShowsRoot es (M.At p) root (finish (judging es) numberFits k) → Tracked (M.Number x) (endedBefore (stay p))
+    step-endedPass : (p : Awaited) → ShowsRoot es (M.At p) root (finish (judging es) numberFits k) → Tracked (M.Number x) (endedBefore (stay p))
     step-endedPass p r y =
         rw (s .number)
         (lands-finished kept n few i h place len root key (s .key-long) g (depth (judging es) k) (g .bits) (g .high) refl refl w (s .long) k refl (s .room) (s .stack)
@@ -392,20 +392,20 @@ module _ {t : Table} {es : List Entry} (kept : Kept t es) (plain : PlainKeys es)
 -- ---- one byte
 
 -- a memory that follows a state tracks what the machine makes of a byte, which is not RS
-pub follows-step : {t : Table} {es : List Entry} → Kept t es → PlainKeys es → (n : ℕ) → n ≤ 64 → {m : Mem} {q : State (judging es)} {i : ℕ} (b : ℕ)
+pub follows-step : {t : Table} {es : List Entry} → Carries t es → PlainKeys es → (n : ℕ) → n ≤ 64 → {m : Mem} {q : State (judging es)} {i : ℕ} (b : ℕ)
     → eqb b 0x1E ≡ false → Follows es n m q i → Tracks es n (stepMem t n m b) (trackByte es n (sound q i) b)
 unfolding stepMem advanced sounding step
 follows-step {t} {es} kept plain n few b e (follows {m} {g} {k} {i} {place} {len} {root} {key} {w} s) =
     rw (e, topAt-shows es w k (s .stack)) (go (ltb i longest) refl)
   where
-    x : Lex
+    x : Progress
     x = lexAt m (depth (judging es) k) i place (g .bits) (g .high) len
 
     st : Step
     st = stepOf m (topOf (judging es) k) b
 
     go : (v : Bool) → ltb i longest ≡ v
-        → Tracks es n (perform (sounding x n b st .task) t (mem x root key w) (sounding x n b st .lex)) (trackByte es n (sound (at m g k) i) b)
+        → Tracks es n (perform (sounding x n b st .task) t (mem x root key w) (sounding x n b st .progress)) (trackByte es n (sound (at m g k) i) b)
     go true f =
         let h = ltb-true i longest f in
         rw (f, trackByte-short es n (at m g k) b h) (step-any kept plain n few g k i place len root key w b h m s (proper-step (judging es) (at m g k) b (s .proper)))

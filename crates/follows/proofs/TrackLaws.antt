@@ -12,7 +12,7 @@ use Rattle.laws.proofs.TestLaws.{cond-elim}
 use Rattle.json.specs.Lexer.{mayEnd}
 use Rattle.json.specs.Machine.{Stack, bare, whole, in-array, in-object, topOf, depth, Token, State, at, result}
 use Rattle.json.specs.declared.number.NumberMode.{NumberMode}
-use Rattle.json.specs.declared.lexer.Place.the-variants as P
+use Rattle.json.specs.declared.lexer.Awaited.the-variants as P
 use Rattle.json.specs.declared.lexer.Mode.{Mode}
 use Rattle.json.specs.declared.lexer.Mode.the-variants as M
 use Rattle.json.specs.Proper.{Begun, ProperAt}
@@ -20,11 +20,11 @@ use Rattle.table.specs.Table.{Table}
 use Rattle.table.specs.declared.kind.Scalar.the-variants as K
 use Rattle.book.specs.Entry.{Entry}
 use Rattle.runs.specs.Walk.{judging, ofScalar}
-use Rattle.meaning.specs.Shows.{Kept}
+use Rattle.meaning.specs.Shows.{Carries}
 use Rattle.verdict.specs.declared.Verdict.{Verdict}
 use Rattle.verdict.specs.declared.Verdict.the-variants as Is
 use Rattle.verdict.specs.Track.{Track, sound, stopped, trackByte, trackStart, verdictOf, trackEnd}
-use Rattle.progress.specs.Lex.{advanced, wholeNumber, wholeIn, whole as wholeBy, judged}
+use Rattle.progress.specs.Progress.{advanced, wholeNumber, wholeIn, whole as wholeBy, judged}
 use Rattle.progress.specs.Memory.{Mem, mem, topAt, stepMem}
 use Rattle.progress.specs.Fresh.{freshMem}
 use Rattle.follows.specs.Follows.{PlainKeys, NoRoot, AnyRoot, ShowsRoot, Shown, Follows, follows, Tracks, on-track, off-track}
@@ -36,11 +36,11 @@ use Rattle.follows.proofs.StepLaws.{follows-step}
 
 -- the kind of the innermost open value
 pub topAt-follows : (es : List Entry) (n : ℕ) (x : Mem) (m : Mode) (g : Token (judging es)) (k : Stack (judging es)) (i : ℕ) → Follows es n x (at m g k) i
-    → topAt (x .work) (x .lex .level) ≡ topOf (judging es) k
+    → topAt (x .work) (x .progress .level) ≡ topOf (judging es) k
 topAt-follows es n x m g k i (follows {w} s) = topAt-shows es w k (s .stack)
 
 -- the number of bytes
-pub pos-follows : (es : List Entry) (n : ℕ) (x : Mem) (q : State (judging es)) (i : ℕ) → Follows es n x q i → x .lex .pos ≡ i
+pub pos-follows : (es : List Entry) (n : ℕ) (x : Mem) (q : State (judging es)) (i : ℕ) → Follows es n x q i → x .progress .pos ≡ i
 pos-follows es n x q i (follows s) = refl
 
 -- ---- one byte
@@ -52,20 +52,20 @@ unfolding stepMem advanced
 stopped-step t es n n′ m Is.Valid b e (off-track h f p) = absurd f
 stopped-step t es n n′ m Is.Invalid b e (off-track h f p) = absurd f
 stopped-step t es n n′ m (Is.Malformed i) b e (off-track h f p) =
-    rw (e, h, f .0) (off-track {v = Is.Malformed i} refl (refl, f .1) (one-le-bump (m .lex .pos)))
+    rw (e, h, f .0) (off-track {v = Is.Malformed i} refl (refl, f .1) (one-le-bump (m .progress .pos)))
 stopped-step t es n n′ m (Is.TooDeep i) b e (off-track h f p) =
-    rw (e, h, f .0) (off-track {v = Is.TooDeep i} refl (refl, f .1) (one-le-bump (m .lex .pos)))
-stopped-step t es n n′ m Is.TooLong b e (off-track h f p) = rw (e, h, f) (off-track {v = Is.TooLong} refl refl (one-le-bump (m .lex .pos)))
+    rw (e, h, f .0) (off-track {v = Is.TooDeep i} refl (refl, f .1) (one-le-bump (m .progress .pos)))
+stopped-step t es n n′ m Is.TooLong b e (off-track h f p) = rw (e, h, f) (off-track {v = Is.TooLong} refl refl (one-le-bump (m .progress .pos)))
 stopped-step t es n n′ m (Is.Unfinished i) b e (off-track h f p) = absurd f
 stopped-step t es n n′ m Is.Head b e (off-track h f p) = absurd f
 
 -- it stays so with any root, key and buffer too
 pub stopped-anywhere : (es : List Entry) (n : ℕ) (m : Mem) (v : Verdict) → Tracks es n m (stopped v) → (root : Bool) (key w : List ℕ)
-    → Tracks es n (mem (m .lex) root key w) (stopped v)
+    → Tracks es n (mem (m .progress) root key w) (stopped v)
 stopped-anywhere es n m v (off-track h f p) root key w = off-track h f p
 
 -- a memory that keeps a track keeps it at each byte but RS
-pub tracks-step : {t : Table} {es : List Entry} → Kept t es → PlainKeys es → (n : ℕ) → n ≤ 64 → (m : Mem) (s : Track es) (b : ℕ) → eqb b 0x1E ≡ false
+pub tracks-step : {t : Table} {es : List Entry} → Carries t es → PlainKeys es → (n : ℕ) → n ≤ 64 → (m : Mem) (s : Track es) (b : ℕ) → eqb b 0x1E ≡ false
     → Tracks es n m s → Tracks es n (stepMem t n m b) (trackByte es n s b)
 unfolding trackByte
 tracks-step kept plain n few m (sound q i) b e (on-track f) = follows-step kept plain n few b e f
@@ -138,7 +138,7 @@ module _ (es : List Entry) (i : ℕ) where
   whole-shown (M.Word x j) g k root p r = unfinished (depth (judging es) k)
 
 -- the verdict of a memory is that of the track which it keeps
-pub tracks-judged : {es : List Entry} {n : ℕ} (m : Mem) (s : Track es) → Tracks es n m s → judged (m .lex) (m .root) ≡ trackEnd es s
+pub tracks-judged : {es : List Entry} {n : ℕ} (m : Mem) (s : Track es) → Tracks es n m s → judged (m .progress) (m .root) ≡ trackEnd es s
 unfolding judged wholeBy trackEnd
 tracks-judged {es} m s (on-track (follows {m = x} {g} {k} {i} {root} y)) = whole-shown es i x g k root (y .proper) (y .root-shown)
 tracks-judged m (stopped Is.Valid) (off-track h f p) = absurd f

@@ -9,7 +9,7 @@ use lib.Dec.{T, eqb, ltb}
 use lib.ListN.{length, take}
 use Rattle.laws.specs.Lists.{all, any}
 use Rattle.json.specs.Machine.{Stack, bare, whole, in-array, in-object, depth, Token, State, at}
-use Rattle.json.specs.declared.lexer.Place.the-variants as P
+use Rattle.json.specs.declared.lexer.Awaited.the-variants as P
 use Rattle.json.specs.declared.lexer.Mode.{Mode}
 use Rattle.json.specs.declared.lexer.Mode.the-variants as M
 use Rattle.json.specs.Proper.{ProperAt}
@@ -25,7 +25,7 @@ use Rattle.verdict.specs.declared.Verdict.{Verdict}
 use Rattle.verdict.specs.declared.Verdict.the-variants as Is
 use Rattle.verdict.specs.Track.{Track, sound, stopped}
 use Rattle.progress.specs.declared.Fault.the-variants as F
-use Rattle.progress.specs.declared.Lex.{Lex}
+use Rattle.progress.specs.declared.Progress.{Progress}
 use Rattle.progress.specs.Act.{numberKind}
 use Rattle.progress.specs.Memory.{Mem, mem, stepMem}
 
@@ -65,14 +65,14 @@ ShowsNumber (M.Word x i) d = T true
 
 -- ---- what is known of a record without a fault
 
-abbrev pub lexAt : Mode → ℕ → ℕ → ℕ → ℕ → ℕ → ℕ → Lex
+abbrev pub lexAt : Mode → ℕ → ℕ → ℕ → ℕ → ℕ → ℕ → Progress
 lexAt m level pos place bits high len =
     record { mode = m; fault = F.Sound; head = false; level = level; pos = pos; place = place; bits = bits; high = high; len = len }
 
 -- ---- what is known of a record with one
 
 -- the fault of a record that was stopped with a verdict
-abbrev pub FaultIs : Verdict → Lex → Type 0
+abbrev pub FaultIs : Verdict → Progress → Type 0
 FaultIs Is.Valid x = ⊥
 FaultIs Is.Invalid x = ⊥
 FaultIs (Is.Malformed p) x = (x .fault ≡ F.Malformed) × (x .place ≡ p)
@@ -143,7 +143,7 @@ module _ (es : List Entry) where
   -- a memory keeps a track: it follows the state, or is stopped with the verdict, behind at least one byte
   pub data Tracks (n : ℕ) : Mem → Track es → Type 0 where
     on-track : {m : Mem} {q : State (judging es)} {i : ℕ} → Follows n m q i → Tracks n m (sound q i)
-    off-track : {m : Mem} {v : Verdict} → m .lex .head ≡ false → FaultIs v (m .lex) → 1 ≤ m .lex .pos → Tracks n m (stopped v)
+    off-track : {m : Mem} {v : Verdict} → m .progress .head ≡ false → FaultIs v (m .progress) → 1 ≤ m .progress .pos → Tracks n m (stopped v)
 
 -- ---- a part
 

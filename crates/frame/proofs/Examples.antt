@@ -14,7 +14,7 @@ use Rattle.table.specs.declared.kind.Finished.{Finished}
 use Rattle.table.specs.declared.kind.Finished.the-variants as Done
 use Rattle.frame.specs.Edges.{Edges, edgesOf, hasForm, stateNumber, fitsCode, fitting, stepping, walking}
 use Rattle.frame.specs.Frame.{hasFrame, frameAt, putFrame, isObject, kindNumber, currentKey, marked, seenIn, heldIn}
-use Rattle.frame.specs.Ops.{startStates, opened, keyed, withEdges, withStates, valued, keyStates, walked, ended, accepting, ruleSet, closed}
+use Rattle.frame.specs.Ops.{startStates, opened, keyed, withEdges, withStates, valued, keyStates, walked, hasEnd, accepting, ruleSet, closed}
 
 -- ---- book B: the keys are corners, 0, and name, 1; the edges are `corners r1`, `name str`, `r2`, `int` and `int`
 
@@ -202,10 +202,10 @@ no-edge-of-key-128 = tt
 -- the rules that each frame fits: both keys and their edges; the same with a mark of 9; with a third key that no edge has; with the third edge too;
 -- an array in state 2 of rule 2; in state 2 of rule 0, an end state of an obj rule
 pub closed-foreign : T (same (tab (λ i. closed edges forms ends (frame (getD frames i []))) 0 6) (1 ∷ 0 ∷ 0 ∷ 1 ∷ 4 ∷ 0 ∷ []))
-unfolding isObject marked seenIn heldIn hasForm stateNumber walking startStates keyStates walked ended accepting ruleSet closed bitAt setBit setAll any same edges forms ends frame frames bytes
+unfolding isObject marked seenIn heldIn hasForm stateNumber walking startStates keyStates walked hasEnd accepting ruleSet closed bitAt setBit setAll any same edges forms ends frame frames bytes
 closed-foreign = tt
 
 -- every row of the table is right
 pub frames-under-book-b : T (all right table)
-unfolding hasFrame frameAt putFrame isObject currentKey marked seenIn heldIn hasForm stateNumber fitsCode fitting stepping walking startStates opened keyed withEdges withStates valued keyStates walked ended accepting ruleSet closed bitAt setBit setAll any same all kindOf ruleFits edges kinds forms ends step steps fresh bytes right str int num null object array table
+unfolding hasFrame frameAt putFrame isObject currentKey marked seenIn heldIn hasForm stateNumber fitsCode fitting stepping walking startStates opened keyed withEdges withStates valued keyStates walked hasEnd accepting ruleSet closed bitAt setBit setAll any same all kindOf ruleFits edges kinds forms ends step steps fresh bytes right str int num null object array table
 frames-under-book-b = tt

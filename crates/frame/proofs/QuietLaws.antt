@@ -12,8 +12,8 @@ use lib.Seq.{set-getD}
 use borrow.Author.Tests.{ne-eqb}
 use Rattle.laws.specs.Bits.{setBit, setAll}
 use Rattle.frame.specs.Edges.{hasForm}
-use Rattle.frame.specs.Ops.{accepting, ended, ruleSet}
-use Rattle.frame.proofs.RuleLaws.{ended-of-bytes}
+use Rattle.frame.specs.Ops.{accepting, hasEnd, ruleSet}
+use Rattle.frame.proofs.RuleLaws.{hasEnd-of-bytes}
 
 -- ---- rules without lines
 
@@ -54,13 +54,13 @@ ruleSet-same p n (suc m) h = ap (ruleSet p) (add-suc n m) ∙ rw (h m (le-refl (
 accepting-quiet : (forms ends : List ℕ) (form : ℕ) (s : List ℕ) (r : ℕ) → getD s (2 * r) 0 ≡ 0 → getD s (2 * r + 1) 0 ≡ 0
     → accepting forms ends form s r ≡ false
 unfolding accepting
-accepting-quiet forms ends form s r a b = rw (ended-none, and-false)
+accepting-quiet forms ends form s r a b = rw (hasEnd-none, and-false)
   where
     none : (i : ℕ) → getD s i 0 ≡ 0 → not (eqb (bitAnd (getD s i 0) (getD ends i 0)) 0) ≡ false
     none i e = ap (λ (n : ℕ). not (eqb (bitAnd n (getD ends i 0)) 0)) e ∙ ap (λ (n : ℕ). not (eqb n 0)) (and-zero-l (getD ends i 0))
 
-    ended-none : ended ends s r ≡ false
-    ended-none = ended-of-bytes ends s r (omega arith) (omega arith) ∙ rw (none (2 * r) a, none (2 * r + 1) b)
+    hasEnd-none : hasEnd ends s r ≡ false
+    hasEnd-none = hasEnd-of-bytes ends s r (omega arith) (omega arith) ∙ rw (none (2 * r) a, none (2 * r + 1) b)
 
 -- four rules without states accept nothing
 pub ruleSet-quiet : (forms ends : List ℕ) (form : ℕ) (s : List ℕ) (r : ℕ) → ((k : ℕ) → k < 8 → getD s (2 * r + k) 0 ≡ 0)

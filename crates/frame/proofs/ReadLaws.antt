@@ -14,9 +14,9 @@ use Rattle.table.proofs.FlatLaws.{getD-part}
 use Rattle.frame.specs.Edges.{hasForm, stateNumber, fitting, stepping, walking}
 use Rattle.frame.specs.Frame.{heldIn}
 use Rattle.frame.specs.Mask.{maskHas}
-use Rattle.frame.specs.Ops.{ended, accepting}
+use Rattle.frame.specs.Ops.{hasEnd, accepting}
 use Rattle.frame.proofs.EdgeLaws.{hasForm-below}
-use Rattle.frame.proofs.RuleLaws.{ended-of-bytes}
+use Rattle.frame.proofs.RuleLaws.{hasEnd-of-bytes}
 use Rattle.frame.proofs.SkipLaws.{NoneOf, kinds-more, keys-more}
 
 -- the form of a rule below 32
@@ -88,18 +88,18 @@ module _ (rules states keys f s : List ℕ) (k e x : ℕ) (q : x ≡ getD keys e
 
 -- ---- rules of a form with an end state
 module _ (ends s : List ℕ) (r a : ℕ) (x : getD s (2 * r) 0 < 256) (y : getD s (2 * r + 1) 0 < 256) (q : a ≡ getD ends (2 * r) 0) where
-  pub ended-low : (bitAnd (getD s (2 * r) 0) a ≡ 0 → ⊥) → true ≡ ended ends s r
-  ended-low h = rw (ended-of-bytes ends s r x y, ne-eqb (bitAnd (getD s (2 * r) 0) (getD ends (2 * r) 0)) 0 (λ z. h (ap (bitAnd (getD s (2 * r) 0)) q ∙ z)))
+  pub hasEnd-low : (bitAnd (getD s (2 * r) 0) a ≡ 0 → ⊥) → true ≡ hasEnd ends s r
+  hasEnd-low h = rw (hasEnd-of-bytes ends s r x y, ne-eqb (bitAnd (getD s (2 * r) 0) (getD ends (2 * r) 0)) 0 (λ z. h (ap (bitAnd (getD s (2 * r) 0)) q ∙ z)))
 
-  pub ended-high : (b : ℕ) → bitAnd (getD s (2 * r) 0) a ≡ 0 → b ≡ getD ends (2 * r + 1) 0 → not (eqb (bitAnd (getD s (2 * r + 1) 0) b) 0) ≡ ended ends s r
-  ended-high b h w = rw (ended-of-bytes ends s r x y, eq-eqb (bitAnd (getD s (2 * r) 0) (getD ends (2 * r) 0)) 0 (ap (bitAnd (getD s (2 * r) 0)) (sym q) ∙ h), w)
+  pub hasEnd-high : (b : ℕ) → bitAnd (getD s (2 * r) 0) a ≡ 0 → b ≡ getD ends (2 * r + 1) 0 → not (eqb (bitAnd (getD s (2 * r + 1) 0) b) 0) ≡ hasEnd ends s r
+  hasEnd-high b h w = rw (hasEnd-of-bytes ends s r x y, eq-eqb (bitAnd (getD s (2 * r) 0) (getD ends (2 * r) 0)) 0 (ap (bitAnd (getD s (2 * r) 0)) (sym q) ∙ h), w)
 
 module _ (forms ends : List ℕ) (form : ℕ) (s : List ℕ) (r n x : ℕ) (l : r < 32) (q : x ≡ getD forms r 0) where
   pub accepting-other : (x ≡ form → ⊥) → n ≡ cond (accepting forms ends form s r) (2 ^ r + n) n
   unfolding accepting
   accepting-other h = rw (hasForm-below forms form r l, ne-eqb (getD forms r 0) form (λ z. h (q ∙ z)))
 
-  module _ (h : x ≡ form) (b : Bool) (p : b ≡ ended ends s r) where
+  module _ (h : x ≡ form) (b : Bool) (p : b ≡ hasEnd ends s r) where
     pub accepting-yes : (m : ℕ) → b ≡ true → m ≡ 2 ^ r → m + n ≡ cond (accepting forms ends form s r) (2 ^ r + n) n
     unfolding accepting
     accepting-yes m z w = rw (hasForm-below forms form r l, eq-eqb (getD forms r 0) form (sym q ∙ h), sym p ∙ z, w)

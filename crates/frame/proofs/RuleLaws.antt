@@ -20,7 +20,7 @@ use Rattle.laws.proofs.BitLaws.{bit-bitAnd, bit-bitOr, nonzero-bits, ltb-iff}
 use Rattle.laws.proofs.TestLaws.{T-of-true, T-and, T-and-left, T-and-right, T-or-elim, T-or-left, T-or-right, cond-elim}
 use Rattle.table.specs.Kind.{ruleFits}
 use Rattle.frame.specs.Edges.{hasForm}
-use Rattle.frame.specs.Ops.{ended, accepting, ruleSet}
+use Rattle.frame.specs.Ops.{hasEnd, accepting, ruleSet}
 
 -- ---- some number of a run
 
@@ -58,10 +58,10 @@ any-tab-of-some g i (suc n) q a b t =
 -- ---- end states
 
 -- the eight states whose bits are byte b: one of them is an end state where the byte shares a bit with that of the end states
-byte-ended : (ends s : List ℕ) (i b : ℕ) → i ≡ 8 * b → getD s b 0 < 256
+byte-hasEnd : (ends s : List ℕ) (i b : ℕ) → i ≡ 8 * b → getD s b 0 < 256
     → any (λ q. bitAt s (i + q) && bitAt ends (i + q)) (tab (λ q. q) 0 8) ≡ not (eqb (bitAnd (getD s b 0) (getD ends b 0)) 0)
 unfolding bitAt
-byte-ended ends s i b e h =
+byte-hasEnd ends s i b e h =
     any-tab-same (λ q. bitAt s (i + q) && bitAt ends (i + q)) (λ q. eqb (bitAnd (getD s b 0) (getD ends b 0) / 2 ^ q % 2) 1) 0 0 8
     (λ k l.
     let q : (i + (0 + k)) / 8 ≡ b = omega arith in
@@ -70,16 +70,16 @@ byte-ended ends s i b e h =
     ∙ sym (nonzero-bits (bitAnd (getD s b 0) (getD ends b 0)) (lt-of-le-of-lt (and-le-l (getD s b 0) (getD ends b 0)) h))
 
 -- the 16 states of a rule are the bits of two bytes
-pub ended-of-bytes : (ends s : List ℕ) (r : ℕ) → getD s (2 * r) 0 < 256 → getD s (2 * r + 1) 0 < 256
-    → ended ends s r ≡ (not (eqb (bitAnd (getD s (2 * r) 0) (getD ends (2 * r) 0)) 0) || not (eqb (bitAnd (getD s (2 * r + 1) 0) (getD ends (2 * r + 1) 0)) 0))
-unfolding ended
-ended-of-bytes ends s r h g =
+pub hasEnd-of-bytes : (ends s : List ℕ) (r : ℕ) → getD s (2 * r) 0 < 256 → getD s (2 * r + 1) 0 < 256
+    → hasEnd ends s r ≡ (not (eqb (bitAnd (getD s (2 * r) 0) (getD ends (2 * r) 0)) 0) || not (eqb (bitAnd (getD s (2 * r + 1) 0) (getD ends (2 * r + 1) 0)) 0))
+unfolding hasEnd
+hasEnd-of-bytes ends s r h g =
     any-append test (tab (λ q. q) 0 8) (tab (λ q. q) 8 8)
-    ∙ ap (λ (b : Bool). b || any test (tab (λ q. q) 8 8)) (byte-ended ends s (16 * r) (2 * r) (omega arith) h)
+    ∙ ap (λ (b : Bool). b || any test (tab (λ q. q) 8 8)) (byte-hasEnd ends s (16 * r) (2 * r) (omega arith) h)
     ∙ ap (λ (b : Bool). not (eqb (bitAnd (getD s (2 * r) 0) (getD ends (2 * r) 0)) 0) || b)
     (any-tab-same test (λ q. bitAt s (16 * r + 8 + q) && bitAt ends (16 * r + 8 + q)) 8 0 8
     (λ k l. let e : 16 * r + (8 + k) ≡ 16 * r + 8 + (0 + k) = omega arith in rw e)
-    ∙ byte-ended ends s (16 * r + 8) (2 * r + 1) (omega arith) g)
+    ∙ byte-hasEnd ends s (16 * r + 8) (2 * r + 1) (omega arith) g)
   where
     test : ℕ → Bool
     test q = bitAt s (16 * r + q) && bitAt ends (16 * r + q)
@@ -109,7 +109,7 @@ ruleSet-none p (suc n) h = rw (h n) (ruleSet-none p n h)
 -- no states
 pub accepting-nil : (forms ends : List ℕ) (form r : ℕ) → accepting forms ends form [] r ≡ false
 unfolding accepting
-accepting-nil forms ends form r = rw (ended-nil, and-false)
+accepting-nil forms ends form r = rw (hasEnd-nil, and-false)
   where
     nil : (i : ℕ) → _≡_ {A = ℕ} (getD [] i 0) 0
     nil zero = refl
@@ -118,9 +118,9 @@ accepting-nil forms ends form r = rw (ended-nil, and-false)
     none : (i : ℕ) → not (eqb (bitAnd (getD [] i 0) (getD ends i 0)) 0) ≡ false
     none i = ap (λ (n : ℕ). not (eqb (bitAnd n (getD ends i 0)) 0)) (nil i) ∙ ap (λ (n : ℕ). not (eqb n 0)) (and-zero-l (getD ends i 0))
 
-    ended-nil : ended ends [] r ≡ false
-    ended-nil =
-        ended-of-bytes ends [] r (omega (arith, nil (2 * r))) (omega (arith, nil (2 * r + 1)))
+    hasEnd-nil : hasEnd ends [] r ≡ false
+    hasEnd-nil =
+        hasEnd-of-bytes ends [] r (omega (arith, nil (2 * r))) (omega (arith, nil (2 * r + 1)))
         ∙ cc (none (2 * r + 1))
 
 -- ---- a rule in a set
@@ -166,7 +166,7 @@ ruleFits-ruleSet p small r = go (decLt r 32) (p r) refl
 pub accepting-iff : (forms ends : List ℕ) (form : ℕ) (s : List ℕ) (r : ℕ)
     → T (accepting forms ends form s r)
     ↔ (T (hasForm forms form r) × ((q : ℕ) × (q < 16) × T (bitAt s (16 * r + q)) × T (bitAt ends (16 * r + q))))
-unfolding accepting ended
+unfolding accepting hasEnd
 accepting-iff forms ends form s r = (
   (λ t.
       let w = some-of-any-tab test 0 16 (T-and-right (hasForm forms form r) (any test (tab (λ q. q) 0 16)) t) in (

@@ -61,12 +61,12 @@ walked t f a s zero = s
 walked t f a s (suc n) = cond (seenIn f (a + n)) (keyStates t f (walked t f a s n) (a + n)) (walked t f a s n)
 
 -- rule r has an end state among the states s
-unfoldable pub ended : List ℕ → List ℕ → ℕ → Bool
-ended ends s r = any (λ q. bitAt s (16 * r + q) && bitAt ends (16 * r + q)) (tab (λ q. q) 0 16)
+unfoldable pub hasEnd : List ℕ → List ℕ → ℕ → Bool
+hasEnd ends s r = any (λ q. bitAt s (16 * r + q) && bitAt ends (16 * r + q)) (tab (λ q. q) 0 16)
 
 -- rule r is of the form, and has an end state among the states s
 unfoldable pub accepting : List ℕ → List ℕ → ℕ → List ℕ → ℕ → Bool
-accepting forms ends form s r = hasForm forms form r && ended ends s r
+accepting forms ends form s r = hasForm forms form r && hasEnd ends s r
 
 -- the number with bit r for each r below n of which p holds
 unfoldable pub ruleSet : (ℕ → Bool) → ℕ → ℕ

@@ -9,7 +9,7 @@ ghost use Prim.Native.Nat.{_+_, _*_, _^_, _<_, _≤_};
 ghost use lib.ListN.{length};
 ghost use Rattle.table.specs.Flat.{tableIn};
 ghost use Rattle.frame.specs.Edges.{edgesIn};
-ghost use Rattle.frame.specs.Ops.{keyStates, walked, startStates, ended, ruleSet, closed};
+ghost use Rattle.frame.specs.Ops.{keyStates, walked, startStates, hasEnd, ruleSet, closed};
 ghost use Rattle.frame.specs.InTable.{acceptingIn};
 
 // The states that the object's fitting edges of the key lead to.
@@ -75,7 +75,7 @@ fn walk<'a>(frame: &'a [u8], table: &'a [u8; 7920]) -> [u8; 64]
 // Rule r has an end state among the states: its 16 states are two bytes.
 fn has_end<'a>(states: &'a [u8], table: &'a [u8; 7920], r: usize) -> bool
     requires { ⌜ (length (now states) ≡ 64) × (r < 32) ⌝ }
-    ensures { λ b. ⌜ b ≡ ended (tableIn (now (table .entry)) .ends) (now (states .entry)) r ⌝ }
+    ensures { λ b. ⌜ b ≡ hasEnd (tableIn (now (table .entry)) .ends) (now (states .entry)) r ⌝ }
 {
     if (states[2 * r] & flat::end(table, 2 * r)) != 0 {
         return true;

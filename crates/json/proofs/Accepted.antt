@@ -19,8 +19,8 @@ use Rattle.json.specs.Machine.{Stack, bare, whole, in-array, in-object, 
 use Rattle.json.specs.declared.string.StringMode.{StringMode}
 use Rattle.json.specs.declared.number.NumberMode.{NumberMode}
 use Rattle.json.specs.declared.number.NumberMode.the-variants as N
-use Rattle.json.specs.declared.lexer.Place.{Place}
-use Rattle.json.specs.declared.lexer.Place.the-variants as P
+use Rattle.json.specs.declared.lexer.Awaited.{Awaited}
+use Rattle.json.specs.declared.lexer.Awaited.the-variants as P
 use Rattle.json.specs.declared.lexer.Mode.the-variants as M
 use Rattle.json.specs.declared.lexer.Top.{Top}
 use Rattle.json.specs.declared.lexer.Top.the-variants as T
@@ -111,7 +111,7 @@ module _ (𝕄 : Meaning) where
 
   -- ---- blanks
 
-  blank-stays : (p : Place) (g : Token 𝕄) (k : Stack 𝕄) (b : ℕ) → T (isBlank b) → step 𝕄 (at (M.At p) g k) b ≡ at (M.At p) g k
+  blank-stays : (p : Awaited) (g : Token 𝕄) (k : Stack 𝕄) (b : ℕ) → T (isBlank b) → step 𝕄 (at (M.At p) g k) b ≡ at (M.At p) g k
   unfolding step atValue atFirstElement atFirstKey atKey atColon afterRoot afterElement afterPair
   blank-stays P.Value g k b h = rw (true-of-T (isBlank b) h)
   blank-stays P.First g bare b h = rw (true-of-T (isBlank b) h)
@@ -125,7 +125,7 @@ module _ (𝕄 : Meaning) where
   blank-stays P.After g (in-array a k) b h = rw (true-of-T (isBlank b) h)
   blank-stays P.After g (in-object o k) b h = rw (true-of-T (isBlank b) h)
 
-  over-blanks : (p : Place) (g : Token 𝕄) (k : Stack 𝕄) {s r : List ℕ} {w : Result} → Blanks s r → Accepts 𝕄 (at (M.At p) g k) r w
+  over-blanks : (p : Awaited) (g : Token 𝕄) (k : Stack 𝕄) {s r : List ℕ} {w : Result} → Blanks s r → Accepts 𝕄 (at (M.At p) g k) r w
       → Accepts 𝕄 (at (M.At p) g k) s w
   over-blanks p g k no-blanks x = x
   over-blanks p g k (blanks {b} h c) x = rw (blank-stays p g k b h) (over-blanks p g k c x)

@@ -24,7 +24,7 @@ use Rattle.json.specs.declared.string.StringMode.the-variants as S
 use Rattle.json.specs.declared.number.NumberMode.{NumberMode}
 use Rattle.json.specs.declared.word.Word.{Word}
 use Rattle.json.specs.declared.word.Word.the-variants as W
-use Rattle.json.specs.declared.lexer.Place.the-variants as P
+use Rattle.json.specs.declared.lexer.Awaited.the-variants as P
 use Rattle.json.specs.declared.lexer.Mode.the-variants as M
 use Rattle.json.proofs.ByteLaws.{follow-append}
 use Rattle.json.proofs.NumberLaws.{NumberFrom, Completed, completed, complete-number}

@@ -25,8 +25,8 @@ use Rattle.json.specs.declared.number.NumberMove.{NumberMove}
 use Rattle.json.specs.declared.word.Word.{Word}
 use Rattle.json.specs.declared.word.Word.the-variants as W
 use Rattle.json.specs.declared.word.WordMove.{WordMove}
-use Rattle.json.specs.declared.lexer.Place.{Place}
-use Rattle.json.specs.declared.lexer.Place.the-variants as P
+use Rattle.json.specs.declared.lexer.Awaited.{Awaited}
+use Rattle.json.specs.declared.lexer.Awaited.the-variants as P
 use Rattle.json.specs.declared.lexer.Mode.{Mode}
 use Rattle.json.specs.declared.lexer.Mode.the-variants as M
 use Rattle.json.specs.declared.lexer.Step.{Step}
@@ -275,7 +275,7 @@ module _ (𝕄 : Meaning) where
         cond-elim (Q b) (isBlank b) (λ h _. blank-outside (suc (depth 𝕄 k)) b h) (λ _.
         cond-byte Q b 0x2C (λ _. refl) (cond-byte Q b 0x7D (λ _. closed (of-object o) k) true-neq-false))
 
-    place-kept : (p : Place) (k : Stack 𝕄) (b : ℕ) → ProperAt 𝕄 (M.At p) k → Kept (outside (depth 𝕄 k)) b (step 𝕄 (at (M.At p) g k) b)
+    place-kept : (p : Awaited) (k : Stack 𝕄) (b : ℕ) → ProperAt 𝕄 (M.At p) k → Kept (outside (depth 𝕄 k)) b (step 𝕄 (at (M.At p) g k) b)
     unfolding step atValue atFirstElement atFirstKey atKey atColon scanOf scanAt stringScan scanByte isOpening isClosing
     place-kept P.Value k b h =
         cond-elim (λ st. Kept (outside (depth 𝕄 k)) b (take 𝕄 st 0 b g g k)) (isBlank b) (λ h _. blank-outside (depth 𝕄 k) b h) (λ _. start-kept k b)

@@ -17,8 +17,8 @@ use Rattle.json.specs.declared.number.NumberMove.{NumberMove}
 use Rattle.json.specs.declared.number.NumberMove.the-variants as NM
 use Rattle.json.specs.declared.word.Word.{Word}
 use Rattle.json.specs.declared.word.WordMove.{WordMove}
-use Rattle.json.specs.declared.lexer.Place.{Place}
-use Rattle.json.specs.declared.lexer.Place.the-variants as P
+use Rattle.json.specs.declared.lexer.Awaited.{Awaited}
+use Rattle.json.specs.declared.lexer.Awaited.the-variants as P
 use Rattle.json.specs.declared.lexer.Mode.{Mode}
 use Rattle.json.specs.declared.lexer.Mode.the-variants as M
 use Rattle.json.specs.declared.lexer.Step.{Step}
@@ -54,7 +54,7 @@ module _ (𝕄 : Meaning) where
         let Q : Step → Type 0 = λ st. Proper 𝕄 (take 𝕄 st 0 b g g (in-object o k)) in
         cond-elim Q (isBlank b) (λ _. tt) (λ _. cond-elim Q (eqb b 0x2C) (λ _. tt) (λ _. cond-elim Q (eqb b 0x7D) (λ _. begun-finish _ k) (λ _. tt)))
 
-    proper-place : (p : Place) (k : Stack 𝕄) → ProperAt 𝕄 (M.At p) k → Proper 𝕄 (step 𝕄 (at (M.At p) g k) b)
+    proper-place : (p : Awaited) (k : Stack 𝕄) → ProperAt 𝕄 (M.At p) k → Proper 𝕄 (step 𝕄 (at (M.At p) g k) b)
     unfolding step atValue atFirstElement atFirstKey atKey atColon
     proper-place P.Value k h = cond-elim (λ st. Proper 𝕄 (take 𝕄 st 0 b g g k)) (isBlank b) (λ _. tt) (λ _. proper-start k)
     proper-place P.First bare h = absurd h

@@ -28,8 +28,8 @@ use Rattle.json.specs.declared.number.NumberMove.{NumberMove}
 use Rattle.json.specs.declared.word.Word.{Word as LexWord}
 use Rattle.json.specs.declared.word.Word.the-variants as W
 use Rattle.json.specs.declared.word.WordMove.{WordMove}
-use Rattle.json.specs.declared.lexer.Place.{Place}
-use Rattle.json.specs.declared.lexer.Place.the-variants as P
+use Rattle.json.specs.declared.lexer.Awaited.{Awaited}
+use Rattle.json.specs.declared.lexer.Awaited.the-variants as P
 use Rattle.json.specs.declared.lexer.Mode.the-variants as M
 use Rattle.json.specs.declared.lexer.Step.{Step}
 use Rattle.json.proofs.NumberLaws.{NumberFrom, ends-here, goes-on, Starts, starts-minus, starts-zero, starts-int, begun, Moved, moved-fault, moved-end, moved-go, moved, number-of-from}
@@ -264,7 +264,7 @@ module _ (𝕄 : Meaning) where
         let P : ℕ → Step → Type 0 = λ b st. Rest (take 𝕄 st 0 b g g (in-object o k)) s w → After (in-object o k) (b ∷ s) w in
         cond-elim (P b) (isBlank b) pair-blank (λ _. cond-byte P b 0x2C pair-comma (cond-byte P b 0x7D (pair-close o k) no-rest))
 
-    place-back : (p : Place) (b : ℕ) (k : Stack 𝕄) → ProperAt 𝕄 (M.At p) k → Rest (step 𝕄 (at (M.At p) g k) b) s w → Rest (at (M.At p) g k) (b ∷ s) w
+    place-back : (p : Awaited) (b : ℕ) (k : Stack 𝕄) → ProperAt 𝕄 (M.At p) k → Rest (step 𝕄 (at (M.At p) g k) b) s w → Rest (at (M.At p) g k) (b ∷ s) w
     unfolding step
     place-back P.Value b k h x = value-back b k x
     place-back P.First b k h x = first-back b k h x

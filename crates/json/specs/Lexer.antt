@@ -23,8 +23,8 @@ use Rattle.json.specs.declared.word.Word.{Word}
 use Rattle.json.specs.declared.word.Word.the-variants as W
 use Rattle.json.specs.declared.word.WordMove.{WordMove}
 use Rattle.json.specs.declared.word.WordMove.the-variants as WM
-use Rattle.json.specs.declared.lexer.Place.{Place}
-use Rattle.json.specs.declared.lexer.Place.the-variants as P
+use Rattle.json.specs.declared.lexer.Awaited.{Awaited}
+use Rattle.json.specs.declared.lexer.Awaited.the-variants as P
 use Rattle.json.specs.declared.lexer.Mode.{Mode}
 use Rattle.json.specs.declared.lexer.Mode.the-variants as M
 use Rattle.json.specs.declared.lexer.Top.{Top}
@@ -301,7 +301,7 @@ stepTo m a = record { mode = m; ends = false; act = a }
 abbrev pub faultStep : Step
 faultStep = stepTo (M.At P.Value) A.Fault
 
-abbrev pub stay : Place → Step
+abbrev pub stay : Awaited → Step
 stay p = stepTo (M.At p) A.Pass
 
 -- the first byte of a value
@@ -357,7 +357,7 @@ atFirst T.Bare b = atFirstElement b
 atFirst T.Array b = atFirstElement b
 atFirst T.Object b = atFirstKey b
 
-abbrev pub placeStep : Place → Top → ℕ → Step
+abbrev pub placeStep : Awaited → Top → ℕ → Step
 placeStep P.Value top b = atValue b
 placeStep P.First top b = atFirst top b
 placeStep P.Key top b = atKey b

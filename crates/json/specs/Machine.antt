@@ -7,8 +7,8 @@ use mathlib.Core.Path.{_≡_}
 use Prim.Native.Nat.{ℕ, suc, zero}
 use Rattle.json.specs.Meaning.{Meaning}
 use Rattle.json.specs.Lexer.{stepOf, bitsAfter, highAfter, charOf, mayEnd, wordOf}
-use Rattle.json.specs.declared.lexer.Place.{Place}
-use Rattle.json.specs.declared.lexer.Place.the-variants as P
+use Rattle.json.specs.declared.lexer.Awaited.{Awaited}
+use Rattle.json.specs.declared.lexer.Awaited.the-variants as P
 use Rattle.json.specs.declared.lexer.Mode.{Mode}
 use Rattle.json.specs.declared.lexer.Mode.the-variants as M
 use Rattle.json.specs.declared.lexer.Top.{Top}
@@ -102,9 +102,9 @@ module _ (𝕄 : Meaning) where
   withNumber g d = record { bits = g .bits; high = g .high; string = g .string; number = d }
 
   -- a number that ends joins what it stands in
-  abbrev pub ended : Bool → Token → Stack → Stack
-  ended true g k = finish (of-number (g .number)) k
-  ended false g k = k
+  abbrev pub numberEnded : Bool → Token → Stack → Stack
+  numberEnded true g k = finish (of-number (g .number)) k
+  numberEnded false g k = k
 
   -- an act at byte b, which finishes the character c; the next byte stands in mode m
   abbrev pub act : Act → Mode → ℕ → ℕ → Token → Stack → State
@@ -125,7 +125,7 @@ module _ (𝕄 : Meaning) where
 
   -- what a step does, where byte b finishes the character c: first the number that it ends, then its act
   abbrev pub take : Step → ℕ → ℕ → Token → Token → Stack → State
-  take st c b old new k = act (st .act) (st .mode) c b new (ended (st .ends) old k)
+  take st c b old new k = act (st .act) (st .mode) c b new (numberEnded (st .ends) old k)
 
   unfoldable pub step : State → ℕ → State
   step fault b = fault
@@ -147,7 +147,7 @@ module _ (𝕄 : Meaning) where
   wholeOf (in-array a k) = none
   wholeOf (in-object o k) = none
 
-  abbrev pub atEnd : Place → Stack → Option Result
+  abbrev pub atEnd : Awaited → Stack → Option Result
   atEnd P.Value k = none
   atEnd P.First k = none
   atEnd P.Key k = none

@@ -7,7 +7,7 @@ use Rattle.json.specs.Meaning.{Meaning}
 use Rattle.json.specs.Grammar.{spelling}
 use Rattle.json.specs.Lexer.{wordOf}
 use Rattle.json.specs.Machine.{Stack, bare, whole, in-array, in-object, State, fault, at}
-use Rattle.json.specs.declared.lexer.Place.the-variants as P
+use Rattle.json.specs.declared.lexer.Awaited.the-variants as P
 use Rattle.json.specs.declared.lexer.Mode.{Mode}
 use Rattle.json.specs.declared.lexer.Mode.the-variants as M
 

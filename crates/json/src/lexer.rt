@@ -4,7 +4,7 @@ use super::string::StringMode;
 use super::word::Word;
 
 // What is awaited between two tokens.
-pub enum Place {
+pub enum Awaited {
     // a value
     Value,
     // what may stand behind the opening byte of an array or object
@@ -19,7 +19,7 @@ pub enum Place {
 
 // Where the next byte stands: between tokens, in a key, in a string, in a number, in a word of which some letters are read.
 pub enum Mode {
-    At(Place),
+    At(Awaited),
     Key(StringMode),
     Text(StringMode),
     Number(NumberMode),

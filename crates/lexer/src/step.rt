@@ -9,8 +9,8 @@ use super::number::number_move;
 use super::string::string_move;
 use super::word::word_move;
 use json::lexer::Act;
+use json::lexer::Awaited;
 use json::lexer::Mode;
-use json::lexer::Place;
 use json::lexer::Step;
 use json::lexer::Top;
 use json::number::NumberMode;
@@ -35,11 +35,11 @@ fn step_to(m: Mode, a: Act) -> Step
 fn fault_step() -> Step
     ensures { λ r. ⌜ r ≡ faultStep ⌝ }
 {
-    step_to(Mode::At(Place::Value), Act::Fault)
+    step_to(Mode::At(Awaited::Value), Act::Fault)
 }
 
 // Nothing happens, and place p is next.
-fn stay(p: Place) -> Step
+fn stay(p: Awaited) -> Step
     ensures { λ r. ⌜ r ≡ stay p ⌝ }
 {
     step_to(Mode::At(p), Act::Pass)
@@ -69,10 +69,10 @@ fn value_start(b: u8) -> Step
         return step_to(Mode::Text(StringMode::Char), Act::TextStart);
     }
     if b == 0x5B {
-        return step_to(Mode::At(Place::First), Act::OpenArray);
+        return step_to(Mode::At(Awaited::First), Act::OpenArray);
     }
     if b == 0x7B {
-        return step_to(Mode::At(Place::First), Act::OpenObject);
+        return step_to(Mode::At(Awaited::First), Act::OpenObject);
     }
     if is_digit_1_9(b) {
         return step_to(Mode::Number(NumberMode::Int), Act::NumberStart);
@@ -100,7 +100,7 @@ fn at_value(b: u8) -> Step
     ensures { λ r. ⌜ r ≡ atValue b ⌝ }
 {
     if is_blank(b) {
-        return stay(Place::Value);
+        return stay(Awaited::Value);
     }
     value_start(b)
 }
@@ -110,10 +110,10 @@ fn at_first_element(b: u8) -> Step
     ensures { λ r. ⌜ r ≡ atFirstElement b ⌝ }
 {
     if is_blank(b) {
-        return stay(Place::First);
+        return stay(Awaited::First);
     }
     if b == 0x5D {
-        return step_to(Mode::At(Place::After), Act::Close);
+        return step_to(Mode::At(Awaited::After), Act::Close);
     }
     value_start(b)
 }
@@ -123,10 +123,10 @@ fn at_first_key(b: u8) -> Step
     ensures { λ r. ⌜ r ≡ atFirstKey b ⌝ }
 {
     if is_blank(b) {
-        return stay(Place::First);
+        return stay(Awaited::First);
     }
     if b == 0x7D {
-        return step_to(Mode::At(Place::After), Act::Close);
+        return step_to(Mode::At(Awaited::After), Act::Close);
     }
     if b == 0x22 {
         return step_to(Mode::Key(StringMode::Char), Act::KeyStart);
@@ -139,7 +139,7 @@ fn at_key(b: u8) -> Step
     ensures { λ r. ⌜ r ≡ atKey b ⌝ }
 {
     if is_blank(b) {
-        return stay(Place::Key);
+        return stay(Awaited::Key);
     }
     if b == 0x22 {
         return step_to(Mode::Key(StringMode::Char), Act::KeyStart);
@@ -152,10 +152,10 @@ fn at_colon(b: u8) -> Step
     ensures { λ r. ⌜ r ≡ atColon b ⌝ }
 {
     if is_blank(b) {
-        return stay(Place::Colon);
+        return stay(Awaited::Colon);
     }
     if b == 0x3A {
-        return stay(Place::Value);
+        return stay(Awaited::Value);
     }
     fault_step()
 }
@@ -165,7 +165,7 @@ fn after_root(b: u8) -> Step
     ensures { λ r. ⌜ r ≡ afterRoot b ⌝ }
 {
     if is_blank(b) {
-        return stay(Place::After);
+        return stay(Awaited::After);
     }
     fault_step()
 }
@@ -175,13 +175,13 @@ fn after_element(b: u8) -> Step
     ensures { λ r. ⌜ r ≡ afterElement b ⌝ }
 {
     if is_blank(b) {
-        return stay(Place::After);
+        return stay(Awaited::After);
     }
     if b == 0x2C {
-        return stay(Place::Value);
+        return stay(Awaited::Value);
     }
     if b == 0x5D {
-        return step_to(Mode::At(Place::After), Act::Close);
+        return step_to(Mode::At(Awaited::After), Act::Close);
     }
     fault_step()
 }
@@ -191,13 +191,13 @@ fn after_pair(b: u8) -> Step
     ensures { λ r. ⌜ r ≡ afterPair b ⌝ }
 {
     if is_blank(b) {
-        return stay(Place::After);
+        return stay(Awaited::After);
     }
     if b == 0x2C {
-        return stay(Place::Key);
+        return stay(Awaited::Key);
     }
     if b == 0x7D {
-        return step_to(Mode::At(Place::After), Act::Close);
+        return step_to(Mode::At(Awaited::After), Act::Close);
     }
     fault_step()
 }
@@ -225,15 +225,15 @@ fn at_first(top: Top, b: u8) -> Step
 }
 
 // Between tokens.
-fn place_step(p: Place, top: Top, b: u8) -> Step
+fn place_step(p: Awaited, top: Top, b: u8) -> Step
     ensures { λ r. ⌜ r ≡ placeStep p top b ⌝ }
 {
     match p {
-        Place::Value => at_value(b),
-        Place::First => at_first(top, b),
-        Place::Key => at_key(b),
-        Place::Colon => at_colon(b),
-        Place::After => after_value(top, b),
+        Awaited::Value => at_value(b),
+        Awaited::First => at_first(top, b),
+        Awaited::Key => at_key(b),
+        Awaited::Colon => at_colon(b),
+        Awaited::After => after_value(top, b),
     }
 }
 
@@ -245,7 +245,7 @@ fn key_step(m: StringMove) -> Step
         StringMove::Fault => fault_step(),
         StringMove::Go(s) => step_to(Mode::Key(s), Act::Pass),
         StringMove::Char => step_to(Mode::Key(StringMode::Char), Act::KeyChar),
-        StringMove::Close => step_to(Mode::At(Place::Colon), Act::KeyEnd),
+        StringMove::Close => step_to(Mode::At(Awaited::Colon), Act::KeyEnd),
     }
 }
 
@@ -257,7 +257,7 @@ fn text_step(m: StringMove) -> Step
         StringMove::Fault => fault_step(),
         StringMove::Go(s) => step_to(Mode::Text(s), Act::Pass),
         StringMove::Char => step_to(Mode::Text(StringMode::Char), Act::TextChar),
-        StringMove::Close => step_to(Mode::At(Place::After), Act::TextEnd),
+        StringMove::Close => step_to(Mode::At(Awaited::After), Act::TextEnd),
     }
 }
 
@@ -292,7 +292,7 @@ fn word_step(w: Word, i: u8, b: u8) -> Step
     match word_move(w, i, b) {
         WordMove::Fault => fault_step(),
         WordMove::Go => step_to(Mode::Word(w, i + 1), Act::Pass),
-        WordMove::End => step_to(Mode::At(Place::After), Act::WordEnd(w)),
+        WordMove::End => step_to(Mode::At(Awaited::After), Act::WordEnd(w)),
     }
 }
 

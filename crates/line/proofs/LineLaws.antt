@@ -20,7 +20,7 @@ use Rattle.book.specs.Line.{isForm, formOf, isKey, keyOf, isKind, kindIn, small
 use Rattle.scan.specs.Scan.{capped}
 use Rattle.line.specs.declared.Line.{Line}
 use Rattle.line.specs.declared.Cuts.{Cuts}
-use Rattle.line.specs.Line.{faulty, endLine, edgeLine, Judged, Says, seg, Cut, sayCut, formedEnd, formedEdge}
+use Rattle.line.specs.Line.{faulty, endLine, edgeLine, FieldsSay, Says, seg, Cut, sayCut, formedEnd, formedEdge}
 
 -- ---- well-formed fields
 module _ (k m : List ℕ) (r : Bool) (q : r ≡ same k dash) where
@@ -135,26 +135,26 @@ smallKind-codeOf (Rule n) = go (ltb n 32) refl
 
 -- ---- what six fields say: rule x, form f, state s, key k, value v, next m
 module _ (x f s k v m : List ℕ) (at : ℕ) (a : Bool) (qa : a ≡ formed x f s k v m) where
-  pub says-malformed : (r : Line) → not a ≡ true → r ≡ faulty 3 at → Judged k at (sayFields x f s k v m) r
+  pub says-malformed : (r : Line) → not a ≡ true → r ≡ faulty 3 at → FieldsSay k at (sayFields x f s k v m) r
   unfolding sayFields
   says-malformed r e p = rw p (record { says = rw (sym qa ∙ not-true a e); place = refl; len = omega arith })
 
-  over : (r : Line) → not a ≡ false → small x s v m ≡ false → r ≡ faulty 4 at → Judged k at (sayFields x f s k v m) r
+  over : (r : Line) → not a ≡ false → small x s v m ≡ false → r ≡ faulty 4 at → FieldsSay k at (sayFields x f s k v m) r
   unfolding sayFields
   over r e z p = rw p (record { says = rw (sym qa ∙ not-false a e, z); place = refl; len = omega arith })
 
   module _ (i : ℕ) (ea : not a ≡ false) (qi : i ≡ capped 32 (number x)) where
-    pub says-rule : (r : Line) → 32 ≤ i → r ≡ faulty 4 at → Judged k at (sayFields x f s k v m) r
+    pub says-rule : (r : Line) → 32 ≤ i → r ≡ faulty 4 at → FieldsSay k at (sayFields x f s k v m) r
     unfolding small
     says-rule r h p = over r ea (rw (ltb-of-capped-ge 32 (number x) i qi h)) p
 
     module _ (j : ℕ) (hi : i < 32) (qj : j ≡ capped 16 (number s)) where
-      pub says-state : (r : Line) → 16 ≤ j → r ≡ faulty 4 at → Judged k at (sayFields x f s k v m) r
+      pub says-state : (r : Line) → 16 ≤ j → r ≡ faulty 4 at → FieldsSay k at (sayFields x f s k v m) r
       unfolding small
       says-state r h p = over r ea (rw (eq-of-capped-lt 32 (number x) i qi hi .0, ltb-of-capped-ge 16 (number s) j qj h)) p
 
       module _ (g e : Bool) (hj : j < 16) (qg : g ≡ same f word-obj) (qe : e ≡ same v word-end) where
-        pub says-end : (r : Line) → e ≡ true → r ≡ endLine i g j at → Judged k at (sayFields x f s k v m) r
+        pub says-end : (r : Line) → e ≡ true → r ≡ endLine i g j at → FieldsSay k at (sayFields x f s k v m) r
         unfolding sayFields small entryOf formOf
         says-end r h p =
             let ci = eq-of-capped-lt 32 (number x) i qi hi in
@@ -167,7 +167,7 @@ module _ (x f s k v m : List ℕ) (at : ℕ) (a : Bool) (qa : a ≡ formed x f s
             })
 
         module _ (c : ℕ) (he : e ≡ false) (qc : c ≡ capped 38 (codeOf (kindIn v))) where
-          says-kind : (r : Line) → 38 ≤ c → r ≡ faulty 4 at → Judged k at (sayFields x f s k v m) r
+          says-kind : (r : Line) → 38 ≤ c → r ≡ faulty 4 at → FieldsSay k at (sayFields x f s k v m) r
           unfolding small
           says-kind r h p =
               over r ea
@@ -180,7 +180,7 @@ module _ (x f s k v m : List ℕ) (at : ℕ) (a : Bool) (qa : a ≡ formed x f s
               )) p
 
           module _ (n : ℕ) (hc : c < 38) (qn : n ≡ capped 16 (number m)) where
-            says-next : (r : Line) → 16 ≤ n → r ≡ faulty 4 at → Judged k at (sayFields x f s k v m) r
+            says-next : (r : Line) → 16 ≤ n → r ≡ faulty 4 at → FieldsSay k at (sayFields x f s k v m) r
             unfolding small
             says-next r h p =
                 over r ea
@@ -194,7 +194,7 @@ module _ (x f s k v m : List ℕ) (at : ℕ) (a : Bool) (qa : a ≡ formed x f s
                 )) p
 
             says-edge : (w : ℕ) → n < 16 → w ≡ length (keyOf k)
-                → Judged k at (sayFields x f s k v m) (record { fault = 0; rule = i; obj = g; state = j; kind = c; next = n; «key_at» = at; «key_len» = w })
+                → FieldsSay k at (sayFields x f s k v m) (record { fault = 0; rule = i; obj = g; state = j; kind = c; next = n; «key_at» = at; «key_len» = w })
             unfolding sayFields small entryOf formOf
             says-edge w h qw =
                 let ci = eq-of-capped-lt 32 (number x) i qi hi in
@@ -211,7 +211,7 @@ module _ (x f s k v m : List ℕ) (at : ℕ) (a : Bool) (qa : a ≡ formed x f s
 
         -- an edge, whose line may be faulty yet
         pub says-last : (r : Line) → e ≡ false → r ≡ edgeLine i g j at (capped 38 (codeOf (kindIn v))) (capped 16 (number m)) (length (keyOf k))
-            → Judged k at (sayFields x f s k v m) r
+            → FieldsSay k at (sayFields x f s k v m) r
         says-last r he p = rw p (go (ltb c 38) refl (ltb n 16) refl)
           where
             c : ℕ
@@ -221,7 +221,7 @@ module _ (x f s k v m : List ℕ) (at : ℕ) (a : Bool) (qa : a ≡ formed x f s
             n = capped 16 (number m)
 
             go : (y : Bool) → ltb c 38 ≡ y → (z : Bool) → ltb n 16 ≡ z
-                → Judged k at (sayFields x f s k v m)
+                → FieldsSay k at (sayFields x f s k v m)
                 (cond y (cond z (record { fault = 0; rule = i; obj = g; state = j; kind = c; next = n; «key_at» = at; «key_len» = length (keyOf k) }) (faulty 4 at)) (faulty 4 at))
             go false y z w = says-kind c he refl (faulty 4 at) (ltb-false c 38 y) refl
             go true y false w = says-next c he refl n (ltb-true c 38 y) refl (faulty 4 at) (ltb-false n 16 w) refl
@@ -243,7 +243,7 @@ module _ (r : ℕ) (b : Bool) (q at c c′ m′ n′ : ℕ) (qc : c ≡ c′) wh
 -- ---- a line
 
 -- the key's field lies in the line, so its first bytes are the line's
-pub key-in-line : (l : List ℕ) (a b : ℕ) (s : Said) (r : Line) → a ≤ b → b ≤ length l → Judged (seg a b l) a s r → Says l s r
+pub key-in-line : (l : List ℕ) (a b : ℕ) (s : Said) (r : Line) → a ≤ b → b ≤ length l → FieldsSay (seg a b l) a s r → Says l s r
 key-in-line l a b s r h k j =
     let n : length (seg a b l) ≡ b - a = length-take-le (b - a) (drop a l) (omega (arith, length-drop a l)) in
     let q = j .len in

@@ -77,7 +77,7 @@ edgeLine r b q at c m n =
     (faulty 4 at)
 
 -- what six fields with the key's field k, which is at `at`, are judged to say
-pub record Judged (k : List ℕ) (at : ℕ) (s : Said) (r : Line) : Type 0 where
+pub record FieldsSay (k : List ℕ) (at : ℕ) (s : Said) (r : Line) : Type 0 where
   pub says : saidWith r k ≡ s
   pub place : r .«key_at» ≡ at
   pub len : r .«key_len» ≤ length k

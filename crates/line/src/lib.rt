@@ -6,7 +6,7 @@ ghost use Rattle.table.specs.Kind.{codeOf};
 ghost use Rattle.book.specs.Text.{number};
 ghost use Rattle.book.specs.Line.{formed as isFormed, keyOf, kindIn, sayFields, sayLine};
 ghost use Rattle.scan.specs.Scan.{capped};
-ghost use Rattle.line.specs.Line.{noCuts, Cut, sayCut, Judged, Says, faulty, endLine, edgeLine, formedEnd, formedEdge};
+ghost use Rattle.line.specs.Line.{noCuts, Cut, sayCut, FieldsSay, Says, faulty, endLine, edgeLine, formedEnd, formedEdge};
 use table::bytes;
 
 const OBJ: [u8; 3] = *b"obj";
@@ -208,7 +208,7 @@ fn judge_fields(
     next: &[u8],
     at: usize,
 ) -> Line
-    ensures { λ r. ⌜ Judged (now (key .entry)) at (sayFields (now (rule .entry)) (now (form .entry)) (now (state .entry)) (now (key .entry)) (now (value .entry)) (now (next .entry))) r ⌝ }
+    ensures { λ r. ⌜ FieldsSay (now (key .entry)) at (sayFields (now (rule .entry)) (now (form .entry)) (now (state .entry)) (now (key .entry)) (now (value .entry)) (now (next .entry))) r ⌝ }
 {
     if !formed(rule, form, state, key, value, next) {
         return bad_line(3, at);

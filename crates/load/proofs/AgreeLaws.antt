@@ -13,24 +13,24 @@ use Rattle.table.specs.Flat.{emptyTable}
 use Rattle.book.specs.Entry.{Entry, keysOf}
 use Rattle.book.specs.Text.{isEmpty, split}
 use Rattle.book.specs.Line.{formed, small, entryOf, Said, bad, good, sayFields, sayParts, sayLine}
-use Rattle.book.specs.Load.{changesForm, sameEntry, tooMany, faultOf, Read, refused, entries, readOn, readLines, names, readBook, dangles, firstLine, firstClash, Answer as Paper, refuse, checkBook, checked, loads}
+use Rattle.book.specs.Load.{changesForm, sameEntry, tooMany, faultOf, Read, refused, entries, readOn, readLines, namesLine, readBook, dangles, firstLine, firstClash, PaperAnswer as Paper, refuse, checkBook, checked, loads}
 use Rattle.book.specs.Holds.{ruleForm}
 use Rattle.book.proofs.HoldLaws.{hasRule-ruleForm}
-use Rattle.load.specs.declared.Answer.{Answer}
-use Rattle.load.specs.declared.Answer.the-variants.{Size, Names, Malformed, NoRule, NoRoot, NotAscending}
-use Rattle.load.specs.Answer.{Told, tell, told}
+use Rattle.load.specs.declared.BookAnswer.{BookAnswer}
+use Rattle.load.specs.declared.BookAnswer.the-variants.{Size, Names, Malformed, NoRule, NoRoot, NotAscending}
+use Rattle.load.specs.BookAnswer.{Numbered, number-line, numbered}
 use Rattle.load.specs.Proper.{ProperSaid}
 use Rattle.load.specs.Ranges.{Ranges}
 use Rattle.load.specs.Step.{Loaded, takeEntry, tableFrom, tableOf, takeSaid, lineRefusal, loaded, refusal, takeOn, takeLines, takeBook}
 use Rattle.load.specs.Check.{checkTable}
 use Rattle.load.specs.Loads.{LoadsAs}
 use Rattle.load.proofs.ProperLaws.{sayLine-proper}
-use Rattle.load.proofs.KeptLaws.{Kept, fault-same, entry-kept, kept-empty}
+use Rattle.load.proofs.KeptLaws.{Loading, fault-same, entry-kept, kept-empty}
 use Rattle.load.proofs.OrderLaws.{danglingLine-same, clashLine-same}
 
 -- ---- faults of a line have their answers
 abbrev HasAnswer : ℕ → Type 0
-HasAnswer k = (n : ℕ) → told (lineRefusal k n) ≡ tell k n
+HasAnswer k = (n : ℕ) → numbered (lineRefusal k n) ≡ number-line k n
 
 abbrev BadSaid : Said → Type 0
 BadSaid (bad k) = HasAnswer k × (k ≡ 0 → ⊥)
@@ -94,13 +94,13 @@ tableOf-last n es e q = tableFrom-last 2 emptyTable es e ∙ ap (λ (i : ℕ). t
 
 -- the code's answer is the paper's: a refusal with its number and line and the empty table, or the table of the entries
 abbrev pub Agree : Loaded → Read → Type 0
-Agree r (refused k n) = (a : Answer) × (r ≡ refusal a) × (told a ≡ tell k n) × (k ≡ 0 → ⊥)
-Agree r (entries es) = (r ≡ loaded (tableOf es)) × Kept (tableOf es) es
+Agree r (refused k n) = (a : BookAnswer) × (r ≡ refusal a) × (numbered a ≡ number-line k n) × (k ≡ 0 → ⊥)
+Agree r (entries es) = (r ≡ loaded (tableOf es)) × Loading (tableOf es) es
 
-module _ (n : ℕ) (es : List Entry) (q : n ≡ 2 + length es) (kept : Kept (tableOf es) es) (f : Table → Loaded) (g : Entry → Read)
-    (ih : (e : Entry) → Kept (tableOf (es ++ (e ∷ []))) (es ++ (e ∷ [])) → Agree (f (tableOf (es ++ (e ∷ [])))) (g e)) where
-  line-is : (k : ℕ) → tell k n ≡ tell k (length es + 2)
-  line-is k = ap (tell k) (omega arith)
+module _ (n : ℕ) (es : List Entry) (q : n ≡ 2 + length es) (kept : Loading (tableOf es) es) (f : Table → Loaded) (g : Entry → Read)
+    (ih : (e : Entry) → Loading (tableOf (es ++ (e ∷ []))) (es ++ (e ∷ [])) → Agree (f (tableOf (es ++ (e ∷ [])))) (g e)) where
+  line-is : (k : ℕ) → number-line k n ≡ number-line k (length es + 2)
+  line-is k = ap (number-line k) (omega arith)
 
   said-agrees : (s : Said) → ProperSaid s → BadSaid s → Agree (takeOn n (takeSaid n (tableOf es) s) f) (readOn es (length es + 2) s g)
   unfolding takeOn takeSaid readOn
@@ -116,10 +116,10 @@ module _ (n : ℕ) (es : List Entry) (q : n ≡ 2 + length es) (kept : Kept (tab
           let w = eqb-false (faultOf es e) 0 z in
           (lineRefusal (faultOf es e) n, refl, faultOf-answer es e w n ∙ line-is (faultOf es e), w)
 
-malformed : (n m : ℕ) → n ≡ m → told (Malformed n) ≡ tell 3 m
-malformed n m q = ap (tell 3) q
+malformed : (n m : ℕ) → n ≡ m → numbered (Malformed n) ≡ number-line 3 m
+malformed n m q = ap (number-line 3) q
 
-lines-agree : (n : ℕ) (es : List Entry) (ls : List (List ℕ)) → n ≡ 2 + length es → Kept (tableOf es) es → Agree (takeLines n (tableOf es) ls) (readLines es ls)
+lines-agree : (n : ℕ) (es : List Entry) (ls : List (List ℕ)) → n ≡ 2 + length es → Loading (tableOf es) es → Agree (takeLines n (tableOf es) ls) (readLines es ls)
 unfolding takeLines readLines
 lines-agree n es [] q kept = (refl, kept)
 lines-agree n es (l ∷ []) q kept = go (isEmpty l)
@@ -133,13 +133,13 @@ lines-agree n es (l ∷ (x ∷ ls)) q kept =
 
 -- ---- a book
 -- no entries
-pub kept-none : Kept (tableOf []) []
+pub kept-none : Loading (tableOf []) []
 unfolding tableOf tableFrom
 kept-none = kept-empty
 
 pub book-agrees : (b : List ℕ) → Agree (takeBook b) (readBook b)
 unfolding takeBook readBook tableOf tableFrom
-book-agrees b = go (isEmpty b || ltb 65536 (length b)) (same (take 31 b) names)
+book-agrees b = go (isEmpty b || ltb 65536 (length b)) (same (take 31 b) namesLine)
   where
     go : (x y : Bool)
         → Agree (cond x (refusal Size) (cond y (takeLines 2 emptyTable (split 10 (drop 31 b))) (refusal Names)))
@@ -158,13 +158,13 @@ book-ranges b r q = rw q (go (readBook b) (book-agrees b))
 
 -- ---- the checks
 abbrev As : Loaded → Paper → Type 0
-As r p = (told (r .answer) ≡ tell (p .number) (p .line)) × (r .table ≡ tableOf (p .entries))
+As r p = (numbered (r .answer) ≡ number-line (p .number) (p .line)) × (r .table ≡ tableOf (p .entries))
 
-refusal-as : (a : Answer) (k n : ℕ) → told a ≡ tell k n → As (refusal a) (refuse k n)
+refusal-as : (a : BookAnswer) (k n : ℕ) → numbered a ≡ number-line k n → As (refusal a) (refuse k n)
 unfolding tableOf tableFrom
 refusal-as a k n e = (e, refl)
 
-check-as : (es : List Entry) → Kept (tableOf es) es → As (checkTable (tableOf es)) (checkBook es)
+check-as : (es : List Entry) → Loading (tableOf es) es → As (checkTable (tableOf es)) (checkBook es)
 unfolding checkTable checkBook
 check-as es kept =
     rw (danglingLine-same (tableOf es) es kept, clashLine-same (tableOf es) es kept, kept .holds .formed 0 (omega arith), hasRule-ruleForm es 0)
@@ -186,9 +186,9 @@ check-as es kept =
 
 -- ---- load
 
-module _ (b : List ℕ) (r : Loaded) (q : r ≡ takeBook b) (k : ℕ) (w : k ≡ told (r .answer) .number) where
-  number-is : {a : Loaded} → takeBook b ≡ a → k ≡ told (a .answer) .number
-  number-is e = w ∙ ap (λ (x : Loaded). told (x .answer) .number) (q ∙ e)
+module _ (b : List ℕ) (r : Loaded) (q : r ≡ takeBook b) (k : ℕ) (w : k ≡ numbered (r .answer) .number) where
+  number-is : {a : Loaded} → takeBook b ≡ a → k ≡ numbered (a .answer) .number
+  number-is e = w ∙ ap (λ (x : Loaded). numbered (x .answer) .number) (q ∙ e)
 
   -- a book that is read is checked
   pub load-checked : (v : Loaded) → k ≡ 0 → v ≡ checkTable (r .table) → LoadsAs b v
@@ -196,7 +196,7 @@ module _ (b : List ℕ) (r : Loaded) (q : r ≡ takeBook b) (k : ℕ) (w : k ≡
   load-checked v h u = let z = go (readBook b) (book-agrees b) in record { answer = z .0; table = z .1 }
     where
       go : (p : Read) → Agree (takeBook b) p → As v (checked p)
-      go (refused i n) a = absurd (a .3 (sym (number-is (a .1) ∙ ap (λ (x : Told). x .number) (a .2)) ∙ h))
+      go (refused i n) a = absurd (a .3 (sym (number-is (a .1) ∙ ap (λ (x : Numbered). x .number) (a .2)) ∙ h))
       go (entries es) a = rw (u ∙ ap checkTable (ap (λ (x : Loaded). x .table) (q ∙ a .0))) (check-as es (a .1))
 
   -- a book that is refused as it is read stays refused

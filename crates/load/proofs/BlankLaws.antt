@@ -10,7 +10,7 @@ use Rattle.table.specs.Flat.{part, paired, tableIn, emptyTable}
 use Rattle.table.specs.Slots.{slotSize, tableWith}
 use Rattle.table.proofs.FlatLaws.{getD-part}
 use Rattle.table.proofs.SlotLaws.{emptyTable-parts, lines-zero}
-use Rattle.load.specs.declared.Answer.{Answer}
+use Rattle.load.specs.declared.BookAnswer.{BookAnswer}
 use Rattle.load.specs.Step.{loadedAs}
 use Rattle.load.specs.Loads.{LoadsAs, Blank}
 use Rattle.load.proofs.LoadedLaws.{loads-kept, refused-table}
@@ -84,7 +84,7 @@ zero-bytes l e i h =
 empty-bytes : (l : List ℕ) → tableIn l ≡ emptyTable → (i : ℕ) → i < 7920 → getD l i 0 ≡ 0
 empty-bytes l e = zero-bytes l (e ∙ emptyTable-parts)
 
-pub loads-blank : (b l : List ℕ) (a : Answer) → LoadsAs b (loadedAs a (tableIn l)) → LoadsAs b (loadedAs a (tableIn l)) × Blank b l
+pub loads-blank : (b l : List ℕ) (a : BookAnswer) → LoadsAs b (loadedAs a (tableIn l)) → LoadsAs b (loadedAs a (tableIn l)) × Blank b l
 unfolding tableIn
 loads-blank b l a x = (x, record { refused = λ h. empty-bytes l (refused-table b (loadedAs a (tableIn l)) x h); spare = λ i u v. part-zero l 3 13 i spare u v })
   where

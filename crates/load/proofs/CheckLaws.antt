@@ -9,7 +9,7 @@ use lib.Dec.{eqb, ltb, leb}
 use lib.ListN.{length, getD, List·getD-eq-default}
 use borrow.Author.Tests.{eq-eqb, ne-eqb, lt-ltb, le-ltb, le-leb, lt-leb}
 use Rattle.table.specs.Table.{Table}
-use Rattle.load.specs.declared.Answer.the-variants.{NoRule, NoRoot, NotAscending}
+use Rattle.load.specs.declared.BookAnswer.the-variants.{NoRule, NoRoot, NotAscending}
 use Rattle.load.specs.Step.{Loaded, some, firstAt, loaded, refusal}
 use Rattle.load.specs.Check.{danglesCode, danglesAt, clashCodes, clashAt, clashesAt, lateAt, lineAt, danglingLine, clashLine, checkTable}
 

@@ -33,7 +33,7 @@ use Rattle.load.proofs.RangeLaws.{ranges-empty, ranges-takeEntry}
 use Rattle.load.proofs.TableLaws.{Sized, sized-empty, sized-withEnd, sized-withEdge, sized-withKey, tableEdges-withEdge, length-tableEdges, sameCell, hasCell-tableEdges, tableKeys-withKey, tableKeys-withEdge, tableEdges-withKey, tableKeys-withEnd, tableEdges-withEnd}
 
 -- what is kept as a book is read: the table holds the entries, and they are such as lines say
-pub record Kept (t : Table) (es : List Entry) : Type 0 where
+pub record Loading (t : Table) (es : List Entry) : Type 0 where
   pub sized : Sized t
   pub ranges : Ranges t
   pub holds : Holds t es
@@ -175,7 +175,7 @@ leb-ltb-suc m k = go (leb m k) refl
     go true e = let l = leb-true m k e in sym (lt-ltb m (k + 1) (omega arith))
     go false e = let l = leb-false m k e in sym (le-ltb m (k + 1) (omega arith))
 
-module _ (t : Table) (es : List Entry) (kept : Kept t es) where
+module _ (t : Table) (es : List Entry) (kept : Loading t es) where
   edges-count : t .edges ≡ edgeCount es
   unfolding edgesOf
   edges-count = sym (length-tableEdges t) ∙ ap length (kept .holds .edged) ∙ length-edgesFrom (keysOf es) 2 es
@@ -255,7 +255,7 @@ module _ (t : Table) (es : List Entry) (kept : Kept t es) where
             let u = p .1 in
             rw (ne-eqb (16 * r + q) (16 * a + b) (λ z. i (omega arith))) (sym (or-false rest))
 
-    kept-end : Ranges (withEnd t r (formCode f) q) → Kept (withEnd t r (formCode f) q) (es ++ (end-state r f q ∷ []))
+    kept-end : Ranges (withEnd t r (formCode f) q) → Loading (withEnd t r (formCode f) q) (es ++ (end-state r f q ∷ []))
     unfolding ruleOf formIn edgesFrom
     kept-end w = record {
       sized = sized-withEnd t (kept .sized) r (formCode f) q;
@@ -285,7 +285,7 @@ module _ (t : Table) (es : List Entry) (kept : Kept t es) where
     -- u is the table with the key of the edge
     kept-edge : (u : Table) → Sized u → u .edges < 512 → tableEdges u ≡ edgesOf es → tableKeys u ≡ addedKey (keysOf es) k → u .forms ≡ t .forms → u .ends ≡ t .ends
         → n ≡ 2 + length es → Ranges (withEdge u (formCode f) (cellFor t r q k (codeOf v) m) n)
-        → Kept (withEdge u (formCode f) (cellFor t r q k (codeOf v) m) n) (es ++ (edge r f q k v m ∷ []))
+        → Loading (withEdge u (formCode f) (cellFor t r q k (codeOf v) m) n) (es ++ (edge r f q k v m ∷ []))
     unfolding ruleOf formIn edgesFrom endsAt
     kept-edge u su lu eu ku fu nu ln w = record {
       sized = sized-withEdge u su (formCode f) (cellFor t r q k (codeOf v) m) n;
@@ -314,7 +314,7 @@ edge-shape t x y false false true false = refl
 edge-shape t x y false false false k = refl
 
 -- an entry is refused over the table as on paper
-pub fault-same : (n : ℕ) (t : Table) (es : List Entry) (e : Entry) → Kept t es → Proper e → takeEntry n t e .fault ≡ faultOf es e
+pub fault-same : (n : ℕ) (t : Table) (es : List Entry) (e : Entry) → Loading t es → Proper e → takeEntry n t e .fault ≡ faultOf es e
 unfolding takeEntry takeEdge takeEnd faultOf tooMany isEdge ruleOf formIn
 fault-same n t es (edge r f q k v m) kept p = rw (sym (forms-same t es kept (edge r f q k v m) (p .rule))) (go (formChanges (getD (t .forms) r 0) (formCode f)) refl)
   where
@@ -352,8 +352,8 @@ zero-not : {A : Type 0} (k : ℕ) → suc k ≡ 0 → A
 zero-not k e = absurd (omega arith)
 
 -- an entry that is taken is held
-pub entry-kept : (n : ℕ) (t : Table) (es : List Entry) (e : Entry) → n ≡ 2 + length es → Kept t es → Proper e → takeEntry n t e .fault ≡ 0
-    → Kept (takeEntry n t e .table) (es ++ (e ∷ []))
+pub entry-kept : (n : ℕ) (t : Table) (es : List Entry) (e : Entry) → n ≡ 2 + length es → Loading t es → Proper e → takeEntry n t e .fault ≡ 0
+    → Loading (takeEntry n t e .table) (es ++ (e ∷ []))
 unfolding takeEntry takeEdge takeEnd
 entry-kept n t es (edge r f q k v m) ln kept p =
     go (formChanges (getD (t .forms) r 0) (formCode f)) (hasCell t c) (leb 512 (t .edges)) (isNew (length k) (keyNumber (tableKeys t) k) (t .keys)) (leb 128 (t .keys))
@@ -376,7 +376,7 @@ entry-kept n t es (edge r f q k v m) ln kept p =
 
     go : (c6 c7 a w k128 : Bool) → formChanges (getD (t .forms) r 0) (formCode f) ≡ c6 → leb 512 (t .edges) ≡ a
         → isNew (length k) (keyNumber (tableKeys t) k) (t .keys) ≡ w → leb 128 (t .keys) ≡ k128
-        → Ranges (result c6 c7 a w k128 .table) → result c6 c7 a w k128 .fault ≡ 0 → Kept (result c6 c7 a w k128 .table) (es ++ (edge r f q k v m ∷ []))
+        → Ranges (result c6 c7 a w k128 .table) → result c6 c7 a w k128 .fault ≡ 0 → Loading (result c6 c7 a w k128 .table) (es ++ (edge r f q k v m ∷ []))
     go true c7 a w k128 z x y s lim e = zero-not 5 e
     go false true a w k128 z x y s lim e = zero-not 6 e
     go false false true w k128 z x y s lim e = zero-not 4 e
@@ -395,7 +395,7 @@ entry-kept n t es (end-state r f q) ln kept p =
     result c6 c7 = cond c6 (taken 6 t) (cond c7 (taken 7 t) (taken 0 (withEnd t r (formCode f) q)))
 
     go : (c6 c7 : Bool) → formChanges (getD (t .forms) r 0) (formCode f) ≡ c6 → Ranges (result c6 c7 .table) → result c6 c7 .fault ≡ 0
-        → Kept (result c6 c7 .table) (es ++ (end-state r f q ∷ []))
+        → Loading (result c6 c7 .table) (es ++ (end-state r f q ∷ []))
     go true c7 z lim e = zero-not 5 e
     go false true z lim e = zero-not 6 e
     go false false z lim e = kept-end t es kept r f q p z lim
@@ -412,7 +412,7 @@ holds-empty =
     rw emptyTable-parts
     (record { keyed = refl; edged = refl; formed = λ r l. zeros 32 r; ended = λ r q l m. bitAt-zeros 64 (16 * r + q) })
 
-pub kept-empty : Kept emptyTable []
+pub kept-empty : Loading emptyTable []
 kept-empty = record {
   sized = sized-empty;
   ranges = ranges-empty;

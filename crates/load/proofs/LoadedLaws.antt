@@ -11,7 +11,7 @@ use Rattle.table.specs.Limits.{WithinLimits, withinLimits}
 use Rattle.table.proofs.LimitLaws.{withinLimits-complete}
 use Rattle.table.specs.Flat.{emptyTable}
 use Rattle.book.specs.Entry.{Entry, keysOf, clash}
-use Rattle.book.specs.Load.{Read, refused, entries, readBook, hasRule, dangles, firstLine, clashes, firstClash, Answer as Paper, refuse, checkBook, checked, loads}
+use Rattle.book.specs.Load.{Read, refused, entries, readBook, hasRule, dangles, firstLine, clashes, firstClash, PaperAnswer as Paper, refuse, checkBook, checked, loads}
 use Rattle.book.specs.Holds.{Holds}
 use Rattle.book.proofs.HoldLaws.{Each, each-map, each-append}
 use Rattle.book.proofs.TruthLaws.{or-parts}
@@ -20,7 +20,7 @@ use Rattle.load.specs.Ranges.{Ranges}
 use Rattle.load.specs.Step.{Loaded, tableFrom, tableOf, takeBook}
 use Rattle.load.specs.Loads.{LoadsAs}
 use Rattle.load.proofs.RangeLaws.{withinLimits-of-ranges}
-use Rattle.load.proofs.KeptLaws.{Kept}
+use Rattle.load.proofs.KeptLaws.{Loading}
 use Rattle.load.proofs.AgreeLaws.{Agree, kept-none, book-agrees}
 
 -- ---- no two entries clash
@@ -88,7 +88,7 @@ checked-elim P none es h = go (eqb (firstLine (dangles es) 2 es) 0) (hasRule es 
     go true false z e = none
     go false y z e = none
 
-loads-elim : (P : List Entry → Type 0) → P [] → ((es : List Entry) → Kept (tableOf es) es → firstClash (keysOf es) 2 [] es ≡ 0 → P es) → (b : List ℕ) → P (loads b .entries)
+loads-elim : (P : List Entry → Type 0) → P [] → ((es : List Entry) → Loading (tableOf es) es → firstClash (keysOf es) 2 [] es ≡ 0 → P es) → (b : List ℕ) → P (loads b .entries)
 unfolding loads checked
 loads-elim P none h b = go (readBook b) (book-agrees b)
   where
@@ -97,8 +97,8 @@ loads-elim P none h b = go (readBook b) (book-agrees b)
     go (entries es) a = checked-elim P none es (h es (a .1))
 
 -- all that is kept as a book is read
-pub loads-kept : (b : List ℕ) → Kept (tableOf (loads b .entries)) (loads b .entries)
-loads-kept = loads-elim (λ es. Kept (tableOf es) es) kept-none (λ es k e. k)
+pub loads-kept : (b : List ℕ) → Loading (tableOf (loads b .entries)) (loads b .entries)
+loads-kept = loads-elim (λ es. Loading (tableOf es) es) kept-none (λ es k e. k)
 
 -- the table of the entries holds them
 pub loads-held : (b : List ℕ) → Holds (tableOf (loads b .entries)) (loads b .entries)

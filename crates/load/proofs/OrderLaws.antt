@@ -26,7 +26,7 @@ use Rattle.load.specs.Proper.{isArr, Proper}
 use Rattle.load.specs.Step.{firstAt}
 use Rattle.load.specs.Check.{danglesCode, danglesAt, clashCodes, clashAt, clashesAt, lateAt, lineAt, danglingLine, clashLine}
 use Rattle.load.proofs.TableLaws.{some-tab, tab-one-more}
-use Rattle.load.proofs.KeptLaws.{Kept}
+use Rattle.load.proofs.KeptLaws.{Loading}
 
 -- ---- the first edge, and the first entry
 
@@ -62,7 +62,7 @@ not-not : (b : Bool) → not (not b) ≡ b
 not-not true = refl
 not-not false = refl
 
-module _ (t : Table) (es : List Entry) (kept : Kept t es) where
+module _ (t : Table) (es : List Entry) (kept : Loading t es) where
   danglesCode-same : (r : ℕ) (f : Form) (q : ℕ) (k : List ℕ) (v : ValueKind) (m : ℕ) → codeOf v < 38 → danglesCode (t .forms) (codeOf v) ≡ dangles es (edge r f q k v m)
   unfolding danglesCode dangles codeOf
   danglesCode-same r f q k (Plain Null) m h = refl
@@ -118,7 +118,7 @@ module _ (t : Table) where
       let c = firstAt-late (suc i) n ∙ ap (λ (l : List Edge). firstLate (t .forms) l (tab (edgeAt t) (suc i) n)) b in
       rw (late-any i, c)
 
-module _ (t : Table) (es : List Entry) (kept : Kept t es) where
+module _ (t : Table) (es : List Entry) (kept : Loading t es) where
   abbrev Fine : Entry → Type 0
   Fine x = Proper x × FormKept es x
 

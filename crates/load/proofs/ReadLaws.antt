@@ -14,14 +14,14 @@ use Rattle.table.specs.Table.{Table}
 use Rattle.table.specs.Flat.{emptyTable}
 use Rattle.book.specs.Text.{isEmpty, split}
 use Rattle.book.specs.Line.{bad, good, sayLine}
-use Rattle.book.specs.Load.{names}
+use Rattle.book.specs.Load.{namesLine}
 use Rattle.book.proofs.TruthLaws.{true-not-false, and-true}
 use Rattle.scan.specs.Scan.{until}
 use Rattle.line.specs.declared.Line.{Line}
 use Rattle.line.specs.Line.{seg, entryWith, Says}
 use Rattle.line.proofs.SplitLaws.{split-more, split-last, split-some}
-use Rattle.load.specs.declared.Answer.{Answer}
-use Rattle.load.specs.declared.Answer.the-variants.{Size, Names, Malformed}
+use Rattle.load.specs.declared.BookAnswer.{BookAnswer}
+use Rattle.load.specs.declared.BookAnswer.the-variants.{Size, Names, Malformed}
 use Rattle.load.specs.Proper.{Proper, ProperSaid}
 use Rattle.load.specs.Step.{Loaded, Taken, taken, takeEntry, takeSaid, lineRefusal, loaded, refusal, takeOn, takeLines, takeBook}
 use Rattle.load.proofs.ProperLaws.{sayLine-proper}
@@ -74,7 +74,7 @@ module _ (b : List ℕ) (i n : ℕ) (t : Table) (r : Loaded) (inv : takeLines n 
           let d : y ≡ takeSaid n t (sayLine (take (p - i) (drop i b))) .table = ap (λ (v : Taken). v .table) u in
           rw (s .2, a, d) z
 
-      pub lines-bad : (a : Answer) (w : Loaded) → p < length b → (x ≡ 0 → ⊥) → a ≡ lineRefusal x n → w ≡ refusal a → w ≡ r
+      pub lines-bad : (a : BookAnswer) (w : Loaded) → p < length b → (x ≡ 0 → ⊥) → a ≡ lineRefusal x n → w ≡ refusal a → w ≡ r
       lines-bad a w h f e g = g ∙ ap refusal e ∙ rw (ne-eqb x 0 f) at (turn h)
 
       pub lines-more : p < length b → x ≡ 0 → takeLines (n + 1) y (split 10 (drop (p + 1) b)) ≡ r
@@ -93,11 +93,11 @@ unfolding isEmpty
 isEmpty-length [] = refl
 isEmpty-length (x ∷ b) = sym (ne-eqb (suc (length b)) 0 (λ z. omega arith))
 
-short-not-names : (b : List ℕ) → length b < 31 → same (take 31 b) names ≡ false
-short-not-names b h = go (same (take 31 b) names) refl
+short-not-namesLine : (b : List ℕ) → length b < 31 → same (take 31 b) namesLine ≡ false
+short-not-namesLine b h = go (same (take 31 b) namesLine) refl
   where
-    go : (c : Bool) → same (take 31 b) names ≡ c → c ≡ false
-    go true e = absurd (omega (arith, same-length (take 31 b) names e, length-take 31 b))
+    go : (c : Bool) → same (take 31 b) namesLine ≡ c → c ≡ false
+    go true e = absurd (omega (arith, same-length (take 31 b) namesLine e, length-take 31 b))
     go false e = refl
 
 module _ (b : List ℕ) (v : Loaded) where
@@ -113,9 +113,9 @@ module _ (b : List ℕ) (v : Loaded) where
     module _ (h : length b ≤ 65536) where
       pub book-short : length b < 31 → v ≡ refusal Names → v ≡ takeBook b
       unfolding takeBook
-      book-short k w = rw (isEmpty-length b, ne-eqb (length b) 0 some, le-ltb 65536 (length b) h, short-not-names b k) w
+      book-short k w = rw (isEmpty-length b, ne-eqb (length b) 0 some, le-ltb 65536 (length b) h, short-not-namesLine b k) w
 
-      module _ (c : Bool) (q : c ≡ same (take 31 b) names) where
+      module _ (c : Bool) (q : c ≡ same (take 31 b) namesLine) where
         pub book-other : c ≡ false → v ≡ refusal Names → v ≡ takeBook b
         unfolding takeBook
         book-other k w = rw (isEmpty-length b, ne-eqb (length b) 0 some, le-ltb 65536 (length b) h, sym q ∙ k) w

@@ -5,7 +5,7 @@ use Prim.Native.Nat.{ℕ, _+_, _-_}
 use lib.Dec.{leb, ltb, eqb}
 use lib.ListN.{getD}
 use Rattle.table.specs.Table.{Table}
-use Rattle.load.specs.declared.Answer.the-variants.{NoRule, NoRoot, NotAscending}
+use Rattle.load.specs.declared.BookAnswer.the-variants.{NoRule, NoRoot, NotAscending}
 use Rattle.load.specs.Step.{Loaded, some, firstAt, loaded, refusal}
 
 -- a kind with a code refers to a rule without lines

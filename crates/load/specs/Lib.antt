@@ -1,4 +1,4 @@
-pub mod Answer
+pub mod BookAnswer
 pub mod Step
 pub mod Check
 pub mod Proper

@@ -14,10 +14,10 @@ use Rattle.table.specs.Keys.{tableKeys}
 use Rattle.book.specs.Entry.{Entry, edge, end-state}
 use Rattle.book.specs.Text.{isEmpty, split}
 use Rattle.book.specs.Line.{Said, bad, good, sayLine}
-use Rattle.book.specs.Load.{names}
+use Rattle.book.specs.Load.{namesLine}
 use Rattle.book.specs.Holds.{keyNumber, formCode}
-use Rattle.load.specs.declared.Answer.{Answer}
-use Rattle.load.specs.declared.Answer.the-variants.{Accepted, Size, Names, Malformed, AboveLimit, TooMany, FormChanged, Repeated}
+use Rattle.load.specs.declared.BookAnswer.{BookAnswer}
+use Rattle.load.specs.declared.BookAnswer.the-variants.{Accepted, Size, Names, Malformed, AboveLimit, TooMany, FormChanged, Repeated}
 use Rattle.load.specs.declared.store.Cell.{Cell}
 
 -- ---- numbers below a bound
@@ -146,22 +146,22 @@ takeSaid n t (good e) = takeEntry n t e
 -- ---- all lines
 
 -- the answer for a fault of line n
-unfoldable pub lineRefusal : ℕ → ℕ → Answer
+unfoldable pub lineRefusal : ℕ → ℕ → BookAnswer
 lineRefusal k n =
     cond (eqb k 3) (Malformed n) (cond (eqb k 4) (AboveLimit n) (cond (eqb k 6) (FormChanged n) (cond (eqb k 7) (Repeated n) (TooMany n))))
 
 -- the answer, and the table: that of the book where it is accepted, else an empty one
 pub record Loaded : Type 0 where
-  pub answer : Answer
+  pub answer : BookAnswer
   pub table : Table
 
-abbrev pub loadedAs : Answer → Table → Loaded
+abbrev pub loadedAs : BookAnswer → Table → Loaded
 loadedAs a t = record { answer = a; table = t }
 
 abbrev pub loaded : Table → Loaded
 loaded t = loadedAs Accepted t
 
-abbrev pub refusal : Answer → Loaded
+abbrev pub refusal : BookAnswer → Loaded
 refusal a = loadedAs a emptyTable
 
 -- the rest of the book behind line n, where the line is taken
@@ -178,4 +178,4 @@ takeLines n t (l ∷ (x ∷ ls)) = takeOn n (takeSaid n t (sayLine l)) (λ u. ta
 unfoldable pub takeBook : List ℕ → Loaded
 takeBook b =
     cond (isEmpty b || ltb 65536 (length b)) (refusal Size)
-    (cond (same (take 31 b) names) (takeLines 2 emptyTable (split 10 (drop 31 b))) (refusal Names))
+    (cond (same (take 31 b) namesLine) (takeLines 2 emptyTable (split 10 (drop 31 b))) (refusal Names))

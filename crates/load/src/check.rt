@@ -5,7 +5,7 @@ ghost use lib.ListN.{getD};
 ghost use Rattle.table.specs.Flat.{tableIn};
 ghost use Rattle.load.specs.Step.{loadedAs};
 ghost use Rattle.load.specs.Check.{danglesCode, clashCodes, clashAt, clashesAt, lateAt, danglingLine, clashLine, checkTable};
-use crate::Answer;
+use crate::BookAnswer;
 use crate::read;
 use table::flat;
 
@@ -123,20 +123,20 @@ fn clash_line(table: &[u8; 7920]) -> usize
 }
 
 // The table, or refusals 8 and 9.
-pub fn check_table(table: &mut [u8; 7920]) -> Answer
+pub fn check_table(table: &mut [u8; 7920]) -> BookAnswer
     requires { ⌜ tableIn (now table) .edges ≤ 512 ⌝ }
     ensures { λ r. ⌜ loadedAs r (tableIn (now (table .exit))) ≡ checkTable (tableIn (now (table .entry))) ⌝ }
 {
     let d = dangling_line(table);
     if d != 0 {
-        return read::refusal(table, Answer::NoRule(d));
+        return read::refusal(table, BookAnswer::NoRule(d));
     }
     if flat::form(table, 0) == 0 {
-        return read::refusal(table, Answer::NoRoot);
+        return read::refusal(table, BookAnswer::NoRoot);
     }
     let c = clash_line(table);
     if c != 0 {
-        return read::refusal(table, Answer::NotAscending(c));
+        return read::refusal(table, BookAnswer::NotAscending(c));
     }
-    Answer::Accepted
+    BookAnswer::Accepted
 }

@@ -1,6 +1,6 @@
 // Load: the table that a rule book says, or the refusal that 01 gives it.
 ghost use mathlib.Core.Path.{_≡_};
-ghost use Rattle.load.specs.Answer.{told};
+ghost use Rattle.load.specs.BookAnswer.{numbered};
 ghost use Rattle.table.specs.Flat.{tableIn};
 ghost use Rattle.load.specs.Loads.{LoadsAs, Blank};
 ghost use Rattle.load.specs.Step.{loadedAs};
@@ -10,7 +10,7 @@ mod read; // read.rt: a book line by line, refusals 1 to 7
 mod check; // check.rt: the checks after all lines, refusals 8 and 9
 
 // What load says of a book: accepted, or a refusal with its line where 01 gives it one.
-pub enum Answer {
+pub enum BookAnswer {
     Accepted,
     // 1: empty, or over 65,536 bytes
     Size,
@@ -35,47 +35,47 @@ pub enum Answer {
 }
 
 // The number of a refusal in 01; 0 for a book that is accepted.
-pub fn number_of(a: Answer) -> u8
-    ensures { λ r. ⌜ r ≡ told a .number ⌝ }
+pub fn number_of(a: BookAnswer) -> u8
+    ensures { λ r. ⌜ r ≡ numbered a .number ⌝ }
 {
     match a {
-        Answer::Accepted => 0,
-        Answer::Size => 1,
-        Answer::Names => 2,
-        Answer::Malformed(_) => 3,
-        Answer::AboveLimit(_) => 4,
-        Answer::TooMany(_) => 5,
-        Answer::FormChanged(_) => 6,
-        Answer::Repeated(_) => 7,
-        Answer::NoRule(_) => 8,
-        Answer::NoRoot => 8,
-        Answer::NotAscending(_) => 9,
+        BookAnswer::Accepted => 0,
+        BookAnswer::Size => 1,
+        BookAnswer::Names => 2,
+        BookAnswer::Malformed(_) => 3,
+        BookAnswer::AboveLimit(_) => 4,
+        BookAnswer::TooMany(_) => 5,
+        BookAnswer::FormChanged(_) => 6,
+        BookAnswer::Repeated(_) => 7,
+        BookAnswer::NoRule(_) => 8,
+        BookAnswer::NoRoot => 8,
+        BookAnswer::NotAscending(_) => 9,
     }
 }
 
 // The line of a refusal in 01; 0 where it gives none.
-pub fn line_of(a: Answer) -> usize
-    ensures { λ r. ⌜ r ≡ told a .line ⌝ }
+pub fn line_of(a: BookAnswer) -> usize
+    ensures { λ r. ⌜ r ≡ numbered a .line ⌝ }
 {
     match a {
-        Answer::Accepted => 0,
-        Answer::Size => 0,
-        Answer::Names => 1,
-        Answer::Malformed(n) => n,
-        Answer::AboveLimit(n) => n,
-        Answer::TooMany(n) => n,
-        Answer::FormChanged(n) => n,
-        Answer::Repeated(n) => n,
-        Answer::NoRule(n) => n,
-        Answer::NoRoot => 0,
-        Answer::NotAscending(n) => n,
+        BookAnswer::Accepted => 0,
+        BookAnswer::Size => 0,
+        BookAnswer::Names => 1,
+        BookAnswer::Malformed(n) => n,
+        BookAnswer::AboveLimit(n) => n,
+        BookAnswer::TooMany(n) => n,
+        BookAnswer::FormChanged(n) => n,
+        BookAnswer::Repeated(n) => n,
+        BookAnswer::NoRule(n) => n,
+        BookAnswer::NoRoot => 0,
+        BookAnswer::NotAscending(n) => n,
     }
 }
 
 // Loads a rule book, whose bytes stay as they are. Every byte string has an answer: the number and line that the paper's `loads` gives it, and
 // the table of the entries that it gives; every byte of a refused book's table is 0. Ruled out are, for example, a program that reports the
 // earlier line of a pair of clashing edges, and one that finds a repeated line only where it directly follows.
-pub fn load(book: &[u8], table: &mut [u8; 7920]) -> Answer
+pub fn load(book: &[u8], table: &mut [u8; 7920]) -> BookAnswer
     ensures { λ r. ⌜ LoadsAs (now (book .entry)) (loadedAs r (tableIn (now (table .exit)))) ⌝ }
     ensures { λ _. ⌜ Blank (now (book .entry)) (now (table .exit)) ⌝ }
 {

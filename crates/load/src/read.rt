@@ -7,14 +7,14 @@ ghost use Rattle.table.specs.Flat.{tableIn, emptyTable};
 ghost use Rattle.table.specs.Limits.{WithinLimits};
 ghost use Rattle.book.specs.Line.{sayLine};
 ghost use Rattle.load.specs.Step.{taken, loadedAs, refusal as refusalOf, lineRefusal, takeSaid, takeLines, takeBook};
-use crate::Answer;
+use crate::BookAnswer;
 use crate::store;
 use table::bytes;
 
 const NAMES: [u8; 31] = *b"rule form state key value next\n";
 
 // A refusal, with an empty table.
-pub fn refusal(table: &mut [u8; 7920], answer: Answer) -> Answer
+pub fn refusal(table: &mut [u8; 7920], answer: BookAnswer) -> BookAnswer
     ensures { λ r. ⌜ loadedAs r (tableIn (now (table .exit))) ≡ refusalOf answer ⌝ }
 {
     store::clear(table);
@@ -22,22 +22,22 @@ pub fn refusal(table: &mut [u8; 7920], answer: Answer) -> Answer
 }
 
 // The answer for a fault of line n.
-fn line_refusal(fault: u8, n: usize) -> Answer
+fn line_refusal(fault: u8, n: usize) -> BookAnswer
     ensures { λ r. ⌜ r ≡ lineRefusal fault n ⌝ }
 {
     if fault == 3 {
-        return Answer::Malformed(n);
+        return BookAnswer::Malformed(n);
     }
     if fault == 4 {
-        return Answer::AboveLimit(n);
+        return BookAnswer::AboveLimit(n);
     }
     if fault == 6 {
-        return Answer::FormChanged(n);
+        return BookAnswer::FormChanged(n);
     }
     if fault == 7 {
-        return Answer::Repeated(n);
+        return BookAnswer::Repeated(n);
     }
-    Answer::TooMany(n)
+    BookAnswer::TooMany(n)
 }
 
 // A line without its LF, as line n.
@@ -56,7 +56,7 @@ fn take_line(table: &mut [u8; 7920], n: u16, l: &[u8]) -> u8
 }
 
 // The lines behind the names line.
-fn take_lines(table: &mut [u8; 7920], b: &[u8]) -> Answer
+fn take_lines(table: &mut [u8; 7920], b: &[u8]) -> BookAnswer
     requires { ⌜ (31 ≤ length (now b)) × (length (now b) ≤ 65536) ⌝ }
     ensures { λ r. ⌜ loadedAs r (tableIn (now (table .exit))) ≡ takeLines 2 emptyTable (split 10 (drop 31 (now (b .entry)))) ⌝ }
 {
@@ -66,7 +66,7 @@ fn take_lines(table: &mut [u8; 7920], b: &[u8]) -> Answer
     while i < b.len() {
         let p = scan::find(b, i, 10);
         if b.len() <= p {
-            return refusal(table, Answer::Malformed(n));
+            return refusal(table, BookAnswer::Malformed(n));
         }
         let f = take_line(table, n as u16, &b[i..p]);
         if f != 0 {
@@ -75,24 +75,24 @@ fn take_lines(table: &mut [u8; 7920], b: &[u8]) -> Answer
         i = p + 1;
         n += 1;
     }
-    Answer::Accepted
+    BookAnswer::Accepted
 }
 
 // The table of the lines of a book, or refusals 1 to 7.
-pub fn take_book(table: &mut [u8; 7920], b: &[u8]) -> Answer
+pub fn take_book(table: &mut [u8; 7920], b: &[u8]) -> BookAnswer
     ensures { λ r. ⌜ loadedAs r (tableIn (now (table .exit))) ≡ takeBook (now (b .entry)) ⌝ }
 {
     if b.len() == 0 {
-        return refusal(table, Answer::Size);
+        return refusal(table, BookAnswer::Size);
     }
     if 65536 < b.len() {
-        return refusal(table, Answer::Size);
+        return refusal(table, BookAnswer::Size);
     }
     if b.len() < 31 {
-        return refusal(table, Answer::Names);
+        return refusal(table, BookAnswer::Names);
     }
     if bytes::equal(&b[0..31], &NAMES) {
         return take_lines(table, b);
     }
-    refusal(table, Answer::Names)
+    refusal(table, BookAnswer::Names)
 }

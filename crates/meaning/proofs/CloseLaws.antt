@@ -18,7 +18,7 @@ use Rattle.table.specs.declared.kind.ValueKind.the-variants.{Plain, Rule}
 use Rattle.table.specs.declared.kind.Finished.the-variants as Done
 use Rattle.book.specs.Entry.{obj, arr, Entry, keysOf}
 use Rattle.book.specs.Holds.{formCode}
-use Rattle.runs.specs.Walk.{ofScalar, ofRules, hasKey, States, OpenObject, startOf, ended, keyCount, useKey, walk, objectFits}
+use Rattle.runs.specs.Walk.{ofScalar, ofRules, hasKey, States, OpenObject, startOf, hasEnd, keyCount, useKey, walk, objectFits}
 use Rattle.runs.proofs.EdgeLaws.{EdgeFrom}
 use Rattle.runs.proofs.StepLaws.{walk-last, useKey-unseen, walk-more}
 use Rattle.frame.specs.Frame.{heldIn}
@@ -27,9 +27,9 @@ use Rattle.frame.proofs.OpenLaws.{bitAt-startStates}
 use Rattle.frame.proofs.PartLaws.{heldIn-of-drop}
 use Rattle.frame.proofs.WalkLaws.{bitAt-keyStates, walked-seen, walked-unseen}
 use Rattle.frame.proofs.CloseLaws.{ruleFits-closed-marked, ruleFits-closed-object, ruleFits-closed-array}
-use Rattle.meaning.specs.Shows.{Kept, lentEdges, closedBy, ShowsValue, stateBit, ShowsStates, ShowsArray, ShowsObject}
+use Rattle.meaning.specs.Shows.{Carries, lentEdges, closedBy, ShowsValue, stateBit, ShowsStates, ShowsArray, ShowsObject}
 use Rattle.meaning.proofs.EdgeLaws.{keyCount-le, below-of-edge, hasKey-iff}
-use Rattle.meaning.proofs.StateLaws.{shows-start, shows-moved, accepting-ended}
+use Rattle.meaning.proofs.StateLaws.{shows-start, shows-moved, accepting-hasEnd}
 
 -- ---- scalars
 
@@ -52,17 +52,17 @@ pub ruleFits-root : (rules : ℕ) (fits : ℕ → Bool) → ShowsValue (Done.Rul
 unfolding ofRules codeOf
 ruleFits-root rules fits h = h (Rule 0) (lit< tt)
 
-module _ {t : Table} {es : List Entry} (kept : Kept t es) where
+module _ {t : Table} {es : List Entry} (kept : Carries t es) where
   -- ---- arrays
 
   -- a closed array fits the `arr` rules that have an end state among its states
-  pub shows-array : {f : List ℕ} {S : States} → ShowsArray f S → ShowsValue (Done.Rules (closedBy t f)) (ofRules (ended es arr S))
+  pub shows-array : {f : List ℕ} {S : States} → ShowsArray f S → ShowsValue (Done.Rules (closedBy t f)) (ofRules (hasEnd es arr S))
   unfolding formCode
   shows-array {f} {S} h =
-      shows-rules (closedBy t f) (ended es arr S)
+      shows-rules (closedBy t f) (hasEnd es arr S)
       (λ r l.
       ruleFits-closed-array (lentEdges t) (t .forms) (t .ends) f (h .array) r
-      ∙ accepting-ended kept arr (drop 32 f) S (λ n q a b. sym (heldIn-of-drop f (stateBit n q)) ∙ h .states n q a b) r l)
+      ∙ accepting-hasEnd kept arr (drop 32 f) S (λ n q a b. sym (heldIn-of-drop f (stateBit n q)) ∙ h .states n q a b) r l)
 
   -- ---- objects
 
@@ -128,12 +128,12 @@ module _ {t : Table} {es : List Entry} (kept : Kept t es) where
     unfolding objectFits bits after formCode
     ruleFits-object r l = go (o .marked) refl
       where
-        go : (b : Bool) → o .marked ≡ b → ruleFits (closedBy t f) r ≡ (not b && ended es obj (after (keyCount es)) r)
+        go : (b : Bool) → o .marked ≡ b → ruleFits (closedBy t f) r ≡ (not b && hasEnd es obj (after (keyCount es)) r)
         go true e = ruleFits-closed-marked (lentEdges t) (t .forms) (t .ends) f (h .object) (h .mark ∙ e) r
         go false e =
             ruleFits-closed-object (lentEdges t) (t .forms) (t .ends) f (h .object) (h .mark ∙ e) r
-            ∙ accepting-ended kept obj (bits 128) (after 128) (shows-walk 128 (omega arith)) r l
-            ∙ ap (λ (S : States). ended es obj S r) after-128
+            ∙ accepting-hasEnd kept obj (bits 128) (after 128) (shows-walk 128 (omega arith)) r l
+            ∙ ap (λ (S : States). hasEnd es obj S r) after-128
 
     -- a closed object fits the `obj` rules that have an end state after the walk over its keys, and none with the mark
     pub shows-object : ShowsValue (Done.Rules (closedBy t f)) (ofRules (objectFits es o))

@@ -23,7 +23,7 @@ use Rattle.book.specs.Holds.{Edge, edgeAt, tableEdges, keyNumber, edgesFrom, ed
 use Rattle.runs.specs.Walk.{asks, ofArray, hasKey, keyCount}
 use Rattle.runs.proofs.EdgeLaws.{EdgeFrom, this-edge, past-edge, past-end, le-of-edge, member-of-edge}
 use Rattle.frame.specs.Edges.{hasForm, fitsCode}
-use Rattle.meaning.specs.Shows.{Kept, ShowsValue}
+use Rattle.meaning.specs.Shows.{Carries, ShowsValue}
 use Rattle.meaning.proofs.FormLaws.{of-rule, hasForm-iff, form-eq-of-ofRule}
 
 -- ---- the numbers of an edge
@@ -76,7 +76,7 @@ edge-of-edgesFrom ks n i (end-state r f q ∷ es) j h = let (x, g) = edge-of-edg
 pub data EdgeAt (es : List Entry) (e : ℕ) : Type 0 where
   edge-at : {r q m : ℕ} {f : Form} {k : List ℕ} {v : ValueKind} → EdgeFrom 0 es e (edge r f q k v m) → EdgeAt es e
 
-module _ {t : Table} {es : List Entry} (kept : Kept t es) where
+module _ {t : Table} {es : List Entry} (kept : Carries t es) where
   -- there are at most 128 keys
   pub keyCount-le : keyCount es ≤ 128
   unfolding keyCount tableKeys

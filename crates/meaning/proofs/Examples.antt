@@ -1,4 +1,4 @@
--- `Kept` can be met: the table of book B of 01 keeps book B, by computation. Assumes nothing.
+-- `Carries` can be met: the table of book B of 01 keeps book B, by computation. Assumes nothing.
 use mathlib.Core.Bool.{Bool, true, false, not, _&&_, Bool·beq}
 use mathlib.Core.List.{List, [], _∷_, _++_}
 use mathlib.Core.Path.{_≡_, refl}
@@ -20,7 +20,7 @@ use Rattle.book.specs.Load.{ruleOf, formIn, changesForm}
 use Rattle.book.specs.Holds.{tableEdges, keyNumber, edgesFrom, edgesOf, formCode, ruleForm, endsAt, Holds}
 use Rattle.runs.specs.Examples.{bookB}
 use Rattle.laws.proofs.ListLaws.{T-of-all}
-use Rattle.meaning.specs.Shows.{EdgeLimits, Kept}
+use Rattle.meaning.specs.Shows.{EdgeLimits, Carries}
 
 -- ---- what is asked of entries, as a test
 
@@ -53,7 +53,7 @@ form-eq-of-unchanged a b h e = go (formIn a) (formIn b) (rw (eq-eqb (ruleOf a) (
     go arr arr h = refl
 
 -- a table that holds entries which pass the test keeps them
-kept-of-inOrder : (t : Table) (es : List Entry) → Holds t es → t .edges ≤ 512 → t .keys ≤ 128 → T (inOrder es) → Kept t es
+kept-of-inOrder : (t : Table) (es : List Entry) → Holds t es → t .edges ≤ 512 → t .keys ≤ 128 → T (inOrder es) → Carries t es
 unfolding inOrder within rightKey
 kept-of-inOrder t es h m n p = record {
   holds = h;
@@ -127,6 +127,6 @@ holds-b = record {
     right r q = Bool·beq (bitAt (tableB .ends) (16 * r + q)) (any (endsAt r q) bookB)
 
 -- it keeps book B
-pub kept-b : Kept tableB bookB
+pub kept-b : Carries tableB bookB
 unfolding inOrder within rightKey all changesForm sameForm ruleOf formIn codeOf
 kept-b = kept-of-inOrder tableB bookB holds-b (lit≤ tt) (lit≤ tt) tt

@@ -20,7 +20,7 @@ use Rattle.laws.proofs.ListLaws.{member-of-any}
 use Rattle.runs.proofs.StateLaws.{start-of-edge, start-of-end, zero-of-start}
 use Rattle.frame.specs.Edges.{hasForm}
 use Rattle.frame.proofs.EdgeLaws.{hasForm-below, below-of-hasForm}
-use Rattle.meaning.specs.Shows.{Kept}
+use Rattle.meaning.specs.Shows.{Carries}
 
 -- an entry of rule n, which has form f
 pub data OfRule (es : List Entry) (f : Form) (n : ℕ) : Type 0 where
@@ -105,7 +105,7 @@ startOf-iff es f n q = (
 
 -- ---- a table's rules
 
-module _ {t : Table} {es : List Entry} (kept : Kept t es) where
+module _ {t : Table} {es : List Entry} (kept : Carries t es) where
   -- the rule of an entry is below 32
   rule-lt : (x : Entry) → x ∈ es → ruleOf x < 32
   unfolding ruleOf

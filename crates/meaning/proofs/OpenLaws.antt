@@ -17,11 +17,11 @@ use Rattle.frame.specs.Frame.{currentKey, marked, seenIn, heldIn}
 use Rattle.frame.specs.Ops.{opened, keyed}
 use Rattle.frame.proofs.OpenLaws.{length-opened, isObject-opened, currentKey-opened, marked-opened, seenIn-opened, heldIn-opened-object, heldIn-opened-array}
 use Rattle.frame.proofs.KeyLaws.{length-keyed, isObject-keyed, heldIn-keyed, currentKey-keyed, marked-keyed-known, marked-keyed-unknown, seenIn-keyed}
-use Rattle.meaning.specs.Shows.{Kept, ShowsArray, ShowsKey, ShowsObject}
+use Rattle.meaning.specs.Shows.{Carries, ShowsArray, ShowsKey, ShowsObject}
 use Rattle.meaning.proofs.EdgeLaws.{keyCount-le}
 use Rattle.meaning.proofs.StateLaws.{eq-of-iff, shows-start}
 
-module _ {t : Table} {es : List Entry} (kept : Kept t es) where
+module _ {t : Table} {es : List Entry} (kept : Carries t es) where
   -- ---- opening
 
   -- an array that was just opened has state 0 of every `arr` rule

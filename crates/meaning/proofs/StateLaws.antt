@@ -14,14 +14,14 @@ use Rattle.book.specs.Entry.{Form, Entry, edge, end-state}
 use Rattle.book.specs.Load.{ruleOf, formIn}
 use Rattle.book.specs.Holds.{formCode, endsAt}
 use Rattle.runs.specs.Runs.{_∈_}
-use Rattle.runs.specs.Walk.{States, startOf, moved, ended}
+use Rattle.runs.specs.Walk.{States, startOf, moved, hasEnd}
 use Rattle.laws.proofs.ListLaws.{any-of-member, member-of-any}
 use Rattle.runs.proofs.EdgeLaws.{EdgeFrom, member-of-edge}
-use Rattle.runs.proofs.StateLaws.{EndIn, end-in, ended-of-end, end-of-ended, MoveTo, move-to, moved-of-edge, edge-of-moved}
+use Rattle.runs.proofs.StateLaws.{EndIn, end-in, hasEnd-of-end, end-of-hasEnd, MoveTo, move-to, moved-of-edge, edge-of-moved}
 use Rattle.frame.specs.Edges.{edgeCount, hasForm, stateNumber}
 use Rattle.frame.specs.Ops.{accepting}
 use Rattle.frame.proofs.RuleLaws.{accepting-iff}
-use Rattle.meaning.specs.Shows.{Kept, stateBit, ShowsStates}
+use Rattle.meaning.specs.Shows.{Carries, stateBit, ShowsStates}
 use Rattle.meaning.proofs.FormLaws.{OfRule, of-rule, startOf-iff, hasForm-iff, form-eq-of-ofRule}
 use Rattle.meaning.proofs.EdgeLaws.{EdgeAt, edge-at, edge-of-below, below-of-edge, numbers-of-edge}
 
@@ -39,7 +39,7 @@ Reached t bits P Q next =
     ↔ ((e : ℕ) × (e < edgeCount (t .edges)) × P e × Q e × T (bits (stateNumber (t .«edge_rule») (t .«edge_state») e))
     × (stateNumber (t .«edge_rule») (t .«edge_next») e ≡ j))
 
-module _ {t : Table} {es : List Entry} (kept : Kept t es) where
+module _ {t : Table} {es : List Entry} (kept : Carries t es) where
   -- ---- startOf
 
   -- state 0 of each rule of a form
@@ -91,20 +91,20 @@ module _ {t : Table} {es : List Entry} (kept : Kept t es) where
   -- ---- ended
 
   -- a rule accepts where it is of the form and has an end state among the states
-  pub accepting-ended : (f : Form) (s : List ℕ) (S : States) → ShowsStates (bitAt s) S → (r : ℕ) → r < 32
-      → accepting (t .forms) (t .ends) (formCode f) s r ≡ ended es f S r
+  pub accepting-hasEnd : (f : Form) (s : List ℕ) (S : States) → ShowsStates (bitAt s) S → (r : ℕ) → r < 32
+      → accepting (t .forms) (t .ends) (formCode f) s r ≡ hasEnd es f S r
   unfolding endsAt ruleOf formIn
-  accepting-ended f s S shows r l = eq-of-iff (accepting (t .forms) (t .ends) (formCode f) s r) (ended es f S r) (ends, accepts)
+  accepting-hasEnd f s S shows r l = eq-of-iff (accepting (t .forms) (t .ends) (formCode f) s r) (hasEnd es f S r) (ends, accepts)
     where
-      end : (q : ℕ) → T (S r q) → OfRule es f r → (x : Entry) → x ∈ es → T (endsAt r q x) → T (ended es f S r)
+      end : (q : ℕ) → T (S r q) → OfRule es f r → (x : Entry) → x ∈ es → T (endsAt r q x) → T (hasEnd es f S r)
       end q b o (edge r′ g q′ k v m) i h = absurd h
       end q b o (end-state r′ g q′) i h =
           let er : r′ ≡ r = eqb→eq r′ r (T-and-left (eqb r′ r) (eqb q′ q) h) in
           let eq : q′ ≡ q = eqb→eq q′ q (T-and-right (eqb r′ r) (eqb q′ q) h) in
           let ef : g ≡ f = form-eq-of-ofRule kept o i er in
-          ended-of-end es S (rw (er, ef, eq) at i) b
+          hasEnd-of-end es S (rw (er, ef, eq) at i) b
 
-      ends : T (accepting (t .forms) (t .ends) (formCode f) s r) → T (ended es f S r)
+      ends : T (accepting (t .forms) (t .ends) (formCode f) s r) → T (hasEnd es f S r)
       ends h =
           let (o, w) = accepting-iff (t .forms) (t .ends) (formCode f) s r .0 h in
           let (x, i, g) = member-of-any (endsAt r (w .0)) es (rw (kept .holds .ended r (w .0) l (w .1)) at (w .3)) in
@@ -123,5 +123,5 @@ module _ {t : Table} {es : List Entry} (kept : Kept t es) where
             ),
           )
 
-      accepts : T (ended es f S r) → T (accepting (t .forms) (t .ends) (formCode f) s r)
-      accepts h = accept (end-of-ended es f S r h)
+      accepts : T (hasEnd es f S r) → T (accepting (t .forms) (t .ends) (formCode f) s r)
+      accepts h = accept (end-of-hasEnd es f S r h)

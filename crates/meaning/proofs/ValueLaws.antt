@@ -21,7 +21,7 @@ use Rattle.runs.proofs.StepLaws.{inKeys-afterValue}
 use Rattle.frame.specs.Edges.{edgeCount, hasForm, fitsCode}
 use Rattle.frame.specs.Frame.{currentKey, heldIn}
 use Rattle.frame.proofs.ValueLaws.{length-valued, isObject-valued, currentKey-valued, marked-valued, seenIn-valued, heldIn-valued-object, heldIn-valued-array}
-use Rattle.meaning.specs.Shows.{Kept, lentEdges, valuedBy, ShowsValue, ShowsArray, ShowsObject}
+use Rattle.meaning.specs.Shows.{Carries, lentEdges, valuedBy, ShowsValue, ShowsArray, ShowsObject}
 use Rattle.meaning.proofs.EdgeLaws.{keyCount-le, EdgeAt, edge-at, edge-of-below, below-of-edge, hasKey-iff, fitsCode-asks, arr-iff}
 use Rattle.meaning.proofs.StateLaws.{eq-of-iff, shows-moved}
 
@@ -43,7 +43,7 @@ known-of-currentKey {es} {f} {o} h l = go (decLt (o .current) (keyCount es))
 abbrev Added : Table → Finished → List ℕ → ℕ → Type 0
 Added t v f e = (currentKey f < 128) × (e < edgeCount (t .edges)) × (getD (t .«edge_key») e 0 ≡ currentKey f) × T (fitsCode v (getD (t .«edge_kind») e 0))
 
-module _ {t : Table} {es : List Entry} (kept : Kept t es) where
+module _ {t : Table} {es : List Entry} (kept : Carries t es) where
   -- ---- in an object
 
   module _ {f : List ℕ} {o : OpenObject} {v : Finished} {w : ValueKind → Bool} (h : ShowsObject es f o) (s : ShowsValue v w) where

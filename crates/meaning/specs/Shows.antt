@@ -30,7 +30,7 @@ pub record EdgeLimits (r q : ℕ) (v : ValueKind) (m : ℕ) : Type 0 where
   pub next : m < 16
 
 -- a table keeps the entries of a book
-pub record Kept (t : Table) (es : List Entry) : Type 0 where
+pub record Carries (t : Table) (es : List Entry) : Type 0 where
   -- it holds them
   pub holds : Holds t es
   -- each is within its limits

@@ -17,10 +17,10 @@ use Rattle.json.specs.declared.lexer.Step.{Step}
 use Rattle.table.specs.Table.{Table}
 use Rattle.progress.specs.declared.Fault.{Fault}
 use Rattle.progress.specs.declared.Fault.the-variants as F
-use Rattle.progress.specs.declared.Lex.{Lex}
+use Rattle.progress.specs.declared.Progress.{Progress}
 use Rattle.progress.specs.declared.Advanced.{Advanced}
 use Rattle.progress.specs.declared.Task.the-variants as To
-use Rattle.progress.specs.Lex.{bump, advance, moved, acted, sound, advanced}
+use Rattle.progress.specs.Progress.{bump, advance, moved, acted, sound, advanced}
 use Rattle.progress.specs.Memory.{Mem, mem, topAt, perform, stepMem, runMem, endsRecord}
 use Rattle.pass.specs.Pass.{isQuiet, passes, isSound, readsOn}
 
@@ -57,19 +57,19 @@ reads-by false F.Malformed e = never e
 reads-by false F.TooDeep e = never e
 reads-by false F.TooLong e = never e
 
-pub reads-told : (x : Lex) → readsOn x ≡ true → (x .head ≡ false) × (x .fault ≡ F.Sound)
+pub reads-told : (x : Progress) → readsOn x ≡ true → (x .head ≡ false) × (x .fault ≡ F.Sound)
 unfolding readsOn
 reads-told x e = reads-by (x .head) (x .fault) e
 
 -- ---- one byte
 
 -- a byte that is no RS, of a record that is read and may go on
-pub advanced-acted : (x : Lex) (n b : ℕ) (st : Step) → x .head ≡ false → x .fault ≡ F.Sound → x .pos < 16777216 → (b ≡ 0x1E → ⊥)
+pub advanced-acted : (x : Progress) (n b : ℕ) (st : Step) → x .head ≡ false → x .fault ≡ F.Sound → x .pos < 16777216 → (b ≡ 0x1E → ⊥)
     → advanced x n b st ≡ acted (st .act) (st .ends) x n b (st .mode)
 unfolding advanced sound
 advanced-acted x n b st h f p r = rw (ne-eqb b 0x1E r, h, f, lt-ltb (x .pos) 16777216 p)
 
-quiet-acted : (a : Act) (x : Lex) (n b : ℕ) (m : Mode) → isQuiet a ≡ true → acted a false x n b m ≡ advance (moved x b m (x .level) (x .len)) To.Idle
+quiet-acted : (a : Act) (x : Progress) (n b : ℕ) (m : Mode) → isQuiet a ≡ true → acted a false x n b m ≡ advance (moved x b m (x .level) (x .len)) To.Idle
 quiet-acted A.Fault x n b m e = never e
 quiet-acted A.Pass x n b m e = refl
 quiet-acted A.OpenArray x n b m e = never e
@@ -89,7 +89,7 @@ pub bump-below : (p : ℕ) → p < 16777216 → bump p ≡ p + 1
 unfolding bump
 bump-below p h = rw (lt-ltb p 4294967295 (omega arith))
 
-no-end : (x : Lex) (b : ℕ) → (b ≡ 0x1E → ⊥) → endsRecord x b ≡ false
+no-end : (x : Progress) (b : ℕ) → (b ≡ 0x1E → ⊥) → endsRecord x b ≡ false
 unfolding endsRecord
 no-end x b r = rw (ne-eqb b 0x1E r)
 
@@ -98,10 +98,10 @@ pub next-run : (t : Table) (n : ℕ) (m k : Mem) (s : List ℕ) (i : ℕ) → i 
     → runMem t n k (i + 1) (drop (i + 1) s) ≡ runMem t n m i (drop i s)
 unfolding runMem
 next-run t n m k s i h r q =
-    rw (drop-cons s i 0, no-end (m .lex) (getD s i 0) r, q)
+    rw (drop-cons s i 0, no-end (m .progress) (getD s i 0) r, q)
     (ap (λ (j : ℕ). runMem t n (stepMem t n m (getD s i 0)) (i + 1) (drop j s)) (add-one i))
 
-module _ (t : Table) (n : ℕ) (x : Lex) (root : Bool) (key w : List ℕ) (b : ℕ) (h : x .head ≡ false) (f : x .fault ≡ F.Sound) (p : x .pos < 16777216) where
+module _ (t : Table) (n : ℕ) (x : Progress) (root : Bool) (key w : List ℕ) (b : ℕ) (h : x .head ≡ false) (f : x .fault ≡ F.Sound) (p : x .pos < 16777216) where
   -- a byte with a quiet act only moves the record on
   pub quiet-step : (st : Step) → st ≡ stepOf (x .mode) (topAt w (x .level)) b → passes (st .act) (st .ends) b ≡ true
       → mem (moved x b (st .mode) (x .level) (x .len)) root key w ≡ stepMem t n (mem x root key w) b
@@ -109,7 +109,7 @@ module _ (t : Table) (n : ℕ) (x : Lex) (root : Bool) (key w : List ℕ) (b : �
   quiet-step st e q =
       let told = passes-quiet (st .act) (st .ends) b q in
       sym
-      (ap (λ (a : Advanced). perform (a .task) t (mem x root key w) (a .lex))
+      (ap (λ (a : Advanced). perform (a .task) t (mem x root key w) (a .progress))
       (ap (λ (z : Step). advanced x n b z) (sym e)
       ∙ advanced-acted x n b st h f p (told .0)
       ∙ ap (λ (v : Bool). acted (st .act) v x n b (st .mode)) (passes-open (st .act) (st .ends) b q)

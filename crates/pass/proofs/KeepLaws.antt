@@ -17,10 +17,10 @@ use Rattle.json.specs.declared.lexer.Mode.the-variants as M
 use Rattle.json.specs.declared.lexer.Act.the-variants as A
 use Rattle.table.specs.Table.{Table}
 use Rattle.progress.specs.declared.Fault.the-variants as F
-use Rattle.progress.specs.declared.Lex.{Lex}
+use Rattle.progress.specs.declared.Progress.{Progress}
 use Rattle.progress.specs.declared.Advanced.{Advanced}
 use Rattle.progress.specs.Act.{keyLen, keyTask, keptIn}
-use Rattle.progress.specs.Lex.{advance, bump, charIn, moved, advanced}
+use Rattle.progress.specs.Progress.{advance, bump, charIn, moved, advanced}
 use Rattle.progress.specs.Memory.{mem, topAt, perform, stepMem}
 use Rattle.lexer.specs.Table.{classTable, classAt}
 use Rattle.lexer.proofs.TableLaws.{classAt-classTable}
@@ -55,30 +55,30 @@ keeps-mode S.SecondED v e = never e
 keeps-mode S.SecondF0 v e = never e
 keeps-mode S.SecondF4 v e = never e
 
-keeps-by : (m : Mode) (x : Lex) → keepsIn m x ≡ true → (m ≡ M.Key S.Char) × (readsOn x ≡ true)
+keeps-by : (m : Mode) (x : Progress) → keepsIn m x ≡ true → (m ≡ M.Key S.Char) × (readsOn x ≡ true)
 keeps-by (M.At p) x e = never e
 keeps-by (M.Key s) x e = let told = keeps-mode s (readsOn x) e in (ap M.Key (told .0), told .1)
 keeps-by (M.Text s) x e = never e
 keeps-by (M.Number n) x e = never e
 keeps-by (M.Word w i) x e = never e
 
-keeps-told : (x : Lex) → keepsChars x ≡ true → (x .mode ≡ M.Key S.Char) × (readsOn x ≡ true)
+keeps-told : (x : Progress) → keepsChars x ≡ true → (x .mode ≡ M.Key S.Char) × (readsOn x ≡ true)
 unfolding keepsChars
 keeps-told x e = keeps-by (x .mode) x e
 
-key-char : (y : Lex) (t : Table) (b : ℕ) (root : Bool) (key w : List ℕ) (v : Bool) → ltb (y .len) 32 ≡ v → ltb b 128 ≡ true
+key-char : (y : Progress) (t : Table) (b : ℕ) (root : Bool) (key w : List ℕ) (v : Bool) → ltb (y .len) 32 ≡ v → ltb b 128 ≡ true
     → perform (keyTask (y .len) b) t (mem y root key w) (moved y b (M.Key S.Char) (y .level) (keyLen (y .len) b))
     ≡ mem (moved y b (M.Key S.Char) (y .level) (keyLen (y .len) b)) root (keptIn key (y .len) b) w
 unfolding keyTask keptIn
 key-char y t b root key w true e l = simp (e, l)
 key-char y t b root key w false e l = simp e
 
-key-step : (t : Table) (n : ℕ) (y : Lex) (root : Bool) (key w : List ℕ) (b : ℕ) → y .mode ≡ M.Key S.Char → y .head ≡ false → y .fault ≡ F.Sound
+key-step : (t : Table) (n : ℕ) (y : Progress) (root : Bool) (key w : List ℕ) (b : ℕ) → y .mode ≡ M.Key S.Char → y .head ≡ false → y .fault ≡ F.Sound
     → y .pos < 16777216 → b < 256 → plainClass (classOf b) ≡ true
     → stepMem t n (mem y root key w) b ≡ mem (moved y b (M.Key S.Char) (y .level) (keyLen (y .len) b)) root (keptIn key (y .len) b) w
 unfolding stepMem
 key-step t n y root key w b m h f p l e =
-    ap (λ (a : Advanced). perform (a .task) t (mem y root key w) (a .lex))
+    ap (λ (a : Advanced). perform (a .task) t (mem y root key w) (a .progress))
     (ap (λ (k : Mode). advanced y n b (stepOf k (topAt w (y .level)) b)) m
     ∙ ap (λ (k : StringMove). advanced y n b (keyStep k)) (plain-char (classOf b) e)
     ∙ advanced-acted y n b (stepTo (M.Key S.Char) A.KeyChar) h f p (plain-other b e)
@@ -86,16 +86,16 @@ key-step t n y root key w b m h f p l e =
     ∙ key-char y t b root key w (ltb (y .len) 32) refl (plain-below b l e)
 
 -- the record behind such a character
-key-place : (x : Lex) (m : Mode) (bits p len q more b : ℕ) (root : Bool) (key next w : List ℕ) → m ≡ M.Key S.Char → bump p ≡ q → leadBits b ≡ 0
+key-place : (x : Progress) (m : Mode) (bits p len q more b : ℕ) (root : Bool) (key next w : List ℕ) → m ≡ M.Key S.Char → bump p ≡ q → leadBits b ≡ 0
     → next ≡ keptIn key len b → more ≡ keyLen len b
     → mem (moved (placed x m bits (x .high) p len) b (M.Key S.Char) (x .level) (keyLen len b)) root (keptIn key len b) w
     ≡ mem (placed x m 0 (x .high) q more) root next w
 key-place x m bits p len q more b root key next w e f g h k = rw (e, f, h, k, g)
 
-pub kept-none : (x : Lex) (s : List ℕ) (from : ℕ) (key : List ℕ) → from ≤ length s → KeptTo x s from key x from key
+pub kept-none : (x : Progress) (s : List ℕ) (from : ℕ) (key : List ℕ) → from ≤ length s → KeptTo x s from key x from key
 kept-none x s from key h = record { low = omega arith; high = h; length = refl; same = λ t n root w. refl }
 
-module _ (x : Lex) (s : List ℕ) (from : ℕ) (old : List ℕ) (o : keepsChars x ≡ true) where
+module _ (x : Progress) (s : List ℕ) (from : ℕ) (old : List ℕ) (o : keepsChars x ≡ true) where
   -- over a plain character
   pub keep-on : (bits p len i q more : ℕ) (key next : List ℕ) → KeptTo x s from old (placed x (x .mode) bits (x .high) p len) i key → i < length s → p < 16777216
       → getD s i 0 < 256 → plainClass (classOf (getD s i 0)) ≡ true → next ≡ keptIn key len (getD s i 0) → more ≡ keyLen len (getD s i 0) → q ≡ p + 1
@@ -128,15 +128,15 @@ plain-of-lent s at classes k v h c e p =
       told = p ∙ ap plainClass (e ∙ ap (λ (t : List ℕ). classAt t (getD s at 0)) c ∙ classAt-classTable (getD s at 0) h);
     }
 
-pub kept-start : (x : Lex) (s : List ℕ) (from : ℕ) (key : List ℕ) → from ≤ length s
+pub kept-start : (x : Progress) (s : List ℕ) (from : ℕ) (key : List ℕ) → from ≤ length s
     → KeptTo x s from key (placed x (x .mode) (x .bits) (x .high) (x .pos + (from - from)) (x .len)) from key
 kept-start x s from key h = let z : x .pos + (from - from) ≡ x .pos = omega arith in rw z (kept-none x s from key h)
 
 -- the record y as it was put together
-pub kept-at : (x : Lex) (s : List ℕ) (from : ℕ) (old : List ℕ) (y z : Lex) (at : ℕ) (key : List ℕ) → y ≡ z → KeptTo x s from old z at key → KeptTo x s from old y at key
+pub kept-at : (x : Progress) (s : List ℕ) (from : ℕ) (old : List ℕ) (y z : Progress) (at : ℕ) (key : List ℕ) → y ≡ z → KeptTo x s from old z at key → KeptTo x s from old y at key
 kept-at x s from old y z at key e r = rw e r
 
-module _ (x : Lex) (s : List ℕ) (from end : ℕ) (old : List ℕ) (o : keepsChars x ≡ true) (w : from ≤ length s)
+module _ (x : Progress) (s : List ℕ) (from end : ℕ) (old : List ℕ) (o : keepsChars x ≡ true) (w : from ≤ length s)
     (d : end ≡ from + min (length s - from) (16777216 - x .pos)) where
   pub kept-on : (bits len i more : ℕ) (key next : List ℕ) (v : Bool)
       → KeptTo x s from old (placed x (x .mode) bits (x .high) (x .pos + (i - from)) len) i key → i < end → PlainAt s i v → v ≡ true

@@ -14,8 +14,8 @@ use Rattle.json.specs.declared.lexer.Step.{Step}
 use Rattle.table.specs.Table.{Table}
 use Rattle.progress.specs.declared.Fault.{Fault}
 use Rattle.progress.specs.declared.Fault.the-variants as F
-use Rattle.progress.specs.declared.Lex.{Lex}
-use Rattle.progress.specs.Lex.{bitsIn, highIn, sound, advanced}
+use Rattle.progress.specs.declared.Progress.{Progress}
+use Rattle.progress.specs.Progress.{bitsIn, highIn, sound, advanced}
 use Rattle.progress.specs.Memory.{mem, topAt, runMem}
 use Rattle.lexer.specs.Table.{classTable, classAt}
 use Rattle.lexer.specs.Given.{stepBy}
@@ -27,11 +27,11 @@ use Rattle.pass.proofs.StayLaws.{stay-some}
 
 -- ---- passing over: the record x is read
 
-pub runs-none : (x : Lex) (top : Top) (s : List ℕ) (from : ℕ) → from ≤ length s → RunsTo x top s from x from
+pub runs-none : (x : Progress) (top : Top) (s : List ℕ) (from : ℕ) → from ≤ length s → RunsTo x top s from x from
 runs-none x top s from h = record { low = omega arith; high = h; level = refl; same = λ t n root key w e. refl }
 
 -- one way over bytes after another
-runs-on : {x y z : Lex} {top : Top} {s : List ℕ} {i j k : ℕ} → RunsTo x top s i y j → RunsTo y top s j z k → RunsTo x top s i z k
+runs-on : {x y z : Progress} {top : Top} {s : List ℕ} {i j k : ℕ} → RunsTo x top s i y j → RunsTo y top s j z k → RunsTo x top s i z k
 runs-on r q =
     record {
       low = omega (arith, r .low, q .low);
@@ -40,7 +40,7 @@ runs-on r q =
       same = λ t n root key w e. q .same t n root key w (ap (topAt w) (r .level) ∙ e) ∙ r .same t n root key w e;
     }
 
-module _ (x : Lex) (top : Top) (s : List ℕ) (o : readsOn x ≡ true) where
+module _ (x : Progress) (top : Top) (s : List ℕ) (o : readsOn x ≡ true) where
   -- over bytes that leave the mode as it is
   stay-on : (i end j : ℕ) → StayedTo (x .mode) s i end j → end ≤ length s → x .pos + (end - i) ≤ 16777216
       → RunsTo x top s i (placed x (x .mode) (bitsOver (ltb i j) (x .mode) (x .bits)) (x .high) (x .pos + (j - i)) (x .len)) j
@@ -90,7 +90,7 @@ pub step-of-lent : (m : Mode) (top : Top) (b : ℕ) (classes : List ℕ) (st : S
 step-of-lent m top b classes st h c a = a ∙ ap (λ (k : List ℕ). stepBy (classAt k b) m top b) c ∙ stepBy-classTable m top b h
 
 -- of a record that is not read the step does not matter
-unread-by : (x : Lex) (n b : ℕ) (a z : Step) (h : Bool) (f : Fault) → x .head ≡ h → x .fault ≡ f → cond h false (isSound f) ≡ false → advanced x n b a ≡ advanced x n b z
+unread-by : (x : Progress) (n b : ℕ) (a z : Step) (h : Bool) (f : Fault) → x .head ≡ h → x .fault ≡ f → cond h false (isSound f) ≡ false → advanced x n b a ≡ advanced x n b z
 unfolding advanced
 unread-by x n b a z true f p q r = rw p
 unread-by x n b a z false F.Sound p q r = never (sym r)
@@ -98,29 +98,29 @@ unread-by x n b a z false F.Malformed p q r = rw (p, q)
 unread-by x n b a z false F.TooDeep p q r = rw (p, q)
 unread-by x n b a z false F.TooLong p q r = rw (p, q)
 
-unread : (x : Lex) (n b : ℕ) (a z : Step) → readsOn x ≡ false → advanced x n b a ≡ advanced x n b z
+unread : (x : Progress) (n b : ℕ) (a z : Step) → readsOn x ≡ false → advanced x n b a ≡ advanced x n b z
 unfolding readsOn
 unread x n b a z e = unread-by x n b a z (x .head) (x .fault) refl refl e
 
-pub out-unread : (x : Lex) (top : Top) (s : List ℕ) (from : ℕ) (st : Step) → from ≤ length s → readsOn x ≡ false → PassedTo x top s from x from st
+pub out-unread : (x : Progress) (top : Top) (s : List ℕ) (from : ℕ) (st : Step) → from ≤ length s → readsOn x ≡ false → PassedTo x top s from x from st
 out-unread x top s from st h e =
     record { runs = runs-none x top s from h; step = λ n l. unread x n (getD s from 0) st (stepOf (x .mode) top (getD s from 0)) e }
 
 -- ---- the loop, up to the end of the piece or of the longest record
 
-pub runs-start : (x : Lex) (top : Top) (s : List ℕ) (from : ℕ) → from ≤ length s
+pub runs-start : (x : Progress) (top : Top) (s : List ℕ) (from : ℕ) → from ≤ length s
     → RunsTo x top s from (placed x (x .mode) (x .bits) (x .high) (x .pos + (from - from)) (x .len)) from
 runs-start x top s from h = let z : x .pos + (from - from) ≡ x .pos = omega arith in rw z (runs-none x top s from h)
 
-too-long : (y : Lex) (n b : ℕ) (a z : Step) → y .head ≡ false → y .fault ≡ F.Sound → 16777216 ≤ y .pos → advanced y n b a ≡ advanced y n b z
+too-long : (y : Progress) (n b : ℕ) (a z : Step) → y .head ≡ false → y .fault ≡ F.Sound → 16777216 ≤ y .pos → advanced y n b a ≡ advanced y n b z
 unfolding advanced sound
 too-long y n b a z h f p = rw (h, f, le-ltb (y .pos) 16777216 p)
 
-module _ (x : Lex) (top : Top) (s : List ℕ) (from end : ℕ) (o : readsOn x ≡ true) (w : from ≤ length s)
+module _ (x : Progress) (top : Top) (s : List ℕ) (from end : ℕ) (o : readsOn x ≡ true) (w : from ≤ length s)
     (d : end ≡ from + min (length s - from) (16777216 - x .pos)) where
   -- at the end of the piece, or where the record is too long
   pub out-at-end : (m : Mode) (bits high i : ℕ) (y : Passed) (st : Step) → RunsTo x top s from (reached x m bits high from i) i → end ≤ i
-      → y ≡ passedAt x m bits high from i st → PassedTo x top s from (y .lex) (y .at) (y .step)
+      → y ≡ passedAt x m bits high from i st → PassedTo x top s from (y .progress) (y .at) (y .step)
   out-at-end m bits high i y st r l e =
       let told = reads-told x o in
       rw e
@@ -140,13 +140,13 @@ module _ (x : Lex) (top : Top) (s : List ℕ) (from end : ℕ) (o : readsOn x �
         runs-on r
         (rw (e, z) (stay-on (reached x m bits high from i) top s o i end j g l (rest-fits (length s) from (x .pos) end i d (r .low) h)))
 
-    pub out-stayed : (y : Passed) (st : Step) → j ≡ end → y ≡ passedAt x m more high from j st → PassedTo x top s from (y .lex) (y .at) (y .step)
+    pub out-stayed : (y : Passed) (st : Step) → j ≡ end → y ≡ passedAt x m more high from j st → PassedTo x top s from (y .progress) (y .at) (y .step)
     out-stayed y st q f = out-at-end m more high j y st stayed (omega arith) f
 
     -- of the byte there the lexer makes the step st
     module _ (st : Step) (a : st ≡ stepOf m top (getD s j 0)) where
       -- which is not passed over
-      pub out-at-byte : (y : Passed) → y ≡ passedAt x m more high from j st → PassedTo x top s from (y .lex) (y .at) (y .step)
+      pub out-at-byte : (y : Passed) → y ≡ passedAt x m more high from j st → PassedTo x top s from (y .progress) (y .at) (y .step)
       out-at-byte y f = rw f record { runs = stayed; step = λ n l. ap (λ (z : Step). advanced (reached x m more high from j) n (getD s j 0) z) a }
 
       -- which is passed over

@@ -22,8 +22,8 @@ use Rattle.json.specs.declared.string.StringMode.the-variants as S
 use Rattle.json.specs.declared.string.StringMove.the-variants as SM
 use Rattle.json.specs.declared.number.NumberMode.{NumberMode}
 use Rattle.json.specs.declared.number.NumberMode.the-variants as N
-use Rattle.json.specs.declared.lexer.Place.{Place}
-use Rattle.json.specs.declared.lexer.Place.the-variants as P
+use Rattle.json.specs.declared.lexer.Awaited.{Awaited}
+use Rattle.json.specs.declared.lexer.Awaited.the-variants as P
 use Rattle.json.specs.declared.lexer.Top.{Top}
 use Rattle.json.specs.declared.lexer.Top.the-variants as Is
 use Rattle.json.specs.declared.lexer.Mode.{Mode}
@@ -32,8 +32,8 @@ use Rattle.json.specs.declared.lexer.Act.{Act}
 use Rattle.json.specs.declared.lexer.Act.the-variants as A
 use Rattle.table.specs.Table.{Table}
 use Rattle.progress.specs.declared.Fault.the-variants as F
-use Rattle.progress.specs.declared.Lex.{Lex}
-use Rattle.progress.specs.Lex.{bump, bitsIn, highIn}
+use Rattle.progress.specs.declared.Progress.{Progress}
+use Rattle.progress.specs.Progress.{bump, bitsIn, highIn}
 use Rattle.progress.specs.Memory.{mem, topAt, runMem}
 use Rattle.lexer.specs.Table.{classTable, classAt}
 use Rattle.lexer.proofs.TableLaws.{classAt-classTable}
@@ -52,7 +52,7 @@ record StaysAs (m : Mode) (top : Top) (b : ℕ) : Type 0 where
   again : (bits : ℕ) → bitsIn m (bitsIn m bits 0x20) 0x20 ≡ bitsIn m bits 0x20
   pub high : (bits high : ℕ) → highIn m bits high b ≡ high
 
-blank-step : (p : Place) (top : Top) (b : ℕ) → isBlank b ≡ true → placeStep p top b ≡ stay p
+blank-step : (p : Awaited) (top : Top) (b : ℕ) → isBlank b ≡ true → placeStep p top b ≡ stay p
 unfolding atValue atFirstElement atFirstKey atKey atColon afterRoot afterElement afterPair
 blank-step P.Value top b e = rw e
 blank-step P.First Is.Bare b e = rw e
@@ -174,7 +174,7 @@ passes-quietly : (a : Act) (b : ℕ) → isQuiet a ≡ true → (b ≡ 0x1E → 
 unfolding passes
 passes-quietly a b q r = rw (ne-eqb b 0x1E r, q)
 
-module _ (t : Table) (n : ℕ) (x : Lex) (m : Mode) (high : ℕ) (len : ℕ) (root : Bool) (key w s : List ℕ) (h : x .head ≡ false) (f : x .fault ≡ F.Sound) where
+module _ (t : Table) (n : ℕ) (x : Progress) (m : Mode) (high : ℕ) (len : ℕ) (root : Bool) (key w s : List ℕ) (h : x .head ≡ false) (f : x .fault ≡ F.Sound) where
   stay-one : (bits p i : ℕ) → i < length s → p < 16777216 → getD s i 0 < 256 → staysIn (classOf (getD s i 0)) m (getD s i 0) ≡ true
       → runMem t n (mem (placed x m (bitsIn m bits 0x20) high (p + 1) len) root key w) (i + 1) (drop (i + 1) s)
       ≡ runMem t n (mem (placed x m bits high p len) root key w) i (drop i s)

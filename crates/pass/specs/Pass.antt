@@ -25,8 +25,8 @@ use Rattle.json.specs.declared.lexer.Step.{Step}
 use Rattle.table.specs.Table.{Table}
 use Rattle.progress.specs.declared.Fault.{Fault}
 use Rattle.progress.specs.declared.Fault.the-variants as F
-use Rattle.progress.specs.declared.Lex.{Lex}
-use Rattle.progress.specs.Lex.{bitsIn, advanced}
+use Rattle.progress.specs.declared.Progress.{Progress}
+use Rattle.progress.specs.Progress.{bitsIn, advanced}
 use Rattle.progress.specs.Memory.{mem, topAt, runMem}
 use Rattle.pass.specs.declared.Passed.{Passed}
 
@@ -138,10 +138,10 @@ isSound F.TooDeep = false
 isSound F.TooLong = false
 
 -- its bytes are more than counted
-unfoldable pub readsOn : Lex → Bool
+unfoldable pub readsOn : Progress → Bool
 readsOn x = cond (x .head) false (isSound (x .fault))
 
-abbrev pub keepsIn : Mode → Lex → Bool
+abbrev pub keepsIn : Mode → Progress → Bool
 keepsIn (M.At p) x = false
 keepsIn (M.Key s) x = cond (awaitsChar s) (readsOn x) false
 keepsIn (M.Text s) x = false
@@ -149,25 +149,25 @@ keepsIn (M.Number n) x = false
 keepsIn (M.Word w i) x = false
 
 -- and it stands where a character of a key is awaited
-unfoldable pub keepsChars : Lex → Bool
+unfoldable pub keepsChars : Progress → Bool
 keepsChars x = keepsIn (x .mode) x
 
 -- the same record at another mode, with other registers, after pos bytes, with len characters of its key
-abbrev pub placed : Lex → Mode → ℕ → ℕ → ℕ → ℕ → Lex
+abbrev pub placed : Progress → Mode → ℕ → ℕ → ℕ → ℕ → Progress
 placed x m bits high pos len =
     record { mode = m; fault = x .fault; head = x .head; level = x .level; pos = pos; place = x .place; bits = bits; high = high; len = len }
 
 -- the record x, whose next byte stood at one place of a piece, at another place of it
-abbrev pub reached : Lex → Mode → ℕ → ℕ → ℕ → ℕ → Lex
+abbrev pub reached : Progress → Mode → ℕ → ℕ → ℕ → ℕ → Progress
 reached x m bits high from at = placed x m bits high (x .pos + (at - from)) (x .len)
 
-abbrev pub passedAt : Lex → Mode → ℕ → ℕ → ℕ → ℕ → Step → Passed
-passedAt x m bits high from at st = record { lex = reached x m bits high from at; at = at; step = st }
+abbrev pub passedAt : Progress → Mode → ℕ → ℕ → ℕ → ℕ → Step → Passed
+passedAt x m bits high from at st = record { progress = reached x m bits high from at; at = at; step = st }
 
 -- ---- passing over
 
 -- the bytes of s from one place to another make y of the record x, whatever else is remembered; the innermost open value is of kind top
-pub record RunsTo (x : Lex) (top : Top) (s : List ℕ) (from : ℕ) (y : Lex) (at : ℕ) : Type 0 where
+pub record RunsTo (x : Progress) (top : Top) (s : List ℕ) (from : ℕ) (y : Progress) (at : ℕ) : Type 0 where
   pub low : from ≤ at
   pub high : at ≤ length s
   pub level : y .level ≡ x .level
@@ -175,7 +175,7 @@ pub record RunsTo (x : Lex) (top : Top) (s : List ℕ) (from : ℕ) (y : Lex) (a
       → runMem t n (mem y root key w) at (drop at s) ≡ runMem t n (mem x root key w) from (drop from s)
 
 -- and of the byte there the limits make with the step st what they make of its own
-pub record PassedTo (x : Lex) (top : Top) (s : List ℕ) (from : ℕ) (y : Lex) (at : ℕ) (st : Step) : Type 0 where
+pub record PassedTo (x : Progress) (top : Top) (s : List ℕ) (from : ℕ) (y : Progress) (at : ℕ) (st : Step) : Type 0 where
   pub runs : RunsTo x top s from y at
   pub step : (n : ℕ) → at < length s → advanced y n (getD s at 0) st ≡ advanced y n (getD s at 0) (stepOf (y .mode) top (getD s at 0))
 
@@ -187,7 +187,7 @@ pub record PlainAt (s : List ℕ) (at : ℕ) (v : Bool) : Type 0 where
   pub told : v ≡ plainClass (classOf (getD s at 0))
 
 -- the bytes of s from one place to another make y of the record x and put to the key what it has after them
-pub record KeptTo (x : Lex) (s : List ℕ) (from : ℕ) (key : List ℕ) (y : Lex) (at : ℕ) (kept : List ℕ) : Type 0 where
+pub record KeptTo (x : Progress) (s : List ℕ) (from : ℕ) (key : List ℕ) (y : Progress) (at : ℕ) (kept : List ℕ) : Type 0 where
   pub low : from ≤ at
   pub high : at ≤ length s
   pub length : length kept ≡ length key

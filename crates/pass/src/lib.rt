@@ -10,27 +10,27 @@ ghost use Rattle.lexer.specs.Table.{classTable, classAt};
 ghost use Rattle.pass.specs.Pass.{plainClass, awaitsChar, inDigits, staysIn, StayedTo, bitsOver, isQuiet, passes, readsOn, keepsChars, placed, passedAt, PassedTo, PlainAt, KeptTo};
 use json::class::Class;
 use json::lexer::Act;
+use json::lexer::Awaited;
 use json::lexer::Mode;
-use json::lexer::Place;
 use json::lexer::Step;
 use json::lexer::Top;
 use json::number::NumberMode;
 use json::string::StringMode;
 use progress::Fault;
-use progress::Lex;
+use progress::Progress;
 use progress::key;
 use progress::register;
 
 // After the bytes passed over: what is known of the record, where that is in the piece, and the step that the lexer makes of the byte there.
 pub struct Passed {
-    pub lex: Lex,
+    pub progress: Progress,
     pub at: usize,
     pub step: Step,
 }
 
 // After the characters of a key: what is known of the record, and where that is in the piece.
-pub struct Kept {
-    pub lex: Lex,
+pub struct KeyRead {
+    pub progress: Progress,
     pub at: usize,
 }
 
@@ -200,7 +200,7 @@ fn passes(a: Act, ends: bool, b: u8) -> bool
 }
 
 // A byte of the record is more than counted.
-fn reads_on(x: Lex) -> bool
+fn reads_on(x: Progress) -> bool
     ensures { λ r. ⌜ r ≡ readsOn x ⌝ }
 {
     if x.head {
@@ -231,12 +231,12 @@ fn room(len: usize, from: usize, pos: u32) -> usize
 }
 
 // The record x at another mode, with other registers, and count bytes further.
-fn place_at(x: Lex, m: Mode, bits: u32, high: u32, count: usize, len: u8) -> Lex
+fn place_at(x: Progress, m: Mode, bits: u32, high: u32, count: usize, len: u8) -> Progress
     requires { ⌜ x .pos + count ≤ 4294967295 ⌝ }
     ensures { λ r. ⌜ r ≡ placed x m bits high (x .pos + count) len ⌝ }
 {
     let f = x.fault;
-    Lex {
+    Progress {
         mode: m,
         fault: f,
         head: x.head,
@@ -250,12 +250,12 @@ fn place_at(x: Lex, m: Mode, bits: u32, high: u32, count: usize, len: u8) -> Lex
 }
 
 // The record x at another mode, with other registers, where the bytes of the piece from one place to another were passed over.
-fn passed_at(x: Lex, m: Mode, bits: u32, high: u32, from: usize, at: usize, st: Step) -> Passed
+fn passed_at(x: Progress, m: Mode, bits: u32, high: u32, from: usize, at: usize, st: Step) -> Passed
     requires { ⌜ (from ≤ at) × (x .pos + (at - from) ≤ 4294967295) ⌝ }
     ensures { λ r. ⌜ r ≡ passedAt x m bits high from at st ⌝ }
 {
     Passed {
-        lex: place_at(x, m, bits, high, at - from, x.len),
+        progress: place_at(x, m, bits, high, at - from, x.len),
         at: at,
         step: st,
     }
@@ -264,7 +264,7 @@ fn passed_at(x: Lex, m: Mode, bits: u32, high: u32, from: usize, at: usize, st: 
 // The step of no byte.
 fn no_step() -> Step {
     Step {
-        mode: Mode::At(Place::Value),
+        mode: Mode::At(Awaited::Value),
         ends: false,
         act: Act::Fault,
     }
@@ -281,14 +281,14 @@ fn step_at<'a>(classes: &'a [u8; 256], m: Mode, top: Top, s: &'a [u8], at: usize
 // Passes over bytes up to a place where the record is not too long yet.
 fn pass_to<'a>(
     classes: &'a [u8; 256],
-    x: Lex,
+    x: Progress,
     top: Top,
     s: &'a [u8],
     from: usize,
     end: usize,
 ) -> Passed
     requires { ⌜ (now classes ≡ classTable) × (readsOn x ≡ true) × (from ≤ length (now s)) × (end ≡ from + min (length (now s) - from) (16777216 - x .pos)) ⌝ }
-    ensures { λ r. ⌜ PassedTo x top (now (s .entry)) from (r .lex) (r .at) (r .step) ⌝ }
+    ensures { λ r. ⌜ PassedTo x top (now (s .entry)) from (r .progress) (r .at) (r .step) ⌝ }
 {
     let mut m = x.mode;
     let mut bits = x.bits;
@@ -317,22 +317,22 @@ fn pass_to<'a>(
 
 // Passes over the bytes of a piece that only change where the reader stands in the record. Ruled out: a pass over the RS that ends a record,
 // and one over bytes past the longest record.
-pub fn pass<'a>(classes: &'a [u8; 256], x: Lex, top: Top, s: &'a [u8], from: usize) -> Passed
+pub fn pass<'a>(classes: &'a [u8; 256], x: Progress, top: Top, s: &'a [u8], from: usize) -> Passed
     requires { ⌜ (now classes ≡ classTable) × (from ≤ length (now s)) ⌝ }
-    ensures { λ r. ⌜ PassedTo x top (now (s .entry)) from (r .lex) (r .at) (r .step) ⌝ }
+    ensures { λ r. ⌜ PassedTo x top (now (s .entry)) from (r .progress) (r .at) (r .step) ⌝ }
 {
     if reads_on(x) {
         return pass_to(classes, x, top, s, from, room(s.len(), from, x.pos));
     }
     Passed {
-        lex: x,
+        progress: x,
         at: from,
         step: no_step(),
     }
 }
 
 // The record is read, and stands where a character of a key is awaited.
-fn keeps_chars(x: Lex) -> bool
+fn keeps_chars(x: Progress) -> bool
     ensures { λ r. ⌜ r ≡ keepsChars x ⌝ }
 {
     let m = x.mode;
@@ -361,14 +361,14 @@ fn plain_at<'a>(classes: &'a [u8; 256], s: &'a [u8], at: usize) -> bool
 // Keeps the plain characters of a key up to a place where the record is not too long yet.
 fn keep_to<'a>(
     classes: &'a [u8; 256],
-    x: Lex,
+    x: Progress,
     key: &mut [u8],
     s: &'a [u8],
     from: usize,
     end: usize,
-) -> Kept
+) -> KeyRead
     requires { ⌜ (now classes ≡ classTable) × (keepsChars x ≡ true) × (from ≤ length (now s)) × (end ≡ from + min (length (now s) - from) (16777216 - x .pos)) ⌝ }
-    ensures { λ r. ⌜ KeptTo x (now (s .entry)) from (now (key .entry)) (r .lex) (r .at) (now (key .exit)) ⌝ }
+    ensures { λ r. ⌜ KeptTo x (now (s .entry)) from (now (key .entry)) (r .progress) (r .at) (now (key .exit)) ⌝ }
 {
     let m = x.mode;
     let mut bits = x.bits;
@@ -384,19 +384,28 @@ fn keep_to<'a>(
         bits = 0;
         i += 1;
     }
-    Kept {
-        lex: place_at(x, m, bits, x.high, i - from, len),
+    KeyRead {
+        progress: place_at(x, m, bits, x.high, i - from, len),
         at: i,
     }
 }
 
 // Keeps the plain characters of an open key. Ruled out: a key of which a character past the 32nd is kept, and one without its first.
-pub fn keep<'a>(classes: &'a [u8; 256], x: Lex, key: &mut [u8], s: &'a [u8], from: usize) -> Kept
+pub fn keep<'a>(
+    classes: &'a [u8; 256],
+    x: Progress,
+    key: &mut [u8],
+    s: &'a [u8],
+    from: usize,
+) -> KeyRead
     requires { ⌜ (now classes ≡ classTable) × (from ≤ length (now s)) ⌝ }
-    ensures { λ r. ⌜ KeptTo x (now (s .entry)) from (now (key .entry)) (r .lex) (r .at) (now (key .exit)) ⌝ }
+    ensures { λ r. ⌜ KeptTo x (now (s .entry)) from (now (key .entry)) (r .progress) (r .at) (now (key .exit)) ⌝ }
 {
     if keeps_chars(x) {
         return keep_to(classes, x, key, s, from, room(s.len(), from, x.pos));
     }
-    Kept { lex: x, at: from }
+    KeyRead {
+        progress: x,
+        at: from,
+    }
 }

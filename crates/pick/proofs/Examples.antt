@@ -2,7 +2,7 @@
 use mathlib.Core.List.{List, [], _∷_}
 use mathlib.Core.Path.{_≡_, refl}
 use Prim.Native.Nat.{ℕ}
-use Rattle.stream.specs.Records.{split}
+use Rattle.stream.specs.Records.{cutAtRS}
 use Rattle.pick.specs.Pick.{nonempties, pickOf}
 
 abbrev bytes : List ℕ
@@ -10,5 +10,5 @@ bytes = 0x7A ∷ 0x1E ∷ 0x5B ∷ 0x1E ∷ 0x1E ∷ 0x31 ∷ []
 
 -- the head, the record behind it, the record behind the empty part, and no more
 pub examples : (pickOf bytes 0 ≡ 0x7A ∷ []) × (pickOf bytes 1 ≡ 0x5B ∷ []) × (pickOf bytes 2 ≡ 0x31 ∷ []) × (pickOf bytes 3 ≡ [])
-unfolding split nonempties pickOf
+unfolding cutAtRS nonempties pickOf
 examples = (refl, refl, refl, refl)

@@ -12,7 +12,7 @@ use Rattle.verdict.specs.declared.Verdict.the-variants as Is
 use Rattle.reader.specs.declared.Reader.{Reader}
 use Rattle.reader.specs.Paper.{Call, Judge, nonempty}
 use Rattle.reader.specs.Claim.{answers}
-use Rattle.stream.specs.Records.{split, givenAll, verdictsOf, verdictsIn, StreamOf}
+use Rattle.stream.specs.Records.{cutAtRS, givenAll, verdictsOf, verdictsIn, StreamOf}
 use Rattle.stream.proofs.JudgeLaws.{judgeOf}
 use Rattle.demand.specs.Book.{Book}
 use Rattle.demand.proofs.Corollaries.{verdicts-of-stream, judge-of-stream}
@@ -33,11 +33,11 @@ module _ (J : Judge) where
 
   length-verdictsOf : (s : List ℕ) → length (verdictsOf J s) ≡ length (recordsOf s)
   unfolding nonempties
-  length-verdictsOf s = go (nonempty (split s .first)) (length-givenAll (split s .behind))
+  length-verdictsOf s = go (nonempty (cutAtRS s .first)) (length-givenAll (cutAtRS s .behind))
     where
-      go : (x : Bool) → length (givenAll J (split s .behind)) ≡ length (nonempties (split s .behind))
-          → length (cond x (J true (split s .first) ∷ givenAll J (split s .behind)) (givenAll J (split s .behind)))
-          ≡ length (cond x (split s .first ∷ nonempties (split s .behind)) (nonempties (split s .behind)))
+      go : (x : Bool) → length (givenAll J (cutAtRS s .behind)) ≡ length (nonempties (cutAtRS s .behind))
+          → length (cond x (J true (cutAtRS s .first) ∷ givenAll J (cutAtRS s .behind)) (givenAll J (cutAtRS s .behind)))
+          ≡ length (cond x (cutAtRS s .first ∷ nonempties (cutAtRS s .behind)) (nonempties (cutAtRS s .behind)))
       go true e = rw e
       go false e = e
 
@@ -56,14 +56,14 @@ module _ (J : Judge) where
 
   verdict-at : (s : List ℕ) (k : ℕ) (d : Verdict) → k < length (recordsOf s) → getD (verdictsOf J s) k d ≡ J (isHead s k) (pickOf s k)
   unfolding nonempties pickOf
-  verdict-at s k d h = go (nonempty (split s .first)) k h
+  verdict-at s k d h = go (nonempty (cutAtRS s .first)) k h
     where
-      go : (x : Bool) (k : ℕ) → k < length (cond x (split s .first ∷ nonempties (split s .behind)) (nonempties (split s .behind)))
-          → getD (cond x (J true (split s .first) ∷ givenAll J (split s .behind)) (givenAll J (split s .behind))) k d
-          ≡ J (x && eqb k 0) (getD (cond x (split s .first ∷ nonempties (split s .behind)) (nonempties (split s .behind))) k [])
+      go : (x : Bool) (k : ℕ) → k < length (cond x (cutAtRS s .first ∷ nonempties (cutAtRS s .behind)) (nonempties (cutAtRS s .behind)))
+          → getD (cond x (J true (cutAtRS s .first) ∷ givenAll J (cutAtRS s .behind)) (givenAll J (cutAtRS s .behind))) k d
+          ≡ J (x && eqb k 0) (getD (cond x (cutAtRS s .first ∷ nonempties (cutAtRS s .behind)) (nonempties (cutAtRS s .behind))) k [])
       go true zero h = refl
-      go true (suc k) h = rw (eqb·suc-zero k) (given-at (split s .behind) k d (omega (arith, h)))
-      go false k h = given-at (split s .behind) k d h
+      go true (suc k) h = rw (eqb·suc-zero k) (given-at (cutAtRS s .behind) k d (omega (arith, h)))
+      go false k h = given-at (cutAtRS s .behind) k d h
 
 -- ---- what is picked is nonempty
 
@@ -101,7 +101,7 @@ module _ (es : List Entry) (n : ℕ) (least : 1 ≤ n) (most : n ≤ 64) {r : Re
       rw (verdicts-of-stream es n least most x) (verdict-at J s k Is.Valid inside) in
       let judge = judge-of-stream es n least most x in
       record {
-        is-record = nonempty-at (split s .first ∷ split s .behind) k inside;
+        is-record = nonempty-at (cutAtRS s .first ∷ cutAtRS s .behind) k inside;
         in-head = λ y. e ∙ rw y (judge .head (pickOf s k));
         behind = λ y. rw (e, y) (judge .part (pickOf s k));
       }

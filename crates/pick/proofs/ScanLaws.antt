@@ -10,14 +10,14 @@ use lib.Seq.{drop-cons, take-suc, getD-drop}
 use borrow.Author.Tests.{ltb-true, ltb-false, eqb-true, eqb-false}
 use Rattle.laws.proofs.TestLaws.{true-neq-false}
 use Rattle.reader.specs.Paper.{nonempty}
-use Rattle.stream.specs.Records.{split}
-use Rattle.stream.proofs.RecordLaws.{split-of-RS, split-of-byte}
+use Rattle.stream.specs.Records.{cutAtRS}
+use Rattle.stream.proofs.RecordLaws.{cutAtRS-of-RS, cutAtRS-of-byte}
 use Rattle.pick.specs.Pick.{nonempties, pickOf}
 use Rattle.pick.specs.Scan.{endsPart, isIt, counted, partStart}
 
 -- the record to pick, when p is open before the bytes s and n records are to pass
 abbrev pub pickFrom : List ℕ → List ℕ → ℕ → List ℕ
-pickFrom p s n = getD (nonempties ((p ++ split s .first) ∷ split s .behind)) n []
+pickFrom p s n = getD (nonempties ((p ++ cutAtRS s .first) ∷ cutAtRS s .behind)) n []
 
 -- ---- small tests
 
@@ -38,11 +38,11 @@ module _ (left : ℕ) where
 
 module _ (p s : List ℕ) (b n : ℕ) where
   from-byte : eqb b 0x1E ≡ false → pickFrom p (b ∷ s) n ≡ pickFrom (p ++ (b ∷ [])) s n
-  from-byte e = rw (split-of-byte b s e, append-assoc p (b ∷ []) (split s .first))
+  from-byte e = rw (cutAtRS-of-byte b s e, append-assoc p (b ∷ []) (cutAtRS s .first))
 
-  from-RS : eqb b 0x1E ≡ true → pickFrom p (b ∷ s) n ≡ getD (cond (nonempty p) (p ∷ nonempties (split s .first ∷ split s .behind)) (nonempties (split s .first ∷ split s .behind))) n []
+  from-RS : eqb b 0x1E ≡ true → pickFrom p (b ∷ s) n ≡ getD (cond (nonempty p) (p ∷ nonempties (cutAtRS s .first ∷ cutAtRS s .behind)) (nonempties (cutAtRS s .first ∷ cutAtRS s .behind))) n []
   unfolding nonempties
-  from-RS e = rw (split-of-RS b s e, append-nil p)
+  from-RS e = rw (cutAtRS-of-RS b s e, append-nil p)
 
 nonempty-of-length : (p : List ℕ) → 0 < length p → nonempty p ≡ true
 nonempty-of-length [] h = absurd (omega (arith, h))
@@ -97,7 +97,7 @@ module _ (s : List ℕ) (n start left i : ℕ) (x : Scanned s n start left i) (i
 
   -- an RS: the record that it ends comes before those behind it
   gives-RS : eqb b 0x1E ≡ true → (y : Bool) → nonempty part ≡ y
-      → getD (cond y (part ∷ nonempties (split rest .first ∷ split rest .behind)) (nonempties (split rest .first ∷ split rest .behind))) left []
+      → getD (cond y (part ∷ nonempties (cutAtRS rest .first ∷ cutAtRS rest .behind)) (nonempties (cutAtRS rest .first ∷ cutAtRS rest .behind))) left []
       ≡ pickOf s n
   gives-RS e y h = rw h at (sym (from-RS part rest b left e) ∙ gives-next)
 
@@ -123,7 +123,7 @@ module _ (s : List ℕ) (n start left i : ℕ) (x : Scanned s n start left i) (i
       record {
         first = omega arith;
         last = omega (arith, inside);
-        gives = rw z (sym (getD-behind part (nonempties (split rest .first ∷ split rest .behind)) left f)
+        gives = rw z (sym (getD-behind part (nonempties (cutAtRS rest .first ∷ cutAtRS rest .behind)) left f)
             ∙ gives-RS d true (part-full s start i (x .first) inside e));
       }
 
@@ -161,7 +161,7 @@ module _ (s : List ℕ) (n start left i : ℕ) (x : Scanned s n start left i) (i
 
 module _ (s : List ℕ) (n start left i : ℕ) (x : Scanned s n start left i) (outside : length s ≤ i) where
   gives-last : (p : List ℕ) → pickFrom p [] left ≡ getD (cond (nonempty p) (p ∷ []) []) left []
-  unfolding nonempties split
+  unfolding nonempties cutAtRS
   gives-last p = rw (append-nil p)
 
   gives-end : getD (cond (nonempty (take (i - start) (drop start s))) (take (i - start) (drop start s) ∷ []) []) left [] ≡ pickOf s n

@@ -10,7 +10,7 @@ use Rattle.verdict.specs.declared.Verdict.{Verdict}
 use Rattle.verdict.specs.declared.Verdict.the-variants as Is
 use Rattle.verdict.specs.Verdict.{Judged}
 use Rattle.reader.specs.Paper.{nonempty}
-use Rattle.stream.specs.Records.{split}
+use Rattle.stream.specs.Records.{cutAtRS}
 
 -- each nonempty part is a record; empty parts are none
 unfoldable pub nonempties : List (List ℕ) → List (List ℕ)
@@ -19,7 +19,7 @@ nonempties (p ∷ ps) = cond (nonempty p) (p ∷ nonempties ps) (nonempties ps)
 
 -- the records of a slice in stream order, head included
 abbrev pub recordsOf : List ℕ → List (List ℕ)
-recordsOf s = nonempties (split s .first ∷ split s .behind)
+recordsOf s = nonempties (cutAtRS s .first ∷ cutAtRS s .behind)
 
 -- the record that has verdict n, counted from 0; an empty part where none has
 unfoldable pub pickOf : List ℕ → ℕ → List ℕ
@@ -27,7 +27,7 @@ pickOf s n = getD (recordsOf s) n []
 
 -- record n is in the head: it is the first, and the part before the first RS is nonempty
 abbrev pub isHead : List ℕ → ℕ → Bool
-isHead s n = nonempty (split s .first) && eqb n 0
+isHead s n = nonempty (cutAtRS s .first) && eqb n 0
 
 -- a record p has the verdict v, with n frames and the entries of the book: 15 in the head, and else as it is judged alone
 pub record HasVerdict (es : List Entry) (n : ℕ) (head : Bool) (p : List ℕ) (v : Verdict) : Type 0 where

@@ -13,21 +13,21 @@ use Rattle.json.specs.declared.lexer.Act.{Act}
 use Rattle.json.specs.declared.lexer.Act.the-variants as A
 use Rattle.progress.specs.declared.Fault.{Fault}
 use Rattle.progress.specs.declared.Fault.the-variants as F
-use Rattle.progress.specs.declared.Lex.{Lex}
+use Rattle.progress.specs.declared.Progress.{Progress}
 use Rattle.progress.specs.declared.Task.{Task}
 use Rattle.progress.specs.declared.Advanced.{Advanced}
 use Rattle.progress.specs.Act.{openLevel, keyLen, keptIn, firstFault, levelAfter, lenAfter, taskOf}
-use Rattle.progress.specs.Lex.{advance, charIn, moved, actedBy, acted}
+use Rattle.progress.specs.Progress.{advance, charIn, moved, actedBy, acted}
 
 -- ---- the parts of an act, where f is the fault that was found
 
-module _ (a : Act) (e : Bool) (x : Lex) (n b : ℕ) (m : Mode) (f : Fault) (h : f ≡ firstFault a (x .level) n) where
+module _ (a : Act) (e : Bool) (x : Progress) (n b : ℕ) (m : Mode) (f : Fault) (h : f ≡ firstFault a (x .level) n) where
   -- with a fault, y is what was made of it
   pub acted-of-fault : (g : Fault) (y : Advanced) → f ≡ g → y ≡ actedBy g a e x n b m → y ≡ acted a e x n b m
   acted-of-fault g y k l = l ∙ ap (λ (z : Fault). actedBy z a e x n b m) (sym k ∙ h)
 
   -- without one
-  pub acted-of-sound : (c level len : ℕ) (next : Lex) (task : Task) → f ≡ F.Sound → c ≡ charIn (x .mode) (x .bits) (x .high) b
+  pub acted-of-sound : (c level len : ℕ) (next : Progress) (task : Task) → f ≡ F.Sound → c ≡ charIn (x .mode) (x .bits) (x .high) b
       → level ≡ levelAfter a (x .level) n → len ≡ lenAfter a (x .len) c → next ≡ moved x b m level len → task ≡ taskOf a e (x .mode) (x .len) c
       → advance next task ≡ acted a e x n b m
   acted-of-sound c level len next task k p q r u v = acted-of-fault F.Sound (advance next task) k (rw (v, u, r, q, p))

@@ -1,5 +1,5 @@
 -- What an act of the lexer does to the open record, part by part: the first fault, the levels, the characters kept of the key, the task. Derived:
--- `acted` of `Lex` puts the parts together, and `tracks-step` of crate follows joins that to the track of crate verdict. Assumes nothing.
+-- `acted` of `Progress` puts the parts together, and `tracks-step` of crate follows joins that to the track of crate verdict. Assumes nothing.
 use mathlib.Core.Bool.{Bool, true, false, cond}
 use mathlib.Core.List.{List}
 use Prim.Native.Nat.{ℕ, _+_, _-_}
@@ -108,9 +108,9 @@ scalarOf W.True = K.True
 scalarOf W.False = K.False
 
 -- what is to be done where the byte ends a number, or not
-abbrev pub ended : Bool → Mode → Task
-ended true m = To.Finish (numberKind m)
-ended false m = To.Idle
+abbrev pub numberTask : Bool → Mode → Task
+numberTask true m = To.Finish (numberKind m)
+numberTask false m = To.Idle
 
 abbrev pub closing : Bool → Mode → Task
 closing true m = To.FinishClose (numberKind m)
@@ -119,7 +119,7 @@ closing false m = To.Close
 -- what is to be done at it, in mode m; e tells whether it ends a number
 abbrev pub taskOf : Act → Bool → Mode → ℕ → ℕ → Task
 taskOf A.Fault e m len c = To.Idle
-taskOf A.Pass e m len c = ended e m
+taskOf A.Pass e m len c = numberTask e m
 taskOf A.OpenArray e m len c = To.Open false
 taskOf A.OpenObject e m len c = To.Open true
 taskOf A.Close e m len c = closing e m

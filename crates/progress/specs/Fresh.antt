@@ -4,15 +4,15 @@ use mathlib.Core.Bool.{Bool, false}
 use mathlib.Core.List.{List}
 use Prim.Native.Nat.{ℕ}
 use lib.ListN.{replicate}
-use Rattle.json.specs.declared.lexer.Place.the-variants as P
+use Rattle.json.specs.declared.lexer.Awaited.the-variants as P
 use Rattle.json.specs.declared.lexer.Mode.the-variants as M
-use Rattle.progress.specs.declared.Lex.{Lex}
+use Rattle.progress.specs.declared.Progress.{Progress}
 use Rattle.progress.specs.declared.Fault.the-variants as F
 use Rattle.progress.specs.Memory.{Mem, mem}
 
-abbrev pub freshLex : Bool → Lex
-freshLex head = record { mode = M.At P.Value; fault = F.Sound; head = head; level = 0; pos = 0; place = 0; bits = 0; high = 0; len = 0 }
+abbrev pub freshProgress : Bool → Progress
+freshProgress head = record { mode = M.At P.Value; fault = F.Sound; head = head; level = 0; pos = 0; place = 0; bits = 0; high = 0; len = 0 }
 
 -- the buffer is w
 abbrev pub freshMem : Bool → List ℕ → Mem
-freshMem head w = mem (freshLex head) false (replicate 32 0) w
+freshMem head w = mem (freshProgress head) false (replicate 32 0) w

@@ -15,22 +15,22 @@ use Rattle.table.specs.Keys.{keyFound}
 use Rattle.frame.specs.Frame.{frameAt, putFrame, isObject}
 use Rattle.frame.specs.Edges.{edgesOf}
 use Rattle.frame.specs.Ops.{opened, keyed, valued, closed}
-use Rattle.progress.specs.declared.Lex.{Lex}
+use Rattle.progress.specs.declared.Progress.{Progress}
 use Rattle.progress.specs.declared.Task.{Task}
 use Rattle.progress.specs.declared.Task.the-variants as To
 use Rattle.progress.specs.declared.Advanced.{Advanced}
 use Rattle.progress.specs.Act.{keptIn}
-use Rattle.progress.specs.Lex.{advanced}
+use Rattle.progress.specs.Progress.{advanced}
 
 -- what a byte can change
 pub record Mem : Type 0 where
-  pub lex : Lex
+  pub progress : Progress
   pub root : Bool
   pub key : List ℕ
   pub work : List ℕ
 
-abbrev pub mem : Lex → Bool → List ℕ → List ℕ → Mem
-mem x root key work = record { lex = x; root = root; key = key; work = work }
+abbrev pub mem : Progress → Bool → List ℕ → List ℕ → Mem
+mem x root key work = record { progress = x; root = root; key = key; work = work }
 
 -- the kind of the innermost open value, by its frame
 unfoldable pub topAt : List ℕ → ℕ → Top
@@ -46,30 +46,30 @@ unfoldable pub rulesAt : Table → List ℕ → ℕ → ℕ
 rulesAt t w l = closed (edgesOf (t .edges) (t .«edge_rule») (t .«edge_state») (t .«edge_key») (t .«edge_next»)) (t .forms) (t .ends) (frameAt w l)
 
 -- the value of a level is closed: it joins the level below, and the root tells whether it fits rule 0
-unfoldable pub closeAt : Table → Lex → Bool → List ℕ → List ℕ → ℕ → Mem
+unfoldable pub closeAt : Table → Progress → Bool → List ℕ → List ℕ → ℕ → Mem
 closeAt t x root key w l = mem x (cond (eqb l 1) (ruleFits (rulesAt t w l) 0) root) key (valueAt t w (l - 1) (Done.Rules (rulesAt t w l)))
 
 -- what is to be done at a byte, from the memory m; x is what is known after it
-abbrev pub perform : Task → Table → Mem → Lex → Mem
+abbrev pub perform : Task → Table → Mem → Progress → Mem
 perform To.Idle t m x = mem x (m .root) (m .key) (m .work)
-perform (To.Put c) t m x = mem x (m .root) (keptIn (m .key) (m .lex .len) c) (m .work)
+perform (To.Put c) t m x = mem x (m .root) (keptIn (m .key) (m .progress .len) c) (m .work)
 perform To.Named t m x =
-    mem x (m .root) (m .key) (putFrame (m .work) (m .lex .level) (keyed (keyFound t (m .key) (m .lex .len)) (frameAt (m .work) (m .lex .level))))
+    mem x (m .root) (m .key) (putFrame (m .work) (m .progress .level) (keyed (keyFound t (m .key) (m .progress .len)) (frameAt (m .work) (m .progress .level))))
 perform (To.Open o) t m x = mem x (m .root) (m .key) (putFrame (m .work) (x .level) (opened (t .forms) o))
-perform (To.Finish s) t m x = mem x (m .root) (m .key) (valueAt t (m .work) (m .lex .level) (Done.Scalar s))
-perform To.Close t m x = closeAt t x (m .root) (m .key) (m .work) (m .lex .level)
-perform (To.FinishClose s) t m x = closeAt t x (m .root) (m .key) (valueAt t (m .work) (m .lex .level) (Done.Scalar s)) (m .lex .level)
+perform (To.Finish s) t m x = mem x (m .root) (m .key) (valueAt t (m .work) (m .progress .level) (Done.Scalar s))
+perform To.Close t m x = closeAt t x (m .root) (m .key) (m .work) (m .progress .level)
+perform (To.FinishClose s) t m x = closeAt t x (m .root) (m .key) (valueAt t (m .work) (m .progress .level) (Done.Scalar s)) (m .progress .level)
 
 -- what the lexer and the limits make of a byte, with n frames
 abbrev pub advancedAt : ℕ → Mem → ℕ → Advanced
-advancedAt n m b = advanced (m .lex) n b (stepOf (m .lex .mode) (topAt (m .work) (m .lex .level)) b)
+advancedAt n m b = advanced (m .progress) n b (stepOf (m .progress .mode) (topAt (m .work) (m .progress .level)) b)
 
 -- a byte that ends no record
 unfoldable pub stepMem : Table → ℕ → Mem → ℕ → Mem
-stepMem t n m b = perform (advancedAt n m b .task) t m (advancedAt n m b .lex)
+stepMem t n m b = perform (advancedAt n m b .task) t m (advancedAt n m b .progress)
 
 -- an RS behind at least one byte of a record ends it
-unfoldable pub endsRecord : Lex → ℕ → Bool
+unfoldable pub endsRecord : Progress → ℕ → Bool
 endsRecord x b = eqb b 0x1E && ltb 0 (x .pos)
 
 -- how far a piece is read: the memory there, the bytes read, and whether an RS ended a record
@@ -82,4 +82,4 @@ pub record Ran : Type 0 where
 unfoldable pub runMem : Table → ℕ → Mem → ℕ → List ℕ → Ran
 runMem t n m i [] = record { memory = m; count = i; ended = false }
 runMem t n m i (b ∷ s) =
-    cond (endsRecord (m .lex) b) (record { memory = m; count = i + 1; ended = true }) (runMem t n (stepMem t n m b) (i + 1) s)
+    cond (endsRecord (m .progress) b) (record { memory = m; count = i + 1; ended = true }) (runMem t n (stepMem t n m b) (i + 1) s)

@@ -1,7 +1,7 @@
 // What an act of the lexer does to the open record, part by part: the first fault, the levels, the characters kept of the key, the task.
 ghost use mathlib.Core.Path.{_≡_};
 ghost use Prim.Native.Nat.{_-_};
-ghost use Rattle.progress.specs.Act.{openFault, openLevel, keyTask, firstFault, levelAfter, lenAfter, numberKind, scalarOf, ended, closing, taskOf};
+ghost use Rattle.progress.specs.Act.{openFault, openLevel, keyTask, firstFault, levelAfter, lenAfter, numberKind, scalarOf, numberTask, closing, taskOf};
 use super::Fault;
 use super::Task;
 use super::key::key_len;
@@ -88,8 +88,8 @@ fn scalar_of(w: Word) -> Scalar
 }
 
 // Nothing more, or the number that ended.
-fn ended(ends: bool, m: Mode) -> Task
-    ensures { λ r. ⌜ r ≡ ended ends m ⌝ }
+fn number_task(ends: bool, m: Mode) -> Task
+    ensures { λ r. ⌜ r ≡ numberTask ends m ⌝ }
 {
     if ends {
         return Task::Finish(number_kind(m));
@@ -179,7 +179,7 @@ pub fn task_of(a: Act, ends: bool, from: Mode, len: u8, c: u32) -> Task
 {
     match a {
         Act::Fault => Task::Idle,
-        Act::Pass => ended(ends, from),
+        Act::Pass => number_task(ends, from),
         Act::OpenArray => Task::Open(false),
         Act::OpenObject => Task::Open(true),
         Act::Close => closing(ends, from),

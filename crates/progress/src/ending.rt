@@ -1,22 +1,22 @@
 // The verdict of a record without a fault that ends here.
 ghost use mathlib.Core.Path.{_≡_};
-ghost use Rattle.progress.specs.Lex.{wholeAt, wholeNumber, wholeIn, whole};
-use super::Lex;
+ghost use Rattle.progress.specs.Progress.{wholeAt, wholeNumber, wholeIn, whole};
+use super::Progress;
+use json::lexer::Awaited;
 use json::lexer::Mode;
-use json::lexer::Place;
 use json::number::NumberMode;
 use verdict::Verdict;
 
 // The verdict at a place where nothing is open.
-fn whole_at(p: Place, pos: u32, root: bool) -> Verdict
+fn whole_at(p: Awaited, pos: u32, root: bool) -> Verdict
     ensures { λ r. ⌜ r ≡ wholeAt p pos root ⌝ }
 {
     match p {
-        Place::Value => Verdict::Unfinished(pos),
-        Place::First => Verdict::Unfinished(pos),
-        Place::Key => Verdict::Unfinished(pos),
-        Place::Colon => Verdict::Unfinished(pos),
-        Place::After => {
+        Awaited::Value => Verdict::Unfinished(pos),
+        Awaited::First => Verdict::Unfinished(pos),
+        Awaited::Key => Verdict::Unfinished(pos),
+        Awaited::Colon => Verdict::Unfinished(pos),
+        Awaited::After => {
             if root {
                 return Verdict::Valid;
             }
@@ -49,7 +49,7 @@ fn whole_in(m: Mode, pos: u32, root: bool) -> Verdict
 }
 
 // The verdict of a record without a fault that ends here.
-pub fn whole(x: Lex, root: bool) -> Verdict
+pub fn whole(x: Progress, root: bool) -> Verdict
     ensures { λ r. ⌜ r ≡ whole x root ⌝ }
 {
     if x.level == 0 {

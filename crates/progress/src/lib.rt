@@ -1,6 +1,6 @@
 // The open record, byte by byte: what the reader knows of it, its frames and the bytes of its key aside.
 ghost use mathlib.Core.Path.{_≡_};
-ghost use Rattle.progress.specs.Lex.{bump, counted, faulted, moved, acted, sound, afterHead, advanced, judged};
+ghost use Rattle.progress.specs.Progress.{bump, counted, faulted, moved, acted, sound, afterHead, advanced, judged};
 use json::lexer::Mode;
 use json::lexer::Step;
 use table::kind::Scalar;
@@ -20,7 +20,7 @@ pub enum Fault {
 }
 
 // What is known of the open record.
-pub struct Lex {
+pub struct Progress {
     // how many values are open
     pub level: usize,
     // how many bytes were read, and the place of the fault
@@ -55,7 +55,7 @@ pub enum Task {
 }
 
 pub struct Advanced {
-    pub lex: Lex,
+    pub progress: Progress,
     pub task: Task,
 }
 
@@ -70,12 +70,12 @@ pub fn bump(p: u32) -> u32
 }
 
 // A byte that is counted, and no more.
-fn counted(x: Lex) -> Advanced
+fn counted(x: Progress) -> Advanced
     ensures { λ r. ⌜ r ≡ counted x ⌝ }
 {
     let m = x.mode;
     let f = x.fault;
-    let l = Lex {
+    let l = Progress {
         mode: m,
         fault: f,
         head: x.head,
@@ -87,17 +87,17 @@ fn counted(x: Lex) -> Advanced
         len: x.len,
     };
     Advanced {
-        lex: l,
+        progress: l,
         task: Task::Idle,
     }
 }
 
 // The byte is the record's first fault.
-fn faulted(x: Lex, f: Fault) -> Advanced
+fn faulted(x: Progress, f: Fault) -> Advanced
     ensures { λ r. ⌜ r ≡ faulted x f ⌝ }
 {
     let m = x.mode;
-    let l = Lex {
+    let l = Progress {
         mode: m,
         fault: f,
         head: x.head,
@@ -109,18 +109,18 @@ fn faulted(x: Lex, f: Fault) -> Advanced
         len: x.len,
     };
     Advanced {
-        lex: l,
+        progress: l,
         task: Task::Idle,
     }
 }
 
 // The record after byte b, at a mode, with so many levels and so long a key.
-fn moved(x: Lex, b: u8, m: Mode, level: usize, len: u8) -> Lex
+fn moved(x: Progress, b: u8, m: Mode, level: usize, len: u8) -> Progress
     ensures { λ r. ⌜ r ≡ moved x b m level len ⌝ }
 {
     let from = x.mode;
     let f = x.fault;
-    Lex {
+    Progress {
         mode: m,
         fault: f,
         head: x.head,
@@ -134,7 +134,7 @@ fn moved(x: Lex, b: u8, m: Mode, level: usize, len: u8) -> Lex
 }
 
 // What a step of the lexer does to the record. There is one call of `moved`, so that it is inlined.
-fn acted(x: Lex, frames: usize, b: u8, st: Step) -> Advanced
+fn acted(x: Progress, frames: usize, b: u8, st: Step) -> Advanced
     ensures { λ r. ⌜ r ≡ acted (st .act) (st .ends) x frames b (st .mode) ⌝ }
 {
     let a = st.act;
@@ -146,7 +146,7 @@ fn acted(x: Lex, frames: usize, b: u8, st: Step) -> Advanced
             let c = register::char_in(from, x.bits, x.high, b);
             let level = act::level_after(a, x.level, frames);
             Advanced {
-                lex: moved(x, b, m, level, act::len_after(a, x.len, c)),
+                progress: moved(x, b, m, level, act::len_after(a, x.len, c)),
                 task: act::task_of(a, st.ends, from, x.len, c),
             }
         }
@@ -157,7 +157,7 @@ fn acted(x: Lex, frames: usize, b: u8, st: Step) -> Advanced
 }
 
 // A byte of a record without a fault so far.
-fn sound(x: Lex, frames: usize, b: u8, st: Step) -> Advanced
+fn sound(x: Progress, frames: usize, b: u8, st: Step) -> Advanced
     ensures { λ r. ⌜ r ≡ sound x frames b st ⌝ }
 {
     if x.pos < 16777216 {
@@ -167,12 +167,12 @@ fn sound(x: Lex, frames: usize, b: u8, st: Step) -> Advanced
 }
 
 // An RS where no record is open.
-fn after_head(x: Lex) -> Lex
+fn after_head(x: Progress) -> Progress
     ensures { λ r. ⌜ r ≡ afterHead x ⌝ }
 {
     let m = x.mode;
     let f = x.fault;
-    Lex {
+    Progress {
         mode: m,
         fault: f,
         head: false,
@@ -186,12 +186,12 @@ fn after_head(x: Lex) -> Lex
 }
 
 // A byte that ends no record, of which the lexer makes a step: the record after it, and what is to be done to its key and frames.
-pub fn advance(x: Lex, frames: usize, b: u8, st: Step) -> Advanced
+pub fn advance(x: Progress, frames: usize, b: u8, st: Step) -> Advanced
     ensures { λ r. ⌜ r ≡ advanced x frames b st ⌝ }
 {
     if b == 0x1E {
         return Advanced {
-            lex: after_head(x),
+            progress: after_head(x),
             task: Task::Idle,
         };
     }
@@ -208,7 +208,7 @@ pub fn advance(x: Lex, frames: usize, b: u8, st: Step) -> Advanced
 }
 
 // The verdict of a record that ends here.
-pub fn judge(x: Lex, root: bool) -> Verdict
+pub fn judge(x: Progress, root: bool) -> Verdict
     ensures { λ r. ⌜ r ≡ judged x root ⌝ }
 {
     if x.head {

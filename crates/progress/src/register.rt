@@ -1,6 +1,6 @@
 // The registers of the open character: its bits, and the high surrogate before it.
 ghost use mathlib.Core.Path.{_≡_};
-ghost use Rattle.progress.specs.Lex.{bitsIn, highIn, charIn};
+ghost use Rattle.progress.specs.Progress.{bitsIn, highIn, charIn};
 use json::lexer::Mode;
 
 // The bits of the open character after byte b.

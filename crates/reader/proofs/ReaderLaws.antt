@@ -7,7 +7,7 @@ use lib.ListN.{length}
 use borrow.Author.Tests.{lt-ltb, le-ltb}
 use Rattle.table.specs.Table.{Table}
 use Rattle.frame.specs.Frame.{frameCount}
-use Rattle.progress.specs.Lex.{judged}
+use Rattle.progress.specs.Progress.{judged}
 use Rattle.reader.specs.declared.Reader.{Reader}
 use Rattle.reader.specs.declared.Fed.{Fed}
 use Rattle.reader.specs.declared.Refusal.{Refusal}
@@ -49,19 +49,19 @@ module _ (r : Reader) (t : Table) (w : List ℕ) (a : Gate) (p : a ≡ callGate 
   unfolding closeOf
   close-shut n e = rw (sym p ∙ e)
 
-  -- a close that ends a record, where f is what `ended` gives
-  pub close-ended : a ≡ Is.Open → 0 < r .lex .pos → (f : Fed)
+  -- a close that ends a record, where f is what `end_record` gives
+  pub close-ended : a ≡ Is.Open → 0 < r .progress .pos → (f : Fed)
       → f ≡ record {
-        reader = freshReader (r .frames) true (tallied (judged (r .lex) (r .root)) (r .tally));
+        reader = freshReader (r .frames) true (tallied (judged (r .progress) (r .root)) (r .tally));
         count = 0;
-        answer = Says.Judged (judged (r .lex) (r .root));
+        answer = Says.Judged (judged (r .progress) (r .root));
       }
       → record { reader = f .reader; count = 0; answer = f .answer; work = w } ≡ closeOf r t w
   unfolding closeOf closing
-  close-ended e h f q = rw (sym p ∙ e, lt-ltb 0 (r .lex .pos) h, q)
+  close-ended e h f q = rw (sym p ∙ e, lt-ltb 0 (r .progress .pos) h, q)
 
   -- a close where nothing was read
-  pub close-empty : a ≡ Is.Open → r .lex .pos ≤ 0 → (n : Reader) → n ≡ freshReader (r .frames) true (r .tally)
+  pub close-empty : a ≡ Is.Open → r .progress .pos ≤ 0 → (n : Reader) → n ≡ freshReader (r .frames) true (r .tally)
       → record { reader = n; count = 0; answer = Says.Quiet; work = w } ≡ closeOf r t w
   unfolding closeOf closing
-  close-empty e h n q = rw (sym p ∙ e, le-ltb 0 (r .lex .pos) h, q)
+  close-empty e h n q = rw (sym p ∙ e, le-ltb 0 (r .progress .pos) h, q)

@@ -16,8 +16,8 @@ use Rattle.table.specs.Table.{Table}
 use Rattle.table.specs.Limits.{withinLimits}
 use Rattle.table.proofs.LimitLaws.{withinLimits-sound}
 use Rattle.laws.proofs.TestLaws.{T-of-true}
-use Rattle.progress.specs.declared.Lex.{Lex}
-use Rattle.progress.specs.Lex.{judged, advanced}
+use Rattle.progress.specs.declared.Progress.{Progress}
+use Rattle.progress.specs.Progress.{judged, advanced}
 use Rattle.progress.specs.Memory.{Mem, mem, topAt, stepMem, runMem, endsRecord}
 use Rattle.turn.specs.Turn.{turned}
 use Rattle.pass.specs.Pass.{KeptTo, PassedTo}
@@ -31,12 +31,12 @@ use Rattle.reader.specs.Went.{StepsAs, WentTo}
 -- ---- the end of a record, by the code's tests
 
 -- a byte other than RS ends none
-pub ends-other : (x : Lex) (b : ℕ) → (b ≡ 0x1E → ⊥) → false ≡ endsRecord x b
+pub ends-other : (x : Progress) (b : ℕ) → (b ≡ 0x1E → ⊥) → false ≡ endsRecord x b
 unfolding endsRecord
 ends-other x b h = rw (ne-eqb b 0x1E h)
 
 -- an RS ends one that has a byte
-pub ends-rs : (x : Lex) (b : ℕ) → b ≡ 0x1E → ltb 0 (x .pos) ≡ endsRecord x b
+pub ends-rs : (x : Progress) (b : ℕ) → b ≡ 0x1E → ltb 0 (x .pos) ≡ endsRecord x b
 unfolding endsRecord
 ends-rs x b h = rw (eq-eqb b 0x1E h)
 
@@ -44,13 +44,13 @@ ends-rs x b h = rw (eq-eqb b 0x1E h)
 
 module _ (t : Table) (n : ℕ) (m : Mem) (s : List ℕ) (i : ℕ) where
   -- the byte at place i ends the record
-  run-end : i < length s → endsRecord (m .lex) (getD s i 0) ≡ true → runMem t n m i (drop i s) ≡ record { memory = m; count = i + 1; ended = true }
+  run-end : i < length s → endsRecord (m .progress) (getD s i 0) ≡ true → runMem t n m i (drop i s) ≡ record { memory = m; count = i + 1; ended = true }
   unfolding runMem
   run-end h e = rw (drop-cons s i 0, e)
 
   -- it has its turn, with a step that is as good as its own
-  run-turn : (k : Mem) (st : Step) → i < length s → endsRecord (m .lex) (getD s i 0) ≡ false
-      → advanced (m .lex) n (getD s i 0) st ≡ advanced (m .lex) n (getD s i 0) (stepOf (m .lex .mode) (topAt (m .work) (m .lex .level)) (getD s i 0))
+  run-turn : (k : Mem) (st : Step) → i < length s → endsRecord (m .progress) (getD s i 0) ≡ false
+      → advanced (m .progress) n (getD s i 0) st ≡ advanced (m .progress) n (getD s i 0) (stepOf (m .progress .mode) (topAt (m .work) (m .progress .level)) (getD s i 0))
       → k ≡ turned t n m (getD s i 0) st → runMem t n k (i + 1) (drop (i + 1) s) ≡ runMem t n m i (drop i s)
   unfolding runMem
   run-turn k st h e g q =
@@ -64,7 +64,7 @@ module _ (t : Table) (n : ℕ) (m : Mem) (s : List ℕ) (i : ℕ) where
 
 -- ---- one byte, by the code's tests
 
-module _ (t : Table) (n : ℕ) (x : Lex) (root : Bool) (key w s : List ℕ) (i : ℕ) (h : i < length s) (v : Bool) (e : v ≡ endsRecord x (getD s i 0)) where
+module _ (t : Table) (n : ℕ) (x : Progress) (root : Bool) (key w s : List ℕ) (i : ℕ) (h : i < length s) (v : Bool) (e : v ≡ endsRecord x (getD s i 0)) where
   -- the byte ends the record
   pub went-ended : v ≡ true → WentTo t n (mem x root key w) s i (mem x root key w) (i + 1) true
   went-ended f = record { low = omega arith; high = omega arith; run = run-end t n (mem x root key w) s i h (sym e ∙ f) }
@@ -78,7 +78,7 @@ module _ (t : Table) (n : ℕ) (x : Lex) (root : Bool) (key w s : List ℕ) (i :
 
 -- ---- the bytes passed over: x becomes y while the characters of a key are kept, and y becomes z over the bytes that only move it on
 
-module _ (s : List ℕ) (i at end : ℕ) (x y z : Lex) (top : Top) (st : Step) (key kept w : List ℕ) (a : KeptTo x s i key y at kept) (b : PassedTo y top s at z end st)
+module _ (s : List ℕ) (i at end : ℕ) (x y z : Progress) (top : Top) (st : Step) (key kept w : List ℕ) (a : KeptTo x s i key y at kept) (b : PassedTo y top s at z end st)
     (e : top ≡ topAt w (y .level)) where
   -- the step st is as good as the next byte's own
   pub step-passed : (n : ℕ) → end < length s → StepsAs z n w (getD s end 0) st
@@ -130,18 +130,18 @@ module _ (t : Table) (n : ℕ) (s : List ℕ) (o : Mem) where
     run-of-ended : v ≡ true → runMem t n o 0 s ≡ record { memory = k; count = j; ended = true }
     run-of-ended e = sym (l .run) ∙ rw e at (g .run)
 
--- the two ways out of the loop, where f is what `ended` or `read_all` gives
-module _ (r : Reader) (t : Table) (w s key : List ℕ) (same : key ≡ r .key) (f : Fed) (x : Lex) (root : Bool) (kept v : List ℕ) (i : ℕ) where
+-- the two ways out of the loop, where f is what `end_record` or `read_all` gives
+module _ (r : Reader) (t : Table) (w s key : List ℕ) (same : key ≡ r .key) (f : Fed) (x : Progress) (root : Bool) (kept v : List ℕ) (i : ℕ) where
   abbrev Gives : Type 0
   Gives = record { reader = f .reader; count = f .count; answer = f .answer; work = v } ≡ feeding r t w s
 
-  pub piece-ended : (m : Mem) (j : ℕ) (e : Bool) → Left t (r .frames) s (mem (r .lex) (r .root) key w) m j
+  pub piece-ended : (m : Mem) (j : ℕ) (e : Bool) → Left t (r .frames) s (mem (r .progress) (r .root) key w) m j
       → WentTo t (r .frames) m s j (mem x root kept v) i e → e ≡ true
       → f ≡ record { reader = freshReader (r .frames) false (tallied (judged x root) (r .tally)); count = i; answer = Says.Judged (judged x root) } → Gives
   unfolding feeding
   piece-ended m j e l g q h = rw (sym same, run-of-ended t (r .frames) s _ m (mem x root kept v) j i e l g q, h)
 
-  pub piece-read : Left t (r .frames) s (mem (r .lex) (r .root) key w) (mem x root kept v) i → length s ≤ i
-      → f ≡ record { reader = record { frames = r .frames; lex = x; root = root; key = kept; tally = r .tally }; count = i; answer = Says.Quiet } → Gives
+  pub piece-read : Left t (r .frames) s (mem (r .progress) (r .root) key w) (mem x root kept v) i → length s ≤ i
+      → f ≡ record { reader = record { frames = r .frames; progress = x; root = root; key = kept; tally = r .tally }; count = i; answer = Says.Quiet } → Gives
   unfolding feeding
   piece-read l d h = rw (sym same, sym (l .run) ∙ run-done t (r .frames) (mem x root kept v) s i d, h)

@@ -9,8 +9,8 @@ use Rattle.table.specs.Table.{Table}
 use Rattle.frame.specs.Frame.{frameCount}
 use Rattle.verdict.specs.declared.Verdict.{Verdict}
 use Rattle.verdict.specs.declared.Verdict.the-variants as Is
-use Rattle.progress.specs.Lex.{bump, judged}
-use Rattle.progress.specs.Fresh.{freshLex}
+use Rattle.progress.specs.Progress.{bump, judged}
+use Rattle.progress.specs.Fresh.{freshProgress}
 use Rattle.progress.specs.Memory.{Mem, mem, Ran, runMem}
 use Rattle.reader.specs.declared.Tally.{Tally}
 use Rattle.reader.specs.declared.Reader.{Reader}
@@ -23,7 +23,7 @@ use Rattle.reader.specs.Refusals.{withinReader, startGate, callGate, thr
 
 -- nothing is read of a record
 abbrev pub freshReader : ℕ → Bool → Tally → Reader
-freshReader frames head tally = record { frames = frames; lex = freshLex head; root = false; key = replicate 32 0; tally = tally }
+freshReader frames head tally = record { frames = frames; progress = freshProgress head; root = false; key = replicate 32 0; tally = tally }
 
 abbrev pub zeroTally : Tally
 zeroTally = record { valid = 0; invalid = 0; refused = 0 }
@@ -79,15 +79,15 @@ abbrev pub orRefused : Reader → Table → List ℕ → Outcome → Outcome
 orRefused r t w o = through (callGate (withinReader r) (r .frames) t (length w)) (refusing r w) o
 
 abbrev pub memoryOf : Reader → List ℕ → Mem
-memoryOf r w = mem (r .lex) (r .root) (r .key) w
+memoryOf r w = mem (r .progress) (r .root) (r .key) w
 
 -- a record ends: its verdict is counted, and the reader is fresh for the next
 abbrev pub ending : Reader → Mem → ℕ → Bool → Outcome
 ending r m i head =
     record {
-      reader = freshReader (r .frames) head (tallied (judged (m .lex) (m .root)) (r .tally));
+      reader = freshReader (r .frames) head (tallied (judged (m .progress) (m .root)) (r .tally));
       count = i;
-      answer = Says.Judged (judged (m .lex) (m .root));
+      answer = Says.Judged (judged (m .progress) (m .root));
       work = m .work;
     }
 
@@ -95,7 +95,7 @@ ending r m i head =
 abbrev pub going : Reader → Mem → ℕ → Outcome
 going r m i =
     record {
-      reader = record { frames = r .frames; lex = m .lex; root = m .root; key = m .key; tally = r .tally };
+      reader = record { frames = r .frames; progress = m .progress; root = m .root; key = m .key; tally = r .tally };
       count = i;
       answer = Says.Quiet;
       work = m .work;
@@ -114,7 +114,7 @@ feedOf r t w s = orRefused r t w (feeding r t w s)
 -- a close that is let in ends the last record like an RS, and is in the head again
 unfoldable pub closing : Reader → List ℕ → Outcome
 closing r w =
-    cond (ltb 0 (r .lex .pos)) (ending r (memoryOf r w) 0 true)
+    cond (ltb 0 (r .progress .pos)) (ending r (memoryOf r w) 0 true)
     (record { reader = freshReader (r .frames) true (r .tally); count = 0; answer = Says.Quiet; work = w })
 
 unfoldable pub closeOf : Reader → Table → List ℕ → Outcome

@@ -24,7 +24,7 @@ fitReader frames level len = leb 1 frames && (leb frames 64 && (leb level frames
 
 -- a reader within its bounds
 abbrev pub withinReader : Reader → Bool
-withinReader r = fitReader (r .frames) (r .lex .level) (r .lex .len)
+withinReader r = fitReader (r .frames) (r .progress .level) (r .progress .len)
 
 -- ---- ladders
 

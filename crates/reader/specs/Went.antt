@@ -7,12 +7,12 @@ use lib.ListN.{length, drop}
 use Rattle.json.specs.Lexer.{stepOf}
 use Rattle.json.specs.declared.lexer.Step.{Step}
 use Rattle.table.specs.Table.{Table}
-use Rattle.progress.specs.declared.Lex.{Lex}
-use Rattle.progress.specs.Lex.{advanced}
+use Rattle.progress.specs.declared.Progress.{Progress}
+use Rattle.progress.specs.Progress.{advanced}
 use Rattle.progress.specs.Memory.{Mem, topAt, runMem}
 
 -- of byte b the limits make with the step st what they make with its own step, with n frames in the buffer w
-unfoldable pub StepsAs : Lex → ℕ → List ℕ → ℕ → Step → Type 0
+unfoldable pub StepsAs : Progress → ℕ → List ℕ → ℕ → Step → Type 0
 StepsAs x n w b st = advanced x n b st ≡ advanced x n b (stepOf (x .mode) (topAt w (x .level)) b)
 
 -- from place i of s with the memory m one comes to place j with the memory k; an RS ended the record, or the rest gives what the whole gives

@@ -5,17 +5,17 @@ ghost use mathlib.Core.Bool.{true};
 ghost use mathlib.Core.List.{[], _∷_};
 ghost use Rattle.table.specs.Flat.{tableIn};
 ghost use Rattle.table.specs.Limits.{withinLimits};
-ghost use Rattle.progress.specs.Lex.{judged};
-ghost use Rattle.progress.specs.Fresh.{freshLex};
+ghost use Rattle.progress.specs.Progress.{judged};
+ghost use Rattle.progress.specs.Fresh.{freshProgress};
 ghost use Rattle.reader.specs.Refusals.{refusalNumber, fitReader, tableRung, firstRefusal, startGate, callGate};
 ghost use Rattle.reader.specs.Machine.{freshReader, countValid, countInvalid, countRefused, tallied, startOf, feeding, feedOf, closeOf};
 
 mod piece; // piece.rt: a piece is read on
 
+use json::lexer::Awaited;
 use json::lexer::Mode;
-use json::lexer::Place;
 use progress::Fault;
-use progress::Lex;
+use progress::Progress;
 use table::limits;
 use verdict::Verdict;
 
@@ -31,7 +31,7 @@ pub struct Reader {
     // the frames of the buffer given at start
     pub frames: usize,
     // what is known of the open record
-    pub lex: Lex,
+    pub progress: Progress,
     // its root is closed, and fits rule 0
     pub root: bool,
     // the characters of its open key
@@ -147,11 +147,11 @@ fn admit(table: &[u8; 7920], frames: usize, level: usize, len: u8, n: usize) -> 
 }
 
 // Nothing is read of a record.
-fn fresh_lex(head: bool) -> Lex
-    ensures { λ r. ⌜ r ≡ freshLex head ⌝ }
+fn fresh_lex(head: bool) -> Progress
+    ensures { λ r. ⌜ r ≡ freshProgress head ⌝ }
 {
-    Lex {
-        mode: Mode::At(Place::Value),
+    Progress {
+        mode: Mode::At(Awaited::Value),
         fault: Fault::Sound,
         head: head,
         level: 0,
@@ -170,7 +170,7 @@ fn fresh_reader(frames: usize, head: bool, tally: Tally) -> Reader
     let key = [0u8; 32];
     Reader {
         frames: frames,
-        lex: l,
+        progress: l,
         root: false,
         key: key,
         tally: tally,
@@ -223,7 +223,7 @@ fn count_record(v: Verdict, y: Tally) -> Tally
 }
 
 // A record ends: its verdict, counted, and the reader of the next.
-fn ended(frames: usize, tally: Tally, x: Lex, root: bool, count: usize, head: bool) -> Fed
+fn end_record(frames: usize, tally: Tally, x: Progress, root: bool, count: usize, head: bool) -> Fed
     ensures { λ r. ⌜ r ≡ record { reader = freshReader frames head (tallied (judged x root) tally); count = count; answer = Answer.Judged (judged x root) } ⌝ }
 {
     let v = progress::judge(x, root);
@@ -237,12 +237,19 @@ fn ended(frames: usize, tally: Tally, x: Lex, root: bool, count: usize, head: bo
 }
 
 // The piece is read, and the record goes on.
-fn read_all(frames: usize, tally: Tally, x: Lex, root: bool, key: [u8; 32], count: usize) -> Fed
-    ensures { λ r. ⌜ r ≡ record { reader = record { frames = frames; lex = x; root = root; key = key; tally = tally }; count = count; answer = Answer.Quiet } ⌝ }
+fn read_all(
+    frames: usize,
+    tally: Tally,
+    x: Progress,
+    root: bool,
+    key: [u8; 32],
+    count: usize,
+) -> Fed
+    ensures { λ r. ⌜ r ≡ record { reader = record { frames = frames; progress = x; root = root; key = key; tally = tally }; count = count; answer = Answer.Quiet } ⌝ }
 {
     let next = Reader {
         frames: frames,
-        lex: x,
+        progress: x,
         root: root,
         key: key,
         tally: tally,
@@ -301,22 +308,32 @@ fn read_piece<'a>(r: Reader, table: &'a [u8; 7920], work: &mut [u8], piece: &'a 
     let classes = lexer::class::classes();
     let frames = r.frames;
     let tally = r.tally;
-    let mut lex = r.lex;
+    let mut progress = r.progress;
     let mut root = r.root;
     let kept = r.key;
     let mut key = whole_key(kept);
     let mut i = 0;
     while i < piece.len() {
-        let w = piece::read_on(table, &classes, work, &mut key, piece, frames, lex, root, i);
-        let l = w.lex;
-        lex = l;
+        let w = piece::read_on(
+            table,
+            &classes,
+            work,
+            &mut key,
+            piece,
+            frames,
+            progress,
+            root,
+            i,
+        );
+        let l = w.progress;
+        progress = l;
         root = w.root;
         i = w.at;
         if w.ended {
-            return ended(frames, tally, lex, root, i, false);
+            return end_record(frames, tally, progress, root, i, false);
         }
     }
-    read_all(frames, tally, lex, root, key, i)
+    read_all(frames, tally, progress, root, key, i)
 }
 
 // Reads a piece up to and with the first RS that ends a record. Ruled out: a feed that keeps levels of a record over its RS, and one that reads
@@ -325,7 +342,7 @@ pub fn feed<'a>(r: Reader, table: &'a [u8; 7920], work: &mut [u8], piece: &'a [u
     ensures { λ x. ⌜ record { reader = x .reader; count = x .count; answer = x .answer; work = now (work .exit) } ≡ feedOf r (tableIn (now (table .entry))) (now (work .entry)) (now (piece .entry)) ⌝ }
 {
     let frames = r.frames;
-    let x = r.lex;
+    let x = r.progress;
     let gate = admit(table, frames, x.level, x.len, work.len());
     if let Gate::Shut(n) = gate {
         return Fed {
@@ -343,7 +360,7 @@ pub fn close<'a>(r: Reader, table: &'a [u8; 7920], work: &'a [u8]) -> Closed
     ensures { λ x. ⌜ record { reader = x .reader; count = 0; answer = x .answer; work = now (work .entry) } ≡ closeOf r (tableIn (now (table .entry))) (now (work .entry)) ⌝ }
 {
     let frames = r.frames;
-    let x = r.lex;
+    let x = r.progress;
     let tally = r.tally;
     let gate = admit(table, frames, x.level, x.len, work.len());
     if let Gate::Shut(n) = gate {
@@ -353,7 +370,7 @@ pub fn close<'a>(r: Reader, table: &'a [u8; 7920], work: &'a [u8]) -> Closed
         };
     }
     if 0 < x.pos {
-        let e = ended(frames, tally, x, r.root, 0, true);
+        let e = end_record(frames, tally, x, r.root, 0, true);
         let n = e.reader;
         let v = e.answer;
         return Closed {

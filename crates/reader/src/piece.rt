@@ -9,10 +9,10 @@ ghost use Rattle.table.specs.Limits.{withinLimits};
 ghost use Rattle.progress.specs.Memory.{mem, endsRecord};
 ghost use Rattle.reader.specs.Went.{StepsAs, WentTo};
 use json::lexer::Step;
-use progress::Lex;
+use progress::Progress;
 
 // An RS behind at least one byte of a record.
-fn ends_record(x: Lex, b: u8) -> bool
+fn ends_record(x: Progress, b: u8) -> bool
     ensures { λ r. ⌜ r ≡ endsRecord x b ⌝ }
 {
     if b == 0x1E {
@@ -23,7 +23,7 @@ fn ends_record(x: Lex, b: u8) -> bool
 
 // How far a record was read: up to the end of the piece, over a byte that ends no record, or over the RS that ended it.
 pub struct Went {
-    pub lex: Lex,
+    pub progress: Progress,
     pub root: bool,
     pub at: usize,
     pub ended: bool,
@@ -36,27 +36,27 @@ fn read_byte<'a>(
     key: &mut [u8],
     piece: &'a [u8],
     frames: usize,
-    x: Lex,
+    x: Progress,
     root: bool,
     i: usize,
     st: Step,
 ) -> Went
     requires { ⌜ (withinLimits (tableIn (now table)) ≡ true) × (length (now key) ≡ 32) × (i < length (now piece)) × StepsAs x frames (now work) (getD (now piece) i 0) st ⌝ }
-    ensures { λ r. ⌜ WentTo (tableIn (now (table .entry))) frames (mem x root (now (key .entry)) (now (work .entry))) (now (piece .entry)) i (mem (r .lex) (r .root) (now (key .exit)) (now (work .exit))) (r .at) (r .ended) ⌝ }
+    ensures { λ r. ⌜ WentTo (tableIn (now (table .entry))) frames (mem x root (now (key .entry)) (now (work .entry))) (now (piece .entry)) i (mem (r .progress) (r .root) (now (key .exit)) (now (work .exit))) (r .at) (r .ended) ⌝ }
 {
     let b = piece[i];
     if ends_record(x, b) {
         return Went {
-            lex: x,
+            progress: x,
             root: root,
             at: i + 1,
             ended: true,
         };
     }
     let s = turn::turn(st, x, root, key, work, frames, table, b);
-    let l = s.lex;
+    let l = s.progress;
     Went {
-        lex: l,
+        progress: l,
         root: s.root,
         at: i + 1,
         ended: false,
@@ -71,25 +71,25 @@ pub fn read_on<'a>(
     key: &mut [u8],
     piece: &'a [u8],
     frames: usize,
-    x: Lex,
+    x: Progress,
     root: bool,
     i: usize,
 ) -> Went
     requires { ⌜ (withinLimits (tableIn (now table)) ≡ true) × (now classes ≡ classTable) × (length (now key) ≡ 32) × (i < length (now piece)) ⌝ }
-    ensures { λ r. ⌜ WentTo (tableIn (now (table .entry))) frames (mem x root (now (key .entry)) (now (work .entry))) (now (piece .entry)) i (mem (r .lex) (r .root) (now (key .exit)) (now (work .exit))) (r .at) (r .ended) ⌝ }
+    ensures { λ r. ⌜ WentTo (tableIn (now (table .entry))) frames (mem x root (now (key .entry)) (now (work .entry))) (now (piece .entry)) i (mem (r .progress) (r .root) (now (key .exit)) (now (work .exit))) (r .at) (r .ended) ⌝ }
 {
     let k = pass::keep(classes, x, key, piece, i);
-    let named = k.lex;
+    let named = k.progress;
     let top = turn::top_of(work, named.level);
     let p = pass::pass(classes, named, top, piece, k.at);
     let st = p.step;
-    let passed = p.lex;
+    let passed = p.progress;
     let at = p.at;
     if at < piece.len() {
         return read_byte(table, work, key, piece, frames, passed, root, at, st);
     }
     Went {
-        lex: passed,
+        progress: passed,
         root: root,
         at: at,
         ended: false,

@@ -13,7 +13,7 @@ use Rattle.load.specs.Step.{Loaded}
 use Rattle.load.specs.Loads.{LoadsAs}
 use Rattle.frame.specs.Frame.{frameCount}
 use Rattle.verdict.specs.declared.Verdict.{Verdict}
-use Rattle.text.specs.Text.{lineOf, linesOf, names}
+use Rattle.text.specs.Text.{lineOf, linesOf, streamNames}
 use Rattle.reader.specs.declared.Reader.{Reader}
 use Rattle.reader.specs.declared.Answer.{Answer}
 use Rattle.reader.specs.declared.Answer.the-variants as Says
@@ -117,11 +117,11 @@ text-of-stream t es book n r w s x least most long f p =
 -- gives them with the frames of the work buffer w
 module _ (b : List ℕ) (l : Loaded) (loaded : LoadsAs b l) (yes : loads b .number ≡ 0) where
   pub text-of-program : (w s x : List ℕ) → 96 ≤ length w → Prints (l .table) (startOf (l .table) w .reader) w s x
-      → beginning b ++ x ≡ names ++ linesOf (verdictsOf (judgeOf (loads b .entries) (frameCount (length w))) s)
+      → beginning b ++ x ≡ streamNames ++ linesOf (verdictsOf (judgeOf (loads b .entries) (frameCount (length w))) s)
   unfolding beginning
   text-of-program w s x h p =
       let n : ℕ = frameCount (length w) in
       let begun = begun-of-start (l .table) w (start-quiet b l loaded (l .table) refl w h) in
       let fits : 96 * n ≤ length w = omega arith in
-      rw yes (ap (λ y. names ++ y) (text-of-stream (l .table) (loads b .entries) (book-of-loaded b l loaded (l .table) refl yes) n (startOf (l .table) w .reader) w s x
+      rw yes (ap (λ y. streamNames ++ y) (text-of-stream (l .table) (loads b .entries) (book-of-loaded b l loaded (l .table) refl yes) n (startOf (l .table) w .reader) w s x
       (begun .least) (begun .most) fits (begun .fresh) p))

@@ -11,7 +11,7 @@ use Rattle.table.specs.Table.{Table}
 use Rattle.book.specs.Load.{loads}
 use Rattle.load.specs.Step.{tableOf}
 use Rattle.verdict.specs.declared.Verdict.{Verdict}
-use Rattle.text.specs.Text.{lineOf, names, bookLines}
+use Rattle.text.specs.Text.{lineOf, streamNames, bookLines}
 use Rattle.text.specs.Put.{room, hasRoom, Written, write}
 use Rattle.reader.specs.declared.Reader.{Reader}
 use Rattle.reader.specs.declared.Answer.{Answer}
@@ -105,7 +105,7 @@ finishOf r t w o = inOut o (cond (hasRoom (length o) 0) (closing (closeOf r t w)
 
 -- the text that a book begins with: the names of a stream's fields, or the lines of its refusal
 unfoldable pub beginning : List ℕ → List ℕ
-beginning b = cond (eqb (loads b .number) 0) names (bookLines (loads b .number) (loads b .line))
+beginning b = cond (eqb (loads b .number) 0) streamNames (bookLines (loads b .number) (loads b .line))
 
 -- whether the book is accepted, its table, and its text in the output where there is room for it
 pub record Begins (b o : List ℕ) (accepted : Bool) (table : Table) (out : List ℕ) (used : ℕ) : Type 0 where

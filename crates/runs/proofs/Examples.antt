@@ -12,7 +12,7 @@ use Rattle.table.specs.Keys.{numberOf}
 use Rattle.book.specs.Entry.{sameForm, withKey, keysFrom, keysOf, clash}
 use Rattle.runs.specs.Runs.{beginsPart, Valid}
 use Rattle.runs.specs.Sound.{isKeyed, isSound}
-use Rattle.runs.specs.Walk.{ofScalar, ofRules, ofWord, isOf, asks, ofArray, hasKey, anyEdge, leads, endsIn, startOf, moved, ended, afterElement, keyCount, numberIn, atOpening, afterKey, fitsEdge, afterValue, useKey, walk, objectFits, judging}
+use Rattle.runs.specs.Walk.{ofScalar, ofRules, ofWord, isOf, asks, ofArray, hasKey, anyEdge, leads, endsIn, startOf, moved, hasEnd, afterElement, keyCount, numberIn, atOpening, afterKey, fitsEdge, afterValue, useKey, walk, objectFits, judging}
 use Rattle.runs.specs.Examples.{Row, rows}
 use Rattle.runs.proofs.SoundLaws.{sound-of-isSound}
 use Rattle.runs.proofs.Judging.{valid-iff-judged, invalid-iff-judged}
@@ -31,7 +31,7 @@ agrees : Row → Bool
 agrees x = isSound (x .book) && Bool·beq (judgement x) (x .verdict)
 
 rows-agree : T (all agrees rows)
-unfolding agrees judgement isSound isKeyed clash all any same withKey keysFrom keysOf numberOf beginsPart ofScalar ofRules ofWord sameForm isOf asks ofArray hasKey anyEdge leads endsIn startOf moved ended afterElement keyCount numberIn atOpening afterKey fitsEdge afterValue useKey walk objectFits
+unfolding agrees judgement isSound isKeyed clash all any same withKey keysFrom keysOf numberOf beginsPart ofScalar ofRules ofWord sameForm isOf asks ofArray hasKey anyEdge leads endsIn startOf moved hasEnd afterElement keyCount numberIn atOpening afterKey fitsEdge afterValue useKey walk objectFits
 rows-agree = tt
 
 says-of-judgement : (x : Row) → T (isSound (x .book)) → (b : Bool) → judgement x ≡ b → Says b x

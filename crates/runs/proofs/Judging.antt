@@ -13,10 +13,10 @@ use Rattle.table.specs.declared.kind.ValueKind.the-variants.{Plain, Rule}
 use Rattle.book.specs.Entry.{arr, Entry, edge}
 use Rattle.runs.specs.Runs.{_∈_, Fits, fits-array, fits-object, ArrayRun, array-end, array-edge, ObjectRun, order-array, order-object, OrderValues, order-no-values, order-values, OrderPairs, Compound, compound-array, compound-object, FitsInSomeOrder, in-order, Valid}
 use Rattle.runs.specs.Sound.{Sound}
-use Rattle.runs.specs.Walk.{ofRules, States, startOf, ended, afterElement, atOpening, objectFits, judging}
+use Rattle.runs.specs.Walk.{ofRules, States, startOf, hasEnd, afterElement, atOpening, objectFits, judging}
 use Rattle.runs.proofs.RunLaws.{keys-once-of-fits-in-some-order}
-use Rattle.runs.proofs.StateLaws.{EndIn, end-in, ended-of-end, end-of-ended, start-of-end, start-of-edge, zero-of-start, ElementMove, element-move, afterElement-of-edge, edge-of-afterElement}
-use Rattle.runs.proofs.WalkLaws.{Judged, AllJudged, judged-none, judged-pair, run-of-objectFits, objectFits-of-run}
+use Rattle.runs.proofs.StateLaws.{EndIn, end-in, hasEnd-of-end, end-of-hasEnd, start-of-end, start-of-edge, zero-of-start, ElementMove, element-move, afterElement-of-edge, edge-of-afterElement}
+use Rattle.runs.proofs.WalkLaws.{Evaluated, AllJudged, judged-none, judged-pair, run-of-objectFits, objectFits-of-run}
 use Rattle.runs.proofs.ScalarLaws.{judged-word, judged-string, judged-number}
 
 module _ (es : List Entry) where
@@ -25,14 +25,14 @@ module _ (es : List Entry) where
   -- each of some elements is judged as it fits
   data AllElementsJudged : Values → Type 0 where
     judged-no-values : AllElementsJudged no-values
-    judged-values : {v : Json} {vs : Values} → Judged es v → AllElementsJudged vs → AllElementsJudged (values v vs)
+    judged-values : {v : Json} {vs : Values} → Evaluated es v → AllElementsJudged vs → AllElementsJudged (values v vs)
 
   -- elements in some order of the pairs within them have a run of rule r from one of the states
   data ElementsRunFrom (S : States) (r : ℕ) (vs : Values) : Type 0 where
     elements-run-from : {q : ℕ} {ws : Values} → T (S r q) → OrderValues vs ws → ArrayRun es r q ws → ElementsRunFrom S r vs
 
-  run-of-elements : {vs : Values} → AllElementsJudged vs → (S : States) (r : ℕ) → T (ended es arr (elements (judging es) vs S) r) → ElementsRunFrom S r vs
-  run-of-elements judged-no-values S r h = go (end-of-ended es arr S r h)
+  run-of-elements : {vs : Values} → AllElementsJudged vs → (S : States) (r : ℕ) → T (hasEnd es arr (elements (judging es) vs S) r) → ElementsRunFrom S r vs
+  run-of-elements judged-no-values S r h = go (end-of-hasEnd es arr S r h)
     where
       go : EndIn es arr S r → ElementsRunFrom S r no-values
       go (end-in i s) = elements-run-from s order-no-values (array-end i)
@@ -49,8 +49,8 @@ module _ (es : List Entry) where
       go (elements-run-from {q} s os run) = move os run (edge-of-afterElement es S (meaning (judging es) v) r q s)
 
   elements-of-run : {vs ws : Values} {r q : ℕ} → AllElementsJudged vs → OrderValues vs ws → ArrayRun es r q ws → (S : States) → T (S r q)
-      → T (ended es arr (elements (judging es) vs S) r)
-  elements-of-run judged-no-values order-no-values (array-end i) S s = ended-of-end es S i s
+      → T (hasEnd es arr (elements (judging es) vs S) r)
+  elements-of-run judged-no-values order-no-values (array-end i) S s = hasEnd-of-end es S i s
   elements-of-run (judged-values {v} j js) (order-values o os) (array-edge {t} i f run) S s =
       elements-of-run js os run (afterElement es S (meaning (judging es) v)) (afterElement-of-edge es S (meaning (judging es) v) i s (j .judged t (in-order o f)))
 
@@ -58,7 +58,7 @@ module _ (es : List Entry) where
   start-of-array-run (array-end i) = start-of-end es i
   start-of-array-run (array-edge i f run) = start-of-edge es i
 
-  judged-array : (vs : Values) → AllElementsJudged vs → Judged es (array vs)
+  judged-array : (vs : Values) → AllElementsJudged vs → Evaluated es (array vs)
   unfolding ofRules
   judged-array vs js = record { fits = fits′; judged = λ t f. back f }
     where
@@ -83,7 +83,7 @@ compound-of-fits (in-order (order-object os) f) = compound-object
 module _ {es : List Entry} (sound : Sound es) where
   -- ---- objects
 
-  judged-object : (ps : Pairs) → AllJudged es ps → Judged es (object ps)
+  judged-object : (ps : Pairs) → AllJudged es ps → Evaluated es (object ps)
   unfolding ofRules
   judged-object ps js = record { fits = fits′; judged = λ t f. back f }
     where
@@ -100,7 +100,7 @@ module _ {es : List Entry} (sound : Sound es) where
   -- ---- every value
 
   mutual
-    judged-value : (v : Json) → Judged es v
+    judged-value : (v : Json) → Evaluated es v
     judged-value (word x) = judged-word es x
     judged-value (string cs) = judged-string es cs
     judged-value (number ds) = judged-number es ds

@@ -13,7 +13,7 @@ use Rattle.table.specs.declared.kind.ValueKind.the-variants.{Plain, Rule}
 use Rattle.book.specs.Entry.{Entry}
 use Rattle.runs.specs.Runs.{beginsPart, isInteger, Fits, fits-null, fits-true, fits-false, fits-str, fits-num, fits-int, order-word, order-string, order-number, FitsInSomeOrder, in-order}
 use Rattle.runs.specs.Walk.{ofScalar, ofWord}
-use Rattle.runs.proofs.WalkLaws.{Judged}
+use Rattle.runs.proofs.WalkLaws.{Evaluated}
 
 module _ (es : List Entry) where
   -- ---- words
@@ -48,7 +48,7 @@ module _ (es : List Entry) where
   word-of-fits fits-true = tt
   word-of-fits fits-false = tt
 
-  pub judged-word : (x : Word) → Judged es (word x)
+  pub judged-word : (x : Word) → Evaluated es (word x)
   judged-word x = record { fits = λ t h. in-order order-word (fits-of-word x t h); judged = λ t f. back f }
     where
       back : {t : ValueKind} → FitsInSomeOrder es t (word x) → T (ofWord x t)
@@ -66,7 +66,7 @@ module _ (es : List Entry) where
   fits-of-string cs (Plain Int) h = absurd h
   fits-of-string cs (Rule n) h = absurd h
 
-  pub judged-string : (cs : List ℕ) → Judged es (string cs)
+  pub judged-string : (cs : List ℕ) → Evaluated es (string cs)
   unfolding ofScalar
   judged-string cs = record { fits = λ t h. in-order order-string (fits-of-string cs t h); judged = λ t f. back f }
     where
@@ -109,7 +109,7 @@ module _ (es : List Entry) where
   number-of-fits (fits-num {ds}) = number-fits-num (isInteger ds)
   number-of-fits (fits-int {ds} h) = integer-fits-int (isInteger ds) h
 
-  pub judged-number : (ds : List ℕ) → Judged es (number ds)
+  pub judged-number : (ds : List ℕ) → Evaluated es (number ds)
   unfolding isInteger
   judged-number ds =
       record {

@@ -10,7 +10,7 @@ use Rattle.laws.proofs.ListLaws.{any-of-member, member-of-any}
 use Rattle.table.specs.declared.kind.ValueKind.{ValueKind}
 use Rattle.book.specs.Entry.{Form, obj, arr, sameForm, Entry, edge, end-state}
 use Rattle.runs.specs.Runs.{_∈_}
-use Rattle.runs.specs.Walk.{isOf, asks, ofArray, States, leads, endsIn, startOf, moved, ended, afterElement}
+use Rattle.runs.specs.Walk.{isOf, asks, ofArray, States, leads, endsIn, startOf, moved, hasEnd, afterElement}
 use Rattle.runs.proofs.EdgeLaws.{EdgeFrom, anyEdge-of-edge, edge-of-anyEdge, member-of-edge, edge-of-member}
 
 sameForm-refl : (f : Form) → T (sameForm f f)
@@ -33,14 +33,14 @@ module _ (es : List Entry) where
     end-in : {q : ℕ} → end-state n f q ∈ es → T (S n q) → EndIn f S n
 
   -- it ends the run
-  pub ended-of-end : {f : Form} (S : States) {n q : ℕ} → end-state n f q ∈ es → T (S n q) → T (ended es f S n)
-  unfolding ended endsIn
-  ended-of-end {f} S {n} {q} i h = any-of-member (endsIn f S n) i (T-and (sameForm f f) (eqb n n && S n q) (sameForm-refl f) (T-and (eqb n n) (S n q) (eqb-refl n) h))
+  pub hasEnd-of-end : {f : Form} (S : States) {n q : ℕ} → end-state n f q ∈ es → T (S n q) → T (hasEnd es f S n)
+  unfolding hasEnd endsIn
+  hasEnd-of-end {f} S {n} {q} i h = any-of-member (endsIn f S n) i (T-and (sameForm f f) (eqb n n && S n q) (sameForm-refl f) (T-and (eqb n n) (S n q) (eqb-refl n) h))
 
   -- where a rule has ended, there is one
-  pub end-of-ended : (f : Form) (S : States) (n : ℕ) → T (ended es f S n) → EndIn f S n
-  unfolding ended endsIn
-  end-of-ended f S n h = let (x, i, g) = member-of-any (endsIn f S n) es h in go x i g
+  pub end-of-hasEnd : (f : Form) (S : States) (n : ℕ) → T (hasEnd es f S n) → EndIn f S n
+  unfolding hasEnd endsIn
+  end-of-hasEnd f S n h = let (x, i, g) = member-of-any (endsIn f S n) es h in go x i g
     where
       go : (x : Entry) → x ∈ es → T (endsIn f S n x) → EndIn f S n
       go (edge r g q k t m) i d = absurd d

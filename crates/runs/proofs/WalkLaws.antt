@@ -16,15 +16,15 @@ use Rattle.table.specs.Keys.{numberOf}
 use Rattle.book.specs.Entry.{obj, arr, Entry, edge, keysOf}
 use Rattle.runs.specs.Runs.{_∈_, Fits, ObjectRun, object-end, object-edge, Insert, in-front, OrderPairs, order-no-pairs, Among, first, later, KeyTwice, FitsInSomeOrder, in-order}
 use Rattle.runs.specs.Sound.{Sound}
-use Rattle.runs.specs.Walk.{asks, hasKey, States, OpenObject, startOf, moved, ended, keyCount, numberIn, atOpening, useKey, walk, objectFits, judging}
+use Rattle.runs.specs.Walk.{asks, hasKey, States, OpenObject, startOf, moved, hasEnd, keyCount, numberIn, atOpening, useKey, walk, objectFits, judging}
 use Rattle.runs.proofs.EdgeLaws.{EdgeFrom, edge-unique, member-of-edge, edge-of-member}
 use Rattle.runs.proofs.OrderLaws.{among-insert, among-cases, insert-of-among, key-twice-of-insert, key-twice-insert, before-of-order, after-order, key-twice-order, order-insert}
 use Rattle.runs.proofs.RunLaws.{number-lt-of-edge, number-lt-of-run, known-of-run, keys-once-of-run}
-use Rattle.runs.proofs.StateLaws.{EndIn, end-in, ended-of-end, end-of-ended, start-of-end, start-of-edge, zero-of-start, MoveTo, move-to, moved-of-edge, edge-of-moved}
+use Rattle.runs.proofs.StateLaws.{EndIn, end-in, hasEnd-of-end, end-of-hasEnd, start-of-end, start-of-edge, zero-of-start, MoveTo, move-to, moved-of-edge, edge-of-moved}
 use Rattle.runs.proofs.OpenLaws.{key-eq-of-numberIn-eq, SeenBy, seen-by, seen-of-among, among-of-seen, FittingBy, fitting-by, fitting-of-among, among-of-fitting, known-of-unmarked, once-of-unmarked, unmarked-of-known-once}
 
 -- a value is judged as it fits
-pub record Judged (es : List Entry) (v : Json) : Type 0 where
+pub record Evaluated (es : List Entry) (v : Json) : Type 0 where
   pub fits : (t : ValueKind) → T (meaning (judging es) v t) → FitsInSomeOrder es t v
   pub judged : (t : ValueKind) → FitsInSomeOrder es t v → T (meaning (judging es) v t)
 
@@ -79,7 +79,7 @@ module _ (es : List Entry) (o : OpenObject) where
 
   -- what else the walk needs to know of the pairs that are left
   record LeftToRun (i : ℕ) (ps : Pairs) : Type 0 where
-    good : {k : List ℕ} {v : Json} → Among k v ps → Judged es v
+    good : {k : List ℕ} {v : Json} → Among k v ps → Evaluated es v
     known : {k : List ℕ} {v : Json} → Among k v ps → numberIn es k < keyCount es
     once : KeyTwice ps → ⊥
     takes : {e r q m : ℕ} {k : List ℕ} {t : ValueKind} → EdgeFrom 0 es e (edge r obj q k t m) → T (o .fitting e) → i ≤ numberIn es k → Taking k t ps
@@ -125,9 +125,9 @@ module _ (es : List Entry) (o : OpenObject) where
   atKey i e x = o .fitting e && hasKey (keysOf es) i x
 
   -- the walk accepts only where some order of the pairs has a run
-  run-of-walk : (n i : ℕ) (ps : Pairs) → Left i n ps → LeftToRun i ps → (S : States) (r : ℕ) → T (ended es obj (walk es o i n S) r) → RunFrom es S r ps
+  run-of-walk : (n i : ℕ) (ps : Pairs) → Left i n ps → LeftToRun i ps → (S : States) (r : ℕ) → T (hasEnd es obj (walk es o i n S) r) → RunFrom es S r ps
   unfolding walk useKey hasKey numberIn
-  run-of-walk zero i no-pairs l m S r h = go (end-of-ended es obj S r h)
+  run-of-walk zero i no-pairs l m S r h = go (end-of-hasEnd es obj S r h)
     where
       go : EndIn es obj S r → RunFrom es S r no-pairs
       go (end-in j s) = run-from s order-no-pairs (object-end j)
@@ -135,7 +135,7 @@ module _ (es : List Entry) (o : OpenObject) where
   run-of-walk (suc n) i ps l m S r h = go (o .seen i) refl h (λ (qs : Pairs) (a : Left (suc i) n qs) (b : LeftToRun (suc i) qs) (S′ : States). run-of-walk n (suc i) qs a b S′ r)
     where
       Further : Type 0
-      Further = (qs : Pairs) → Left (suc i) n qs → LeftToRun (suc i) qs → (S′ : States) → T (ended es obj (walk es o (suc i) n S′) r) → RunFrom es S′ r qs
+      Further = (qs : Pairs) → Left (suc i) n qs → LeftToRun (suc i) qs → (S′ : States) → T (hasEnd es obj (walk es o (suc i) n S′) r) → RunFrom es S′ r qs
 
       -- the run from one state on, with the pair in front that leads there
       taken : {k : List ℕ} {v : Json} {qs : Pairs} → Insert k v qs ps → numberIn es k ≡ i → Left (suc i) n qs → RunFrom es (moved es (atKey i) S) r qs
@@ -158,13 +158,13 @@ module _ (es : List Entry) (o : OpenObject) where
               let c : numberIn es x ≡ i = eqb→eq (numberIn es x) i (T-and-right (o .fitting d) (eqb (numberIn es x) i) w) in
               same-pair s′ (member-of-edge y) c (m .takes y (T-and-left (o .fitting d) (eqb (numberIn es x) i) w) (omega arith))
 
-      pick : T (ended es obj (walk es o (suc i) n (moved es (atKey i) S)) r) → Further → SeenBy es i ps → RunFrom es S r ps
+      pick : T (hasEnd es obj (walk es o (suc i) n (moved es (atKey i) S)) r) → Further → SeenBy es i ps → RunFrom es S r ps
       pick h f (seen-by {k} {v} a e) =
           let (qs, j) = insert-of-among a in
           let l′ : Left (suc i) n qs = left-taken j e (above-taken j e l m) l in
           taken j e l′ (f qs l′ (toRun-taken j e m) (moved es (atKey i) S) h)
 
-      go : (b : Bool) → o .seen i ≡ b → T (ended es obj (walk es o (suc i) n (cond b (moved es (atKey i) S) S)) r) → Further → RunFrom es S r ps
+      go : (b : Bool) → o .seen i ≡ b → T (hasEnd es obj (walk es o (suc i) n (cond b (moved es (atKey i) S) S)) r) → Further → RunFrom es S r ps
       go true e h f = pick h f (l .met i (omega arith) (T-of-true (o .seen i) e))
       go false e h f = f ps (left-unseen e l) (toRun-unseen m) S h
 
@@ -174,9 +174,9 @@ module _ (es : List Entry) (o : OpenObject) where
     -- the walk accepts wherever the pairs, in this order, have a run whose edges are fitting ones
     walk-of-run : (n i : ℕ) (qs : Pairs) → Left i n qs
         → ((e r q m : ℕ) (k : List ℕ) (t : ValueKind) (w : Json) → EdgeFrom 0 es e (edge r obj q k t m) → Among k w qs → Fits es t w → T (o .fitting e))
-        → (S : States) (r q : ℕ) → T (S r q) → ObjectRun es r q qs → T (ended es obj (walk es o i n S) r)
+        → (S : States) (r q : ℕ) → T (S r q) → ObjectRun es r q qs → T (hasEnd es obj (walk es o i n S) r)
     unfolding walk useKey hasKey numberIn
-    walk-of-run zero i no-pairs l fit S r q s (object-end j) = ended-of-end es S j s
+    walk-of-run zero i no-pairs l fit S r q s (object-end j) = hasEnd-of-end es S j s
     walk-of-run zero i (pairs k v qs) l fit S r q s run = let a : i ≤ numberIn es k = l .above first in let b : numberIn es k < i + zero = l .below first in absurd (omega arith)
     walk-of-run (suc n) i qs l fit S r q s run = go (o .seen i) refl (λ (xs : Pairs) (a : Left (suc i) n xs). walk-of-run n (suc i) xs a)
       where
@@ -184,11 +184,11 @@ module _ (es : List Entry) (o : OpenObject) where
         Fitting xs = (e r q m : ℕ) (k : List ℕ) (t : ValueKind) (w : Json) → EdgeFrom 0 es e (edge r obj q k t m) → Among k w xs → Fits es t w → T (o .fitting e)
 
         Further : Type 0
-        Further = (xs : Pairs) → Left (suc i) n xs → Fitting xs → (S′ : States) (r q : ℕ) → T (S′ r q) → ObjectRun es r q xs → T (ended es obj (walk es o (suc i) n S′) r)
+        Further = (xs : Pairs) → Left (suc i) n xs → Fitting xs → (S′ : States) (r q : ℕ) → T (S′ r q) → ObjectRun es r q xs → T (hasEnd es obj (walk es o (suc i) n S′) r)
 
         -- the pair with key i is the first, since the numbers rise
         step : {xs : Pairs} → Left i (suc n) xs → Fitting xs → ObjectRun es r q xs → SeenBy es i xs → Further
-            → T (ended es obj (walk es o (suc i) n (moved es (atKey i) S)) r)
+            → T (hasEnd es obj (walk es o (suc i) n (moved es (atKey i) S)) r)
         step l fit (object-end j) (seen-by a e) f = elim a [ ]
         step l fit (object-edge {m} {k} {t} {v = w} {ps = xs} j g run) (seen-by {k = x} {v = u} a e) f =
             let (d, y) = edge-of-member 0 j in
@@ -203,7 +203,7 @@ module _ (es : List Entry) (o : OpenObject) where
                 which (inl (d, _)) = ap (numberIn es) d ∙ e
                 which (inr c) = let h : numberIn es k < numberIn es x = number-lt-of-run sound j run c in let p : i ≤ numberIn es k = l .above first in absurd (omega arith)
 
-        go : (b : Bool) → o .seen i ≡ b → Further → T (ended es obj (walk es o (suc i) n (cond b (moved es (atKey i) S) S)) r)
+        go : (b : Bool) → o .seen i ≡ b → Further → T (hasEnd es obj (walk es o (suc i) n (cond b (moved es (atKey i) S) S)) r)
         go true e f = step l fit run (l .met i (omega arith) (T-of-true (o .seen i) e)) f
         go false e f = f qs (left-unseen e l) fit S r q s run
 
@@ -212,10 +212,10 @@ module _ (es : List Entry) (o : OpenObject) where
 -- each value of some pairs is judged as it fits
 pub data AllJudged (es : List Entry) : Pairs → Type 0 where
   judged-none : AllJudged es no-pairs
-  judged-pair : {k : List ℕ} {v : Json} {ps : Pairs} → Judged es v → AllJudged es ps → AllJudged es (pairs k v ps)
+  judged-pair : {k : List ℕ} {v : Json} {ps : Pairs} → Evaluated es v → AllJudged es ps → AllJudged es (pairs k v ps)
 
 -- each of them by itself
-judged-of-among : {es : List Entry} {k : List ℕ} {v : Json} {ps : Pairs} → AllJudged es ps → Among k v ps → Judged es v
+judged-of-among : {es : List Entry} {k : List ℕ} {v : Json} {ps : Pairs} → AllJudged es ps → Among k v ps → Evaluated es v
 judged-of-among (judged-pair j js) first = j
 judged-of-among (judged-pair j js) (later a) = judged-of-among js a
 
@@ -243,10 +243,10 @@ module _ {es : List Entry} (sound : Sound es) (ps : Pairs) (judgements : AllJudg
   run-of-objectFits r h = from (run-of-walk es (kept es ps) (keyCount es) 0 ps left to-run (startOf es obj) r accepted)
     where
       clear : T (not ((kept es ps) .marked))
-      clear = T-and-left (not ((kept es ps) .marked)) (ended es obj (walk es (kept es ps) 0 (keyCount es) (startOf es obj)) r) h
+      clear = T-and-left (not ((kept es ps) .marked)) (hasEnd es obj (walk es (kept es ps) 0 (keyCount es) (startOf es obj)) r) h
 
-      accepted : T (ended es obj (walk es (kept es ps) 0 (keyCount es) (startOf es obj)) r)
-      accepted = T-and-right (not ((kept es ps) .marked)) (ended es obj (walk es (kept es ps) 0 (keyCount es) (startOf es obj)) r) h
+      accepted : T (hasEnd es obj (walk es (kept es ps) 0 (keyCount es) (startOf es obj)) r)
+      accepted = T-and-right (not ((kept es ps) .marked)) (hasEnd es obj (walk es (kept es ps) 0 (keyCount es) (startOf es obj)) r) h
 
       left : Left es (kept es ps) 0 (keyCount es) ps
       left = record {
@@ -276,7 +276,7 @@ module _ {es : List Entry} (sound : Sound es) (ps : Pairs) (judgements : AllJudg
   pub objectFits-of-run : {r : ℕ} {qs : Pairs} → OrderPairs ps qs → ObjectRun es r 0 qs → T (objectFits es (kept es ps) r)
   unfolding objectFits hasKey asks numberIn
   objectFits-of-run {r} {qs} os run =
-      T-and (not ((kept es ps) .marked)) (ended es obj (walk es (kept es ps) 0 (keyCount es) (startOf es obj)) r)
+      T-and (not ((kept es ps) .marked)) (hasEnd es obj (walk es (kept es ps) 0 (keyCount es) (startOf es obj)) r)
       (unmarked-of-known-once es ps (λ k v a. known a) (λ d. keys-once-of-run sound run (key-twice-order os d)))
       (walk-of-run es (kept es ps) sound (keyCount es) 0 qs left fit (startOf es obj) r 0 (start-of-run run) run)
     where

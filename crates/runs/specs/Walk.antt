@@ -98,8 +98,8 @@ module _ (es : List Entry) where
   moved p S n m = anyEdge (λ (e : ℕ) (x : Entry). leads S n m x && p e x) 0 es
 
   -- the rules of a form that have an end state among the states
-  unfoldable pub ended : Form → States → ℕ → Bool
-  ended f S n = any (endsIn f S n) es
+  unfoldable pub hasEnd : Form → States → ℕ → Bool
+  hasEnd f S n = any (endsIn f S n) es
 
   -- ---- arrays
 
@@ -159,7 +159,7 @@ module _ (es : List Entry) where
 
   -- the rules that an object fits: none where the mark is set
   unfoldable pub objectFits : OpenObject → ℕ → Bool
-  objectFits o n = not (o .marked) && ended obj (walk o 0 keyCount (startOf obj)) n
+  objectFits o n = not (o .marked) && hasEnd obj (walk o 0 keyCount (startOf obj)) n
 
   -- ---- the meaning
 
@@ -180,7 +180,7 @@ module _ (es : List Entry) where
     of-number = λ (b : Bool). ofScalar (cond b Int Num);
     array-start = startOf arr;
     array-element = afterElement;
-    of-array = λ (S : States). ofRules (ended arr S);
+    of-array = λ (S : States). ofRules (hasEnd arr S);
     object-start = atOpening;
     object-key = afterKey;
     object-value = afterValue;

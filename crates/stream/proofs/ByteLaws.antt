@@ -15,35 +15,35 @@ use Rattle.table.specs.Table.{Table}
 use Rattle.verdict.specs.Verdict.{longest}
 use Rattle.progress.specs.declared.Fault.{Fault}
 use Rattle.progress.specs.declared.Fault.the-variants as F
-use Rattle.progress.specs.declared.Lex.{Lex}
+use Rattle.progress.specs.declared.Progress.{Progress}
 use Rattle.progress.specs.declared.Task.{Task}
 use Rattle.progress.specs.declared.Task.the-variants as To
 use Rattle.progress.specs.declared.Advanced.{Advanced}
 use Rattle.progress.specs.Act.{firstFault}
 use Rattle.progress.proofs.ActLaws.{levelAfter-le, lenAfter-le}
-use Rattle.progress.specs.Lex.{bump, counted, faulted, actedBy, sound, afterHead, byFault, advanced}
+use Rattle.progress.specs.Progress.{bump, counted, faulted, actedBy, sound, afterHead, byFault, advanced}
 use Rattle.progress.specs.Memory.{Mem, mem, topAt, closeAt, perform, advancedAt, stepMem, endsRecord, Ran, runMem}
 use Rattle.laws.proofs.TestLaws.{cond-elim}
 
 -- no more open levels than n, and at most 33 characters of a key
-pub record Within (n : ℕ) (x : Lex) : Type 0 where
+pub record Within (n : ℕ) (x : Progress) : Type 0 where
   pub level : x .level ≤ n
   pub len : x .len ≤ 33
 
 -- what a byte other than RS does: the bounds stay, it is counted, and the head stays
-pub record Moves (n : ℕ) (x y : Lex) : Type 0 where
+pub record Moves (n : ℕ) (x y : Progress) : Type 0 where
   pub within : Within n x → Within n y
   pub pos : y .pos ≡ bump (x .pos)
   pub head : y .head ≡ x .head
 
 -- ---- each step of the lexer
 
-module _ (n : ℕ) (x : Lex) where
+module _ (n : ℕ) (x : Progress) where
   abbrev Moved : Advanced → Type 0
-  Moved a = Moves n x (a .lex)
+  Moved a = Moves n x (a .progress)
 
   -- a byte that opens no level and adds no character to a key
-  moves-of-le : (y : Lex) → y .level ≤ x .level → y .len ≤ x .len → y .pos ≡ bump (x .pos) → y .head ≡ x .head → Moves n x y
+  moves-of-le : (y : Progress) → y .level ≤ x .level → y .len ≤ x .len → y .pos ≡ bump (x .pos) → y .head ≡ x .head → Moves n x y
   moves-of-le y h g p e =
       record { within = λ (i : Within n x). record { level = omega (arith, i .level); len = omega (arith, i .len) }; pos = p; head = e }
 
@@ -84,40 +84,40 @@ module _ (n : ℕ) (x : Lex) where
 -- ---- the memory
 
 -- what is to be done does not change what is known of the record
-lex-of-perform : (k : Task) (t : Table) (m : Mem) (x : Lex) → perform k t m x .lex ≡ x
+progress-of-perform : (k : Task) (t : Table) (m : Mem) (x : Progress) → perform k t m x .progress ≡ x
 unfolding closeAt
-lex-of-perform To.Idle t m x = refl
-lex-of-perform (To.Put c) t m x = refl
-lex-of-perform To.Named t m x = refl
-lex-of-perform (To.Open o) t m x = refl
-lex-of-perform (To.Finish s) t m x = refl
-lex-of-perform To.Close t m x = refl
-lex-of-perform (To.FinishClose s) t m x = refl
+progress-of-perform To.Idle t m x = refl
+progress-of-perform (To.Put c) t m x = refl
+progress-of-perform To.Named t m x = refl
+progress-of-perform (To.Open o) t m x = refl
+progress-of-perform (To.Finish s) t m x = refl
+progress-of-perform To.Close t m x = refl
+progress-of-perform (To.FinishClose s) t m x = refl
 
 module _ (t : Table) (n : ℕ) (m : Mem) where
   -- a byte other than RS
-  pub moves-of-byte : (b : ℕ) → eqb b 0x1E ≡ false → Moves n (m .lex) (stepMem t n m b .lex)
+  pub moves-of-byte : (b : ℕ) → eqb b 0x1E ≡ false → Moves n (m .progress) (stepMem t n m b .progress)
   unfolding stepMem
   moves-of-byte b e =
-      rw (lex-of-perform (advancedAt n m b .task) t m (advancedAt n m b .lex))
-      (moves-advanced n (m .lex) b (stepOf (m .lex .mode) (topAt (m .work) (m .lex .level)) b) e)
+      rw (progress-of-perform (advancedAt n m b .task) t m (advancedAt n m b .progress))
+      (moves-advanced n (m .progress) b (stepOf (m .progress .mode) (topAt (m .work) (m .progress .level)) b) e)
 
   -- in the head it is counted, and no more
-  pub stepMem-in-head : (b : ℕ) → eqb b 0x1E ≡ false → m .lex .head ≡ true
-      → stepMem t n m b ≡ mem (counted (m .lex) .lex) (m .root) (m .key) (m .work)
+  pub stepMem-in-head : (b : ℕ) → eqb b 0x1E ≡ false → m .progress .head ≡ true
+      → stepMem t n m b ≡ mem (counted (m .progress) .progress) (m .root) (m .key) (m .work)
   unfolding stepMem advanced
   stepMem-in-head b e h = rw (e, h)
 
   -- an RS that ends no record ends the head, and no more
-  pub stepMem-of-RS : (b : ℕ) → eqb b 0x1E ≡ true → stepMem t n m b ≡ mem (afterHead (m .lex)) (m .root) (m .key) (m .work)
+  pub stepMem-of-RS : (b : ℕ) → eqb b 0x1E ≡ true → stepMem t n m b ≡ mem (afterHead (m .progress)) (m .root) (m .key) (m .work)
   unfolding stepMem advanced
   stepMem-of-RS b e = rw e
 
   -- a byte keeps the bounds
-  pub within-of-byte : (b : ℕ) → Within n (m .lex) → Within n (stepMem t n m b .lex)
+  pub within-of-byte : (b : ℕ) → Within n (m .progress) → Within n (stepMem t n m b .progress)
   within-of-byte b i = go (eqb b 0x1E) refl
     where
-      go : (x : Bool) → eqb b 0x1E ≡ x → Within n (stepMem t n m b .lex)
+      go : (x : Bool) → eqb b 0x1E ≡ x → Within n (stepMem t n m b .progress)
       go true e = rw (stepMem-of-RS b e) (record { level = i .level; len = i .len })
       go false e = moves-of-byte b e .within i
 
@@ -128,7 +128,7 @@ bump-pos p = cond-elim (λ (k : ℕ). ltb 0 k ≡ true) (ltb p 4294967295) (λ h
 
 -- ---- pieces
 
-module _ (x : Lex) (b : ℕ) where
+module _ (x : Progress) (b : ℕ) where
   -- an RS ends a record where one is open, and no other byte does
   pub endsRecord-of-RS : eqb b 0x1E ≡ true → endsRecord x b ≡ ltb 0 (x .pos)
   unfolding endsRecord
@@ -139,9 +139,9 @@ module _ (x : Lex) (b : ℕ) where
   endsRecord-of-byte e = rw e
 
 -- a piece keeps the bounds
-pub within-of-piece : (t : Table) (n : ℕ) (s : List ℕ) (m : Mem) (i : ℕ) → Within n (m .lex) → Within n (runMem t n m i s .memory .lex)
+pub within-of-piece : (t : Table) (n : ℕ) (s : List ℕ) (m : Mem) (i : ℕ) → Within n (m .progress) → Within n (runMem t n m i s .memory .progress)
 unfolding runMem
 within-of-piece t n [] m i w = w
 within-of-piece t n (b ∷ s) m i w =
-    cond-elim (λ (e : Ran). Within n (e .memory .lex)) (endsRecord (m .lex) b) (λ h. w)
+    cond-elim (λ (e : Ran). Within n (e .memory .progress)) (endsRecord (m .progress) b) (λ h. w)
     (λ h. within-of-piece t n s (stepMem t n m b) (i + 1) (within-of-byte t n m b w))

@@ -12,7 +12,7 @@ use Rattle.table.specs.Table.{Table}
 use Rattle.table.specs.Limits.{withinLimits}
 use Rattle.frame.specs.Frame.{frameCount}
 use Rattle.progress.specs.Memory.{Ran, runMem}
-use Rattle.progress.specs.Fresh.{freshLex}
+use Rattle.progress.specs.Fresh.{freshProgress}
 use Rattle.reader.specs.declared.Reader.{Reader}
 use Rattle.reader.specs.declared.Refusal.{Refusal}
 use Rattle.reader.specs.declared.Refusal.the-variants as No
@@ -61,7 +61,7 @@ reading-not-refused r (feed t w s) k = go (runMem t (r .frames) (memoryOf r w) 0
         (λ h q. let z : _≡_ {A = ℕ} 0 1 = cc in omega arith)
         (λ h q. let z : _≡_ {A = ℕ} 0 1 = cc in omega arith)
 reading-not-refused r (close t w) k =
-    cond-elim (λ (o : Outcome). o .answer ≡ Says.Refused k → ⊥) (ltb 0 (r .lex .pos))
+    cond-elim (λ (o : Outcome). o .answer ≡ Says.Refused k → ⊥) (ltb 0 (r .progress .pos))
     (λ h q. let z : _≡_ {A = ℕ} 0 1 = cc in omega arith)
     (λ h q. let z : _≡_ {A = ℕ} 0 1 = cc in omega arith)
 
@@ -89,16 +89,16 @@ unchanged-of-refused r c k =
 -- n frames, and what is known of the record within their bounds
 pub record Good (n : ℕ) (r : Reader) : Type 0 where
   pub frames : r .frames ≡ n
-  pub within : Within n (r .lex)
+  pub within : Within n (r .progress)
 
-within-of-fresh : (n : ℕ) (head : Bool) → Within n (freshLex head)
+within-of-fresh : (n : ℕ) (head : Bool) → Within n (freshProgress head)
 within-of-fresh n head = record { level = omega arith; len = omega arith }
 
 -- a fresh reader is within its bounds
 pub good-of-fresh : (n : ℕ) (r : Reader) → Fresh n r → Good n r
-good-of-fresh n r f = record { frames = f .frames; within = rw (f .lex) (within-of-fresh n true) }
+good-of-fresh n r f = record { frames = f .frames; within = rw (f .progress) (within-of-fresh n true) }
 
-good-of-outcome : (n : ℕ) (r : Reader) (e : Ran) → r .frames ≡ n → Within n (e .memory .lex) → Good n (outcome r e .reader)
+good-of-outcome : (n : ℕ) (r : Reader) (e : Ran) → r .frames ≡ n → Within n (e .memory .progress) → Good n (outcome r e .reader)
 good-of-outcome n r e f i =
     cond-elim (λ (o : Outcome). Good n (o .reader)) (e .ended) (λ h. record { frames = f; within = within-of-fresh n false })
     (λ h. record { frames = f; within = i })
@@ -106,8 +106,8 @@ good-of-outcome n r e f i =
 fresh-of-close : (n : ℕ) (r : Reader) (t : Table) (w : List ℕ) → r .frames ≡ n → Fresh n (reading r (close t w) .reader)
 unfolding closing
 fresh-of-close n r t w f =
-    cond-elim (λ (o : Outcome). Fresh n (o .reader)) (ltb 0 (r .lex .pos)) (λ h. record { frames = f; lex = refl; root = refl; key = refl })
-    (λ h. record { frames = f; lex = refl; root = refl; key = refl })
+    cond-elim (λ (o : Outcome). Fresh n (o .reader)) (ltb 0 (r .progress .pos)) (λ h. record { frames = f; progress = refl; root = refl; key = refl })
+    (λ h. record { frames = f; progress = refl; root = refl; key = refl })
 
 good-of-reading : (n : ℕ) (r : Reader) (c : Call) → Good n r → Good n (reading r c .reader)
 unfolding feeding
@@ -141,8 +141,8 @@ module _ (n : ℕ) (least : 1 ≤ n) (most : n ≤ 64) where
       rw (
         le-leb 1 (r .frames) (omega arith),
         le-leb (r .frames) 64 (omega arith),
-        le-leb (r .lex .level) (r .frames) (omega (arith, g .within .level)),
-        le-leb (r .lex .len) 33 (g .within .len),
+        le-leb (r .progress .level) (r .frames) (omega (arith, g .within .level)),
+        le-leb (r .progress .len) 33 (g .within .len),
       )
 
   module _ (r : Reader) (c : Call) (g : Good n r) where
@@ -231,7 +231,7 @@ begun-of-start t w =
     (λ k _ e. let z : _≡_ {A = ℕ} 0 1 = cc in absurd (omega arith))
     (λ o _.
     let h : 96 ≤ length w = room-of-start t (length w) o in
-    record { least = omega arith; most = omega arith; fresh = record { frames = refl; lex = refl; root = refl; key = refl } })
+    record { least = omega arith; most = omega arith; fresh = record { frames = refl; progress = refl; root = refl; key = refl } })
 
 -- after an accepted start and any calls, a call refused with 23 has a table with a number above its limit
 pub never-above-limit : (t : Table) (w : List ℕ) → startOf t w .answer ≡ Says.Quiet → (calls : List Call) (c : Call)

@@ -10,7 +10,7 @@ use Rattle.table.specs.Table.{Table}
 use Rattle.book.specs.Entry.{Entry}
 use Rattle.frame.specs.Frame.{frameCount}
 use Rattle.verdict.specs.Track.{Track}
-use Rattle.progress.specs.Lex.{judged}
+use Rattle.progress.specs.Progress.{judged}
 use Rattle.progress.specs.Memory.{Mem, Ran, runMem}
 use Rattle.reader.specs.declared.Reader.{Reader}
 use Rattle.reader.specs.declared.Answer.the-variants as Says
@@ -35,7 +35,7 @@ module _ {es : List Entry} {Along : Mem → Track es → Type 0} {n : ℕ} where
   alike-of-agrees : (r : Reader) (e : Ran) (said : Said) → Agrees es Along n e said → Alike es Along n (outcome r e) said
   alike-of-agrees r e said a = go (e .ended) (a .answer) (a .follows)
     where
-      go : (b : Bool) → cond b (Says.Judged (judged (e .memory .lex) (e .memory .root))) Says.Quiet ≡ said .answer
+      go : (b : Bool) → cond b (Says.Judged (judged (e .memory .progress) (e .memory .root))) Says.Quiet ≡ said .answer
           → Follows es Along n (cond b (freshMem false (e .memory .work)) (e .memory)) (said .paper)
           → Alike es Along n (cond b (ending r (e .memory) (e .count) false) (going r (e .memory) (e .count))) said
       go true q f = record { count = a .count; answer = q; follows = f }
@@ -82,7 +82,7 @@ module _ {Book : Table → List Entry → Type 0} {Tracks : (es : List Entry) �
       → Follows es (Tracks es n) n (memoryOf r (buffer c)) p
   follows-of-stands nothing r p c book h s e =
       let f : Fresh n r = s .0 in
-      rw (s .1, f .lex, f .root, f .key) (follows-of-fresh facts book n least most J judge true (buffer c) h)
+      rw (s .1, f .progress, f .root, f .key) (follows-of-fresh facts book n least most J judge true (buffer c) h)
   follows-of-stands (held t w) r p c book h s e = rw (e .1) s
 
   module _ (k : Held Book) (r : Reader) (c : Call) (cs : List Call) (fair : Fair Book es n k r (c ∷ cs)) (g : Good n r) where

@@ -5,19 +5,19 @@ use mathlib.Core.Path.{_≡_, refl}
 use Prim.Native.Nat.{ℕ}
 use Rattle.reader.specs.declared.Answer.the-variants as Says
 use Rattle.reader.specs.Paper.{Judge, opening, goes, ends}
-use Rattle.stream.specs.Records.{split, givenAll, verdictsOf}
+use Rattle.stream.specs.Records.{cutAtRS, givenAll, verdictsOf}
 
 bytes : List ℕ
 bytes = 0x7A ∷ 0x1E ∷ 0x5B ∷ 0x1E ∷ 0x1E ∷ 0x31 ∷ []
 
 -- the head, a record, an empty part, a record
-split-example : split bytes ≡ record { first = 0x7A ∷ []; behind = (0x5B ∷ []) ∷ [] ∷ (0x31 ∷ []) ∷ [] }
-unfolding split bytes
-split-example = refl
+cutAtRS-example : cutAtRS bytes ≡ record { first = 0x7A ∷ []; behind = (0x5B ∷ []) ∷ [] ∷ (0x31 ∷ []) ∷ [] }
+unfolding cutAtRS bytes
+cutAtRS-example = refl
 
 module _ (J : Judge) where
   verdicts-example : verdictsOf J bytes ≡ J true (0x7A ∷ []) ∷ J false (0x5B ∷ []) ∷ J false (0x31 ∷ []) ∷ []
-  unfolding split givenAll bytes
+  unfolding cutAtRS givenAll bytes
   verdicts-example = refl
 
   -- the first feed ends with the head, at the RS behind it

@@ -7,15 +7,15 @@ use native.Mathlib.Omega.{arith}
 use lib.Dec.{eqb, ltb}
 use lib.ListN.{length, replicate}
 use borrow.Author.Tests.{ltb-false}
-use Rattle.json.specs.declared.lexer.Place.the-variants as P
+use Rattle.json.specs.declared.lexer.Awaited.the-variants as P
 use Rattle.json.specs.declared.lexer.Mode.the-variants as M
 use Rattle.table.specs.Table.{Table}
 use Rattle.book.specs.Entry.{Entry}
 use Rattle.verdict.specs.Track.{Track, trackStart, trackByte, track}
 use Rattle.verdict.proofs.JudgedLaws.{judged-iff-track}
-use Rattle.progress.specs.declared.Lex.{Lex}
+use Rattle.progress.specs.declared.Progress.{Progress}
 use Rattle.progress.specs.declared.Fault.the-variants as F
-use Rattle.progress.specs.Lex.{bump, afterHead, judged}
+use Rattle.progress.specs.Progress.{bump, afterHead, judged}
 use Rattle.progress.specs.Memory.{Mem, mem, stepMem, Ran, runMem}
 use Rattle.reader.specs.declared.Answer.{Answer}
 use Rattle.reader.specs.declared.Answer.the-variants as Says
@@ -28,18 +28,18 @@ use Rattle.stream.proofs.ByteLaws.{moves-of-byte, stepMem-in-head, step
 -- ---- the relation
 
 -- what is known of a record in the head, behind so many bytes
-abbrev headLex : ℕ → Lex
-headLex pos = record { mode = M.At P.Value; fault = F.Sound; head = true; level = 0; pos = pos; place = 0; bits = 0; high = 0; len = 0 }
+abbrev headProgress : ℕ → Progress
+headProgress pos = record { mode = M.At P.Value; fault = F.Sound; head = true; level = 0; pos = pos; place = 0; bits = 0; high = 0; len = 0 }
 
 -- in the head bytes are counted, and no more
 pub record InHead (m : Mem) : Type 0 where
-  pub lex : m .lex ≡ headLex (m .lex .pos)
+  pub progress : m .progress ≡ headProgress (m .progress .pos)
   pub root : m .root ≡ false
   pub key : m .key ≡ replicate 32 0
 
 -- behind an RS they move the track
 pub record InRecord (es : List Entry) (Along : Mem → Track es → Type 0) (n : ℕ) (m : Mem) (part : List ℕ) : Type 0 where
-  pub head : m .lex .head ≡ false
+  pub head : m .progress .head ≡ false
   pub tracks : Along m (track es n (trackStart es) part)
 
 abbrev pub Reads : (es : List Entry) → (Mem → Track es → Type 0) → ℕ → Bool → Mem → List ℕ → Type 0
@@ -48,7 +48,7 @@ Reads es Along n false m part = InRecord es Along n m part
 
 -- with n frames the memory m has read what the paper p holds; `Along` joins it to the track
 pub record Follows (es : List Entry) (Along : Mem → Track es → Type 0) (n : ℕ) (m : Mem) (p : Paper) : Type 0 where
-  pub some : ltb 0 (m .lex .pos) ≡ nonempty (p .part)
+  pub some : ltb 0 (m .progress .pos) ≡ nonempty (p .part)
   pub long : 96 * n ≤ length (m .work)
   pub reads : Reads es Along n (p .head) m (p .part)
 
@@ -56,7 +56,7 @@ pub record Follows (es : List Entry) (Along : Mem → Track es → Type 0) (n : 
 
 -- the answer to it
 abbrev pub heard : Ran → Answer
-heard e = cond (e .ended) (Says.Judged (judged (e .memory .lex) (e .memory .root))) Says.Quiet
+heard e = cond (e .ended) (Says.Judged (judged (e .memory .progress) (e .memory .root))) Says.Quiet
 
 -- the memory behind it
 abbrev pub memoryAfter : Ran → Mem
@@ -80,7 +80,7 @@ nonempty-of-byte [] b = refl
 nonempty-of-byte (c ∷ p) b = refl
 
 -- out of the head, an RS that ends no record changes nothing
-afterHead-of-false : (x : Lex) → x .head ≡ false → afterHead x ≡ x
+afterHead-of-false : (x : Progress) → x .head ≡ false → afterHead x ≡ x
 afterHead-of-false x e =
     ap (λ (h : Bool). record { mode = x .mode; fault = x .fault; head = h; level = x .level; pos = x .pos; place = x .place; bits = x .bits; high = x .high; len = x .len })
     (sym e)
@@ -92,13 +92,13 @@ module _ {Book : Table → List Entry → Type 0} {Tracks : (es : List Entry) �
 
   -- a record that begins, whatever the buffer holds
   pub follows-of-fresh : (head : Bool) (w : List ℕ) → 96 * n ≤ length w → Follow (freshMem head w) (record { head = head; part = [] })
-  follows-of-fresh true w h = record { some = refl; long = h; reads = record { lex = refl; root = refl; key = refl } }
+  follows-of-fresh true w h = record { some = refl; long = h; reads = record { progress = refl; root = refl; key = refl } }
   follows-of-fresh false w h = record { some = refl; long = h; reads = record { head = refl; tracks = facts .start book n least most w h } }
 
   -- the verdict of the part is the memory's
-  pub judged-of-follows : (m : Mem) (head : Bool) (part : List ℕ) → Follow m (record { head = head; part = part }) → judged (m .lex) (m .root) ≡ J head part
+  pub judged-of-follows : (m : Mem) (head : Bool) (part : List ℕ) → Follow m (record { head = head; part = part }) → judged (m .progress) (m .root) ≡ J head part
   unfolding judged
-  judged-of-follows m true part f = rw (f .reads .lex) (sym (judge .head part))
+  judged-of-follows m true part f = rw (f .reads .progress) (sym (judge .head part))
   judged-of-follows m false part f =
       facts .verdict book (f .reads .tracks) ∙ sym (judged-iff-track (facts .sound book) n part (J false part) .0 (judge .part part))
 
@@ -107,19 +107,19 @@ module _ {Book : Table → List Entry → Type 0} {Tracks : (es : List Entry) �
       → Follow (stepMem t n m b) (record { head = head; part = part ++ (b ∷ []) })
   follows-of-byte m head part b e f =
       record {
-        some = rw (moves-of-byte t n m b e .pos) (bump-pos (m .lex .pos) ∙ sym (nonempty-of-byte part b));
+        some = rw (moves-of-byte t n m b e .pos) (bump-pos (m .progress .pos) ∙ sym (nonempty-of-byte part b));
         long = rw (facts .length-kept t n m b) (f .long);
         reads = reads-of head (f .reads);
       }
     where
-      in-head : InHead m → stepMem t n m b ≡ mem (headLex (bump (m .lex .pos))) false (replicate 32 0) (m .work)
-      in-head i = stepMem-in-head t n m b e (ap (λ (x : Lex). x .head) (i .lex)) ∙ rw (i .lex, i .root, i .key)
+      in-head : InHead m → stepMem t n m b ≡ mem (headProgress (bump (m .progress .pos))) false (replicate 32 0) (m .work)
+      in-head i = stepMem-in-head t n m b e (ap (λ (x : Progress). x .head) (i .progress)) ∙ rw (i .progress, i .root, i .key)
 
       tracked : InRecord es (Tracks es n) n m part → Tracks es n (stepMem t n m b) (track es n (trackStart es) (part ++ (b ∷ [])))
       tracked i = rw (track-of-byte es n (trackStart es) part b) (facts .byte book least most (i .tracks) b e)
 
       reads-of : (h : Bool) → Reads es (Tracks es n) n h m part → Reads es (Tracks es n) n h (stepMem t n m b) (part ++ (b ∷ []))
-      reads-of true i = rw (in-head i) (record { lex = refl; root = refl; key = refl })
+      reads-of true i = rw (in-head i) (record { progress = refl; root = refl; key = refl })
       reads-of false i = record { head = moves-of-byte t n m b e .head ∙ i .head; tracks = tracked i }
 
   -- an RS before any byte of a record ends the head
@@ -127,10 +127,10 @@ module _ {Book : Table → List Entry → Type 0} {Tracks : (es : List Entry) �
       → Follow (stepMem t n m b) (record { head = false; part = [] })
   follows-of-RS m true part b e u f =
       let i : InHead m = f .reads in
-      let z : m .lex .pos ≡ 0 = omega (arith, ltb-false 0 (m .lex .pos) (f .some ∙ u)) in
-      rw (stepMem-of-RS t n m b e, i .lex, i .root, i .key, z) (follows-of-fresh false (m .work) (f .long))
+      let z : m .progress .pos ≡ 0 = omega (arith, ltb-false 0 (m .progress .pos) (f .some ∙ u)) in
+      rw (stepMem-of-RS t n m b e, i .progress, i .root, i .key, z) (follows-of-fresh false (m .work) (f .long))
   follows-of-RS m false [] b e u f =
-      let q : mem (afterHead (m .lex)) (m .root) (m .key) (m .work) ≡ m = rw (afterHead-of-false (m .lex) (f .reads .head)) in
+      let q : mem (afterHead (m .progress)) (m .root) (m .key) (m .work) ≡ m = rw (afterHead-of-false (m .progress) (f .reads .head)) in
       rw (stepMem-of-RS t n m b e ∙ q) f
   follows-of-RS m false (c ∷ part) b e u f = true-neq-false u
 
@@ -140,17 +140,17 @@ module _ {Book : Table → List Entry → Type 0} {Tracks : (es : List Entry) �
         → Agrees es (Tracks es n) n (runMem t n m i (b ∷ s)) (goes J p i (b ∷ s))
     unfolding runMem goes
     agrees-of-byte true e true u =
-        rw (endsRecord-of-RS (m .lex) b e ∙ f .some ∙ u, e, u)
+        rw (endsRecord-of-RS (m .progress) b e ∙ f .some ∙ u, e, u)
         (record {
           count = refl;
           answer = ap Says.Judged (judged-of-follows m (p .head) (p .part) f);
           follows = follows-of-fresh false (m .work) (f .long);
         })
     agrees-of-byte true e false u =
-        rw (endsRecord-of-RS (m .lex) b e ∙ f .some ∙ u, e, u)
+        rw (endsRecord-of-RS (m .progress) b e ∙ f .some ∙ u, e, u)
         (rest (stepMem t n m b) (record { head = false; part = [] }) (i + 1) (follows-of-RS m (p .head) (p .part) b e u f))
     agrees-of-byte false e y u =
-        rw (endsRecord-of-byte (m .lex) b e, e)
+        rw (endsRecord-of-byte (m .progress) b e, e)
         (rest (stepMem t n m b) (record { head = p .head; part = p .part ++ (b ∷ []) }) (i + 1) (follows-of-byte m (p .head) (p .part) b e f))
 
   -- a piece read by the machine is gone through on paper

@@ -11,18 +11,18 @@ use Rattle.verdict.specs.declared.Verdict.{Verdict}
 use Rattle.reader.specs.declared.Answer.the-variants as Says
 use Rattle.reader.specs.Paper.{Judge, Paper, nonempty, Said, goes, ends}
 use Rattle.laws.proofs.TestLaws.{true-neq-false}
-use Rattle.stream.specs.Records.{Parts, withByte, split, noRS, given, givenAll, verdictsOf, verdictsBehind, andThen}
+use Rattle.stream.specs.Records.{Parts, withByte, cutAtRS, noRS, given, givenAll, verdictsOf, verdictsBehind, andThen}
 
 -- ---- what stands behind an RS
 
 module _ (b : ℕ) (s : List ℕ) where
-  pub split-of-RS : eqb b 0x1E ≡ true → split (b ∷ s) ≡ record { first = []; behind = split s .first ∷ split s .behind }
-  unfolding split
-  split-of-RS e = rw e
+  pub cutAtRS-of-RS : eqb b 0x1E ≡ true → cutAtRS (b ∷ s) ≡ record { first = []; behind = cutAtRS s .first ∷ cutAtRS s .behind }
+  unfolding cutAtRS
+  cutAtRS-of-RS e = rw e
 
-  pub split-of-byte : eqb b 0x1E ≡ false → split (b ∷ s) ≡ record { first = b ∷ split s .first; behind = split s .behind }
-  unfolding split
-  split-of-byte e = rw e
+  pub cutAtRS-of-byte : eqb b 0x1E ≡ false → cutAtRS (b ∷ s) ≡ record { first = b ∷ cutAtRS s .first; behind = cutAtRS s .behind }
+  unfolding cutAtRS
+  cutAtRS-of-byte e = rw e
 
 -- the parts on both sides of an RS
 abbrev around : Parts → Parts → Parts
@@ -36,10 +36,10 @@ withByte-around b x y = go (eqb b 0x1E) refl
     go false e = rw e
 
 -- the parts before an RS are those of the bytes before it
-split-append : (a s : List ℕ) → split (a ++ (0x1E ∷ s)) ≡ around (split a) (split s)
-unfolding split
-split-append [] s = refl
-split-append (b ∷ a) s = rw (split-append a s) (withByte-around b (split a) (split s))
+cutAtRS-append : (a s : List ℕ) → cutAtRS (a ++ (0x1E ∷ s)) ≡ around (cutAtRS a) (cutAtRS s)
+unfolding cutAtRS
+cutAtRS-append [] s = refl
+cutAtRS-append (b ∷ a) s = rw (cutAtRS-append a s) (withByte-around b (cutAtRS a) (cutAtRS s))
 
 module _ (J : Judge) where
   given-append : (head : Bool) (p : List ℕ) (vs us : List Verdict) → given J head p (vs ++ us) ≡ given J head p vs ++ us
@@ -54,58 +54,58 @@ module _ (J : Judge) where
   givenAll-append [] qs = refl
   givenAll-append (p ∷ ps) qs = rw (givenAll-append ps qs) (given-append false p (givenAll J ps) (givenAll J qs))
 
-  givenAll-split : (s : List ℕ) → givenAll J (split s .first ∷ split s .behind) ≡ verdictsBehind J s
+  givenAll-cutAtRS : (s : List ℕ) → givenAll J (cutAtRS s .first ∷ cutAtRS s .behind) ≡ verdictsBehind J s
   unfolding givenAll
-  givenAll-split s = refl
+  givenAll-cutAtRS s = refl
 
   -- the verdicts before an RS, then those behind it: neither depends on the other side
   pub verdictsOf-append : (a s : List ℕ) → verdictsOf J (a ++ (0x1E ∷ s)) ≡ verdictsOf J a ++ verdictsBehind J s
   verdictsOf-append a s =
-      rw (split-append a s, givenAll-append (split a .behind) (split s .first ∷ split s .behind), givenAll-split s)
-      (given-append true (split a .first) (givenAll J (split a .behind)) (verdictsBehind J s))
+      rw (cutAtRS-append a s, givenAll-append (cutAtRS a .behind) (cutAtRS s .first ∷ cutAtRS s .behind), givenAll-cutAtRS s)
+      (given-append true (cutAtRS a .first) (givenAll J (cutAtRS a .behind)) (verdictsBehind J s))
 
   -- the same of bytes that stand behind an RS themselves
   pub verdictsBehind-append : (a s : List ℕ) → verdictsBehind J (a ++ (0x1E ∷ s)) ≡ verdictsBehind J a ++ verdictsBehind J s
   verdictsBehind-append a s =
-      rw (split-append a s, givenAll-append (split a .behind) (split s .first ∷ split s .behind), givenAll-split s)
-      (given-append false (split a .first) (givenAll J (split a .behind)) (verdictsBehind J s))
+      rw (cutAtRS-append a s, givenAll-append (cutAtRS a .behind) (cutAtRS s .first ∷ cutAtRS s .behind), givenAll-cutAtRS s)
+      (given-append false (cutAtRS a .first) (givenAll J (cutAtRS a .behind)) (verdictsBehind J s))
 
 -- a record behind an RS
-split-of-noRS : (p : List ℕ) → noRS p ≡ true → split p ≡ record { first = p; behind = [] }
-unfolding split all
-split-of-noRS [] h = refl
-split-of-noRS (b ∷ p) h = go (λ g. split-of-noRS p g) (eqb b 0x1E) refl h
+cutAtRS-of-noRS : (p : List ℕ) → noRS p ≡ true → cutAtRS p ≡ record { first = p; behind = [] }
+unfolding cutAtRS all
+cutAtRS-of-noRS [] h = refl
+cutAtRS-of-noRS (b ∷ p) h = go (λ g. cutAtRS-of-noRS p g) (eqb b 0x1E) refl h
   where
-    go : (noRS p ≡ true → split p ≡ record { first = p; behind = [] }) → (x : Bool) → eqb b 0x1E ≡ x → not x && noRS p ≡ true
-        → withByte b (split p) ≡ record { first = b ∷ p; behind = [] }
+    go : (noRS p ≡ true → cutAtRS p ≡ record { first = p; behind = [] }) → (x : Bool) → eqb b 0x1E ≡ x → not x && noRS p ≡ true
+        → withByte b (cutAtRS p) ≡ record { first = b ∷ p; behind = [] }
     go rest true e h = true-neq-false (sym h)
     go rest false e h = rw (e, rest h)
 
 -- has one verdict
 pub verdictsBehind-of-record : (J : Judge) (p : List ℕ) → nonempty p ≡ true → noRS p ≡ true → verdictsBehind J p ≡ J false p ∷ []
 unfolding givenAll
-verdictsBehind-of-record J p e h = rw (split-of-noRS p h, e)
+verdictsBehind-of-record J p e h = rw (cutAtRS-of-noRS p h, e)
 
 -- ---- the paper
 
 module _ (J : Judge) where
   -- the verdicts of the bytes behind what the paper holds
   abbrev pub verdictsFrom : Paper → List ℕ → List Verdict
-  verdictsFrom p s = given J (p .head) (p .part ++ split s .first) (givenAll J (split s .behind))
+  verdictsFrom p s = given J (p .head) (p .part ++ cutAtRS s .first) (givenAll J (cutAtRS s .behind))
 
   from-byte : (p : Paper) (b : ℕ) (s : List ℕ) → eqb b 0x1E ≡ false
       → verdictsFrom p (b ∷ s) ≡ verdictsFrom (record { head = p .head; part = p .part ++ (b ∷ []) }) s
-  from-byte p b s e = rw (split-of-byte b s e, append-assoc (p .part) (b ∷ []) (split s .first))
+  from-byte p b s e = rw (cutAtRS-of-byte b s e, append-assoc (p .part) (b ∷ []) (cutAtRS s .first))
 
   -- an RS gives the part its verdict, where it has one
   from-RS : (p : Paper) (b : ℕ) (s : List ℕ) → eqb b 0x1E ≡ true
       → verdictsFrom p (b ∷ s) ≡ given J (p .head) (p .part) (verdictsFrom (record { head = false; part = [] }) s)
   unfolding givenAll
-  from-RS p b s e = rw (split-of-RS b s e, append-nil (p .part))
+  from-RS p b s e = rw (cutAtRS-of-RS b s e, append-nil (p .part))
 
   -- a close too
   pub from-close : (p : Paper) → verdictsFrom p [] ≡ andThen (ends J p .answer) []
-  unfolding split givenAll
+  unfolding cutAtRS givenAll
   from-close p = rw (append-nil (p .part)) (go (nonempty (p .part)))
     where
       go : (x : Bool) → cond x (J (p .head) (p .part) ∷ []) [] ≡ andThen (cond x (Says.Judged (J (p .head) (p .part))) Says.Quiet) []

@@ -40,7 +40,7 @@ module _ (r : Reader) where
       go : (e : Ran) → Counts (r .tally) (outcome r e)
       go e = cond-elim (Counts (r .tally)) (e .ended) (λ h. counts-of-ending (e .memory) (e .count) false) (λ h. going-on e)
   counts-of-reading (close t w) =
-      cond-elim (Counts (r .tally)) (ltb 0 (r .lex .pos)) (λ h. counts-of-ending (memoryOf r w) 0 true) (λ h. none)
+      cond-elim (Counts (r .tally)) (ltb 0 (r .progress .pos)) (λ h. counts-of-ending (memoryOf r w) 0 true) (λ h. none)
     where
       none : Counts (r .tally) (record { reader = freshReader (r .frames) true (r .tally); count = 0; answer = Says.Quiet; work = w })
       none = record { tally = refl }

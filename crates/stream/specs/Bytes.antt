@@ -10,7 +10,7 @@ use Rattle.table.specs.Table.{Table}
 use Rattle.book.specs.Entry.{Entry}
 use Rattle.runs.specs.Sound.{Sound}
 use Rattle.verdict.specs.Track.{Track, trackStart, trackByte, trackEnd}
-use Rattle.progress.specs.Lex.{judged}
+use Rattle.progress.specs.Progress.{judged}
 use Rattle.progress.specs.Memory.{Mem, stepMem}
 use Rattle.progress.specs.Fresh.{freshMem}
 
@@ -27,6 +27,6 @@ pub record Reading (Book : Table → List Entry → Type 0) (Tracks : (es : List
       → (b : ℕ) → eqb b 0x1E ≡ false → Tracks es n (stepMem t n m b) (trackByte es n s b)
   -- the verdict of a record that ends here
   pub verdict : {t : Table} {es : List Entry} → Book t es → {n : ℕ} {m : Mem} {s : Track es} → Tracks es n m s
-      → judged (m .lex) (m .root) ≡ trackEnd es s
+      → judged (m .progress) (m .root) ≡ trackEnd es s
   -- no byte changes the length of the buffer, whatever table and memory
   pub length-kept : (t : Table) (n : ℕ) (m : Mem) (b : ℕ) → length (stepMem t n m b .work) ≡ length (m .work)

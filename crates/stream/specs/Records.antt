@@ -10,7 +10,7 @@ use Rattle.laws.specs.Lists.{all}
 use Rattle.table.specs.Table.{Table}
 use Rattle.book.specs.Entry.{Entry}
 use Rattle.verdict.specs.declared.Verdict.{Verdict}
-use Rattle.progress.specs.Fresh.{freshLex}
+use Rattle.progress.specs.Fresh.{freshProgress}
 use Rattle.reader.specs.declared.Tally.{Tally}
 use Rattle.reader.specs.declared.Reader.{Reader}
 use Rattle.reader.specs.declared.Answer.{Answer}
@@ -30,9 +30,9 @@ pub record Parts : Type 0 where
 abbrev pub withByte : ℕ → Parts → Parts
 withByte b x = cond (eqb b 0x1E) (record { first = []; behind = x .first ∷ x .behind }) (record { first = b ∷ x .first; behind = x .behind })
 
-unfoldable pub split : List ℕ → Parts
-split [] = record { first = []; behind = [] }
-split (b ∷ s) = withByte b (split s)
+unfoldable pub cutAtRS : List ℕ → Parts
+cutAtRS [] = record { first = []; behind = [] }
+cutAtRS (b ∷ s) = withByte b (cutAtRS s)
 
 -- bytes with no RS among them
 abbrev pub noRS : List ℕ → Bool
@@ -49,11 +49,11 @@ givenAll J (p ∷ ps) = given J false p (givenAll J ps)
 
 -- the verdicts of a stream's bytes: the part before the first RS is the head
 abbrev pub verdictsOf : Judge → List ℕ → List Verdict
-verdictsOf J s = given J true (split s .first) (givenAll J (split s .behind))
+verdictsOf J s = given J true (cutAtRS s .first) (givenAll J (cutAtRS s .behind))
 
 -- the verdicts of bytes behind an RS
 abbrev pub verdictsBehind : Judge → List ℕ → List Verdict
-verdictsBehind J s = given J false (split s .first) (givenAll J (split s .behind))
+verdictsBehind J s = given J false (cutAtRS s .first) (givenAll J (cutAtRS s .behind))
 
 -- ---- what calls answer, and the bytes that they hand over
 
@@ -85,7 +85,7 @@ pub data Hands (n : ℕ) : Reader → List Call → List ℕ → Type 0 where
 -- a reader at the beginning of a stream, with n frames
 pub record Fresh (n : ℕ) (r : Reader) : Type 0 where
   pub frames : r .frames ≡ n
-  pub lex : r .lex ≡ freshLex true
+  pub progress : r .progress ≡ freshProgress true
   pub root : r .root ≡ false
   pub key : r .key ≡ replicate 32 0
 

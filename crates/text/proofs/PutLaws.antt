@@ -11,7 +11,7 @@ use borrow.Author.Tests.{le-leb, lt-leb, leb-true, leb-false}
 use Rattle.laws.specs.Ascii.{ascii}
 use Rattle.laws.proofs.TabLaws.{T-of-every}
 use Rattle.verdict.specs.declared.Verdict.{Verdict}
-use Rattle.verdict.specs.Verdict.{Word, valid, invalid, refused, told}
+use Rattle.verdict.specs.Verdict.{Word, valid, invalid, refused, shown}
 use Rattle.text.specs.Text.{powers, digit, digitIf, digits, decimal, space, LF, wordText, wordNumber, lineOf, bookLines}
 use Rattle.text.specs.Put.{Put, hasRoom, Written, write}
 
@@ -159,11 +159,11 @@ module _ (o : List ℕ) (at : ℕ) (a b c d e f : List ℕ) where
 
 module _ (o : List ℕ) (at : ℕ) (o₁ o₂ o₃ o₄ o₅ : List ℕ) (p₁ p₂ p₃ p₄ p₅ : ℕ) where
   -- a verdict's line: word, number and place
-  pub line-put : (o₆ : List ℕ) (p₆ : ℕ) (v : Verdict) (n m : ℕ) → Put o at (wordText (told v .word)) o₁ p₁ → Put o₁ p₁ space o₂ p₂ → n ≡ told v .number
-      → Put o₂ p₂ (decimal n) o₃ p₃ → Put o₃ p₃ space o₄ p₄ → m ≡ told v .place → Put o₄ p₄ (decimal m) o₅ p₅ → Put o₅ p₅ LF o₆ p₆ → Put o at (lineOf v) o₆ p₆
+  pub line-put : (o₆ : List ℕ) (p₆ : ℕ) (v : Verdict) (n m : ℕ) → Put o at (wordText (shown v .word)) o₁ p₁ → Put o₁ p₁ space o₂ p₂ → n ≡ shown v .number
+      → Put o₂ p₂ (decimal n) o₃ p₃ → Put o₃ p₃ space o₄ p₄ → m ≡ shown v .place → Put o₄ p₄ (decimal m) o₅ p₅ → Put o₅ p₅ LF o₆ p₆ → Put o at (lineOf v) o₆ p₆
   unfolding lineOf
   line-put o₆ p₆ v n m a b i c d j e f =
-      put-six o at (wordText (told v .word)) space (decimal (told v .number)) space (decimal (told v .place)) LF
+      put-six o at (wordText (shown v .word)) space (decimal (shown v .number)) space (decimal (shown v .place)) LF
       o₁ o₂ o₃ o₄ o₅ o₆ p₁ p₂ p₃ p₄ p₅ p₆ a b (rw i at c) d (rw j at e) f
 
   -- a refused book's lines
@@ -232,14 +232,14 @@ length-word refused = omega arith
 pub length-line : (v : Verdict) → length (lineOf v) ≤ 64
 unfolding lineOf decimal
 length-line v =
-    let n = digits powers (told v .number) in
-    let p = digits powers (told v .place) in
+    let n = digits powers (shown v .number) in
+    let p = digits powers (shown v .place) in
     omega (
       arith,
-      length-word (told v .word),
-      length-digits powers (told v .number),
-      length-digits powers (told v .place),
-      length-append (wordText (told v .word)) (space ++ (n ++ (space ++ (p ++ LF)))),
+      length-word (shown v .word),
+      length-digits powers (shown v .number),
+      length-digits powers (shown v .place),
+      length-append (wordText (shown v .word)) (space ++ (n ++ (space ++ (p ++ LF)))),
       length-append n (space ++ (p ++ LF)),
       length-append p LF,
     )

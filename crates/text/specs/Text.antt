@@ -5,7 +5,7 @@ use Prim.Native.Nat.{ℕ, _+_, _/_, _%_}
 use lib.Dec.{leb}
 use Rattle.laws.specs.Ascii.{ascii}
 use Rattle.verdict.specs.declared.Verdict.{Verdict}
-use Rattle.verdict.specs.Verdict.{Word, valid, invalid, refused, told}
+use Rattle.verdict.specs.Verdict.{Word, valid, invalid, refused, shown}
 
 -- ---- numbers in decimal digits, with no leading zero
 
@@ -70,7 +70,7 @@ wordNumber refused = 2
 
 -- the line of a verdict: its word, number and place
 unfoldable pub lineOf : Verdict → List ℕ
-lineOf v = wordText (told v .word) ++ (space ++ (decimal (told v .number) ++ (space ++ (decimal (told v .place) ++ LF))))
+lineOf v = wordText (shown v .word) ++ (space ++ (decimal (shown v .number) ++ (space ++ (decimal (shown v .place) ++ LF))))
 
 -- the lines of verdicts, in stream order
 unfoldable pub linesOf : List Verdict → List ℕ
@@ -78,8 +78,8 @@ linesOf [] = []
 linesOf (v ∷ vs) = lineOf v ++ linesOf vs
 
 -- the first line of what is printed for a stream
-abbrev pub names : List ℕ
-names = ascii "verdict number place" ++ LF
+abbrev pub streamNames : List ℕ
+streamNames = ascii "verdict number place" ++ LF
 
 -- what is printed for a refused book: the line `number line`, then a line with both
 unfoldable pub bookLines : ℕ → ℕ → List ℕ

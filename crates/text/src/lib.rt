@@ -1,8 +1,8 @@
 // The text of the judging program, as bytes in a lent buffer. Each function answers the place behind what it wrote; where the buffer has less
 // than 64 bytes from the place on, it writes nothing.
 ghost use mathlib.Core.Path.{_≡_};
-ghost use Rattle.verdict.specs.Verdict.{told};
-ghost use Rattle.text.specs.Text.{names, wordNumber, lineOf, bookLines};
+ghost use Rattle.verdict.specs.Verdict.{shown};
+ghost use Rattle.text.specs.Text.{streamNames, wordNumber, lineOf, bookLines};
 ghost use Rattle.text.specs.Put.{hasRoom, write};
 
 mod put; // put.rt: words and numbers, byte by byte
@@ -13,7 +13,7 @@ const NAMES: [u8; 21] = *b"verdict number place\n";
 
 // The word of a verdict as a number: 0 valid, 1 invalid, 2 refused.
 pub fn word_of(v: Verdict) -> u8
-    ensures { λ r. ⌜ r ≡ wordNumber (told v .word) ⌝ }
+    ensures { λ r. ⌜ r ≡ wordNumber (shown v .word) ⌝ }
 {
     match v {
         Verdict::Valid => 0,
@@ -38,7 +38,7 @@ fn has_room(len: usize, at: usize) -> bool
 
 // The first line of what is printed for a stream.
 pub fn write_names(out: &mut [u8], at: usize) -> usize
-    ensures { λ r. ⌜ record { out = now (out .exit); at = r } ≡ write (now (out .entry)) at names ⌝ }
+    ensures { λ r. ⌜ record { out = now (out .exit); at = r } ≡ write (now (out .entry)) at streamNames ⌝ }
 {
     if has_room(out.len(), at) {
         return put::put_bytes(out, at, &NAMES);

@@ -5,7 +5,7 @@ ghost use Prim.Native.Nat.{_+_, _≤_, _<_};
 ghost use lib.ListN.{length};
 ghost use Rattle.text.specs.Text.{digit as Text·digit, digitIf, decimal, wordText, lineOf, bookLines};
 ghost use Rattle.text.specs.Put.{Put};
-ghost use Rattle.verdict.specs.Verdict.{told};
+ghost use Rattle.verdict.specs.Verdict.{shown};
 use verdict::Verdict;
 
 const VALID: [u8; 5] = *b"valid";
@@ -100,7 +100,7 @@ pub fn put_decimal(out: &mut [u8], at: usize, n: usize) -> usize
 // The word of a verdict.
 pub fn put_word(out: &mut [u8], at: usize, v: Verdict) -> usize
     requires { ⌜ at + 7 ≤ length (now out) ⌝ }
-    ensures { λ r. ⌜ Put (now (out .entry)) at (wordText (told v .word)) (now (out .exit)) r ⌝ }
+    ensures { λ r. ⌜ Put (now (out .entry)) at (wordText (shown v .word)) (now (out .exit)) r ⌝ }
     ensures { λ r. ⌜ r ≤ at + 7 ⌝ }
 {
     let word = crate::word_of(v);

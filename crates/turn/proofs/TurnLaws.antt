@@ -17,12 +17,12 @@ use Rattle.table.specs.Keys.{keyFound}
 use Rattle.frame.specs.Frame.{frameAt, putFrame, isObject, kindNumber}
 use Rattle.frame.specs.Edges.{edgesOf}
 use Rattle.frame.specs.Ops.{opened, keyed, valued, closed}
-use Rattle.progress.specs.declared.Lex.{Lex}
+use Rattle.progress.specs.declared.Progress.{Progress}
 use Rattle.progress.specs.declared.Task.{Task}
 use Rattle.progress.specs.declared.Task.the-variants as To
 use Rattle.progress.specs.declared.Advanced.{Advanced}
 use Rattle.progress.specs.Act.{keptIn}
-use Rattle.progress.specs.Lex.{advanced}
+use Rattle.progress.specs.Progress.{advanced}
 use Rattle.progress.specs.Memory.{Mem, mem, topAt, valueAt, rulesAt, closeAt, perform, stepMem}
 use Rattle.turn.specs.Turn.{ClosedTo, namedAt, PerformedTo, turned}
 
@@ -105,13 +105,13 @@ module _ (t : Table) (k : Task) (level len up : ℕ) (root : Bool) (key w : List
   finish-close-done s o r v h g e = record { same = λ old x p q u. rw (h, p, e .root, e .work, g) }
 
 -- where the task and the record after the byte are what the limits make of the step, a turn has done the task
-pub turned-of-performed : (t : Table) (n : ℕ) (old : Lex) (root : Bool) (key w : List ℕ) (b : ℕ) (st : Step) (a : Advanced) (r : Bool) (kept v : List ℕ) → a ≡ advanced old n b st
-    → PerformedTo (a .task) t (old .level) (old .len) (a .lex .level) root key w r kept v → mem (a .lex) r kept v ≡ turned t n (mem old root key w) b st
+pub turned-of-performed : (t : Table) (n : ℕ) (old : Progress) (root : Bool) (key w : List ℕ) (b : ℕ) (st : Step) (a : Advanced) (r : Bool) (kept v : List ℕ) → a ≡ advanced old n b st
+    → PerformedTo (a .task) t (old .level) (old .len) (a .progress .level) root key w r kept v → mem (a .progress) r kept v ≡ turned t n (mem old root key w) b st
 turned-of-performed t n old root key w b st a r kept v f h =
-    h .same old (a .lex) refl refl refl ∙ ap (λ (x : Advanced). perform (x .task) t (mem old root key w) (x .lex)) f
+    h .same old (a .progress) refl refl refl ∙ ap (λ (x : Advanced). perform (x .task) t (mem old root key w) (x .progress)) f
 
 -- where the limits make of the step st what they make of the byte's own, a turn is the step of the memory
 pub turned-stepMem : (t : Table) (n : ℕ) (m : Mem) (b : ℕ) (st : Step)
-    → advanced (m .lex) n b st ≡ advanced (m .lex) n b (stepOf (m .lex .mode) (topAt (m .work) (m .lex .level)) b) → turned t n m b st ≡ stepMem t n m b
+    → advanced (m .progress) n b st ≡ advanced (m .progress) n b (stepOf (m .progress .mode) (topAt (m .work) (m .progress .level)) b) → turned t n m b st ≡ stepMem t n m b
 unfolding stepMem
-turned-stepMem t n m b st h = ap (λ (a : Advanced). perform (a .task) t m (a .lex)) h
+turned-stepMem t n m b st h = ap (λ (a : Advanced). perform (a .task) t m (a .progress)) h

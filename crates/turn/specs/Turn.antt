@@ -11,9 +11,9 @@ use Rattle.table.specs.Table.{Table}
 use Rattle.table.specs.Keys.{keyFound}
 use Rattle.frame.specs.Frame.{frameAt, putFrame}
 use Rattle.frame.specs.Ops.{keyed}
-use Rattle.progress.specs.declared.Lex.{Lex}
+use Rattle.progress.specs.declared.Progress.{Progress}
 use Rattle.progress.specs.declared.Task.{Task}
-use Rattle.progress.specs.Lex.{advanced}
+use Rattle.progress.specs.Progress.{advanced}
 use Rattle.progress.specs.Memory.{Mem, mem, rulesAt, valueAt, perform}
 
 -- the value of level l is closed: what becomes of the root and of the buffer
@@ -27,8 +27,8 @@ namedAt t key len w l = putFrame w l (keyed (keyFound t key len) (frameAt w l))
 
 -- a task done, where level and len are of the record before the byte and up is its level after it: what becomes of root, key and buffer
 pub record PerformedTo (k : Task) (t : Table) (level len up : ℕ) (root : Bool) (key w : List ℕ) (r : Bool) (kept v : List ℕ) : Type 0 where
-  pub same : (old x : Lex) → old .level ≡ level → old .len ≡ len → x .level ≡ up → mem x r kept v ≡ perform k t (mem old root key w) x
+  pub same : (old x : Progress) → old .level ≡ level → old .len ≡ len → x .level ≡ up → mem x r kept v ≡ perform k t (mem old root key w) x
 
 -- the memory after byte b, of which the lexer makes the step st, with n frames
 abbrev pub turned : Table → ℕ → Mem → ℕ → Step → Mem
-turned t n m b st = perform (advanced (m .lex) n b st .task) t m (advanced (m .lex) n b st .lex)
+turned t n m b st = perform (advanced (m .progress) n b st .task) t m (advanced (m .progress) n b st .progress)

@@ -7,7 +7,7 @@ ghost use Rattle.progress.specs.Memory.{mem, topAt};
 ghost use Rattle.turn.specs.Turn.{ClosedTo, namedAt, PerformedTo, turned};
 use json::lexer::Step;
 use json::lexer::Top;
-use progress::Lex;
+use progress::Progress;
 use progress::Task;
 use progress::act;
 use progress::key;
@@ -17,7 +17,7 @@ use table::kind::Finished;
 
 // What is known of the record after the byte, and whether its root fits rule 0.
 pub struct Turned {
-    pub lex: Lex,
+    pub progress: Progress,
     pub root: bool,
 }
 
@@ -99,7 +99,7 @@ fn perform(
 // The byte b, of which the lexer makes the step st: the record after it, its key and its frames.
 pub fn turn(
     st: Step,
-    x: Lex,
+    x: Progress,
     root: bool,
     key: &mut [u8],
     work: &mut [u8],
@@ -108,14 +108,14 @@ pub fn turn(
     b: u8,
 ) -> Turned
     requires { ⌜ (tableIn (now table) .keys ≤ 128) × (length (now key) ≡ 32) ⌝ }
-    ensures { λ r. ⌜ mem (r .lex) (r .root) (now (key .exit)) (now (work .exit)) ≡ turned (tableIn (now (table .entry))) frames (mem x root (now (key .entry)) (now (work .entry))) b st ⌝ }
+    ensures { λ r. ⌜ mem (r .progress) (r .root) (now (key .exit)) (now (work .exit)) ≡ turned (tableIn (now (table .entry))) frames (mem x root (now (key .entry)) (now (work .entry))) b st ⌝ }
 {
     let a = progress::advance(x, frames, b, st);
-    let next = a.lex;
+    let next = a.progress;
     let task = a.task;
     let fit = perform(task, x.level, x.len, next.level, root, key, work, table);
     Turned {
-        lex: next,
+        progress: next,
         root: fit,
     }
 }

@@ -12,7 +12,7 @@ use Rattle.table.specs.Keys.{numberOf}
 use Rattle.book.specs.Entry.{sameForm, withKey, keysFrom, keysOf, clash}
 use Rattle.runs.specs.Runs.{beginsPart}
 use Rattle.runs.specs.Sound.{Sound, isKeyed, isSound}
-use Rattle.runs.specs.Walk.{ofScalar, ofRules, isOf, asks, ofArray, hasKey, anyEdge, leads, endsIn, startOf, moved, ended, afterElement, keyCount, numberIn, atOpening, afterKey, fitsEdge, afterValue, useKey, walk, objectFits}
+use Rattle.runs.specs.Walk.{ofScalar, ofRules, isOf, asks, ofArray, hasKey, anyEdge, leads, endsIn, startOf, moved, hasEnd, afterElement, keyCount, numberIn, atOpening, afterKey, fitsEdge, afterValue, useKey, walk, objectFits}
 use Rattle.runs.specs.Examples.{bookB}
 use Rattle.runs.proofs.SoundLaws.{sound-of-isSound}
 use Rattle.verdict.specs.declared.Verdict.{Verdict}
@@ -30,7 +30,7 @@ found : Row → Verdict
 found x = trackEnd bookB (track bookB (x .frames) (trackStart bookB) (x .part))
 
 rows-found : map found rows ≡ map (λ (x : Row). x .verdict) rows
-unfolding found within isBlank isBreak isStructure highClass classOf spelling isDigit isDigit1-9 isE escapeMove hexOf anyHex unit1 unitD ranged hexBits orExp afterZero afterInt afterFrac digitOnly letterMove valueStart atValue atFirstElement atFirstKey atKey atColon afterRoot behindElement afterPair step same any withKey keysFrom keysOf numberOf beginsPart ofScalar ofRules sameForm isOf asks ofArray hasKey anyEdge leads endsIn startOf moved ended afterElement keyCount numberIn atOpening afterKey fitsEdge afterValue useKey walk objectFits trackTo trackByte verdictOf trackEnd
+unfolding found within isBlank isBreak isStructure highClass classOf spelling isDigit isDigit1-9 isE escapeMove hexOf anyHex unit1 unitD ranged hexBits orExp afterZero afterInt afterFrac digitOnly letterMove valueStart atValue atFirstElement atFirstKey atKey atColon afterRoot behindElement afterPair step same any withKey keysFrom keysOf numberOf beginsPart ofScalar ofRules sameForm isOf asks ofArray hasKey anyEdge leads endsIn startOf moved hasEnd afterElement keyCount numberIn atOpening afterKey fitsEdge afterValue useKey walk objectFits trackTo trackByte verdictOf trackEnd
 rows-found = refl
 
 -- where two maps agree on a list, they agree at each member

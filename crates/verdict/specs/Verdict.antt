@@ -17,27 +17,27 @@ use Rattle.verdict.specs.declared.Verdict.the-variants as Is
 pub data Word : Type 0 where
   valid invalid refused : Word
 
-pub record Told : Type 0 where
+pub record Shown : Type 0 where
   pub word : Word
   pub number : ℕ
   pub place : ℕ
 
-abbrev pub tell : Word → ℕ → ℕ → Told
-tell w n p = record { word = w; number = n; place = p }
+abbrev pub shows : Word → ℕ → ℕ → Shown
+shows w n p = record { word = w; number = n; place = p }
 
 -- the most bytes of a record
 abbrev pub longest : ℕ
 longest = 16777216
 
 -- number and place are 0 unless refused
-abbrev pub told : Verdict → Told
-told Is.Valid = tell valid 0 0
-told Is.Invalid = tell invalid 0 0
-told (Is.Malformed p) = tell refused 11 p
-told (Is.TooDeep p) = tell refused 12 p
-told Is.TooLong = tell refused 13 longest
-told (Is.Unfinished p) = tell refused 14 p
-told Is.Head = tell refused 15 0
+abbrev pub shown : Verdict → Shown
+shown Is.Valid = shows valid 0 0
+shown Is.Invalid = shows invalid 0 0
+shown (Is.Malformed p) = shows refused 11 p
+shown (Is.TooDeep p) = shows refused 12 p
+shown Is.TooLong = shows refused 13 longest
+shown (Is.Unfinished p) = shows refused 14 p
+shown Is.Head = shows refused 15 0
 
 -- ---- the faults of a part
 

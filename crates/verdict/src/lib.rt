@@ -1,6 +1,6 @@
 // The verdict of a record: 01, "The stream".
 ghost use mathlib.Core.Path.{_≡_};
-ghost use Rattle.verdict.specs.Verdict.{told};
+ghost use Rattle.verdict.specs.Verdict.{shown};
 
 pub enum Verdict {
     Valid,
@@ -19,7 +19,7 @@ pub enum Verdict {
 
 // The number of a verdict.
 pub fn number_of(v: Verdict) -> u8
-    ensures { λ r. ⌜ r ≡ told v .number ⌝ }
+    ensures { λ r. ⌜ r ≡ shown v .number ⌝ }
 {
     match v {
         Verdict::Valid => 0,
@@ -34,7 +34,7 @@ pub fn number_of(v: Verdict) -> u8
 
 // The place of a verdict.
 pub fn place_of(v: Verdict) -> u32
-    ensures { λ r. ⌜ r ≡ told v .place ⌝ }
+    ensures { λ r. ⌜ r ≡ shown v .place ⌝ }
 {
     match v {
         Verdict::Valid => 0,

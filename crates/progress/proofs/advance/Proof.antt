@@ -1,6 +1,6 @@
 -- `advance` meets its contract. Assumes nothing.
 use borrow.Author.Tests.{eq-eqb, ne-eqb}
-use Rattle.progress.specs.Lex.{advanced}
+use Rattle.progress.specs.Progress.{advanced}
 use borrow.Author.Needs.{needs}
 use Rattle.progress.proofs.advance.Statement.{statement}
 use Rattle.progress.proofs.advance.Tie as tie

@@ -1,5 +1,5 @@
 -- `judge` meets its contract. Assumes nothing.
-use Rattle.progress.specs.Lex.{judged}
+use Rattle.progress.specs.Progress.{judged}
 use borrow.Author.Needs.{needs}
 use Rattle.progress.proofs.judge.Statement.{statement}
 use Rattle.progress.proofs.judge.Tie as tie

@@ -1,6 +1,6 @@
 -- `sound` meets its contract. Assumes nothing.
 use borrow.Author.Tests.{le-ltb, lt-ltb}
-use Rattle.progress.specs.Lex.{sound}
+use Rattle.progress.specs.Progress.{sound}
 use borrow.Author.Needs.{needs}
 use Rattle.progress.proofs.sound.Statement.{statement}
 use Rattle.progress.proofs.sound.Tie as tie

@@ -10,11 +10,11 @@ use Rattle.reader.proofs.read_piece.Statement.{statement}
 use Rattle.reader.proofs.read_piece.Tie as tie
 
 abbrev Inv-loop : tie.InvT-loop
-Inv-loop table work₀ piece classes frames tally lex₀ root₀ key₀ i₀ work lex root key i =
-    Left (tableIn table) frames piece (mem lex₀ root₀ key₀ work₀) (mem lex root key work) i
+Inv-loop table work₀ piece classes frames tally lex₀ root₀ key₀ i₀ work progress root key i =
+    Left (tableIn table) frames piece (mem lex₀ root₀ key₀ work₀) (mem progress root key work) i
 
 abbrev μ-loop : tie.MeasureT-loop
-μ-loop table work₀ piece classes frames tally lex₀ root₀ key₀ i₀ work lex root key i = length piece - i
+μ-loop table work₀ piece classes frames tally lex₀ root₀ key₀ i₀ work progress root key i = length piece - i
 
 loop-holds : tie.Need-loop-holds Inv-loop μ-loop
 loop-holds c = search (needs, left-start)

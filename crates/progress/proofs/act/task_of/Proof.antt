@@ -4,7 +4,7 @@ use Rattle.progress.proofs.act.task_of.Statement.{statement}
 use Rattle.progress.proofs.act.task_of.Tie as tie
 
 returns-2 : tie.Need-returns-2
-returns-2 c = simp (c .ended .ensures, c .before .enum-told2 .given .1)
+returns-2 c = simp (c .number-task .ensures, c .before .enum-told2 .given .1)
 
 returns-5 : tie.Need-returns-5
 returns-5 c = simp (c .closing .ensures, c .before .enum-told5 .given .1)

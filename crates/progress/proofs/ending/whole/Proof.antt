@@ -1,6 +1,6 @@
 -- `ending::whole` meets its contract. Assumes nothing.
 use borrow.Author.Tests.{eq-eqb, ne-eqb}
-use Rattle.progress.specs.Lex.{whole}
+use Rattle.progress.specs.Progress.{whole}
 use borrow.Author.Needs.{needs}
 use Rattle.progress.proofs.ending.whole.Statement.{statement}
 use Rattle.progress.proofs.ending.whole.Tie as tie

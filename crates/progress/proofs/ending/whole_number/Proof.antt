@@ -1,5 +1,5 @@
 -- `ending::whole_number` meets its contract. Assumes nothing.
-use Rattle.progress.specs.Lex.{wholeNumber}
+use Rattle.progress.specs.Progress.{wholeNumber}
 use mathlib.Core.Path.{sym, _∙_}
 use borrow.Author.Needs.{needs}
 use Rattle.progress.proofs.ending.whole_number.Statement.{statement}

@@ -5,8 +5,8 @@ use Prim.Native.Nat.{ℕ, _+_}
 use lib.Dec.{eqb, ltb}
 use Rattle.json.specs.Lexer.{bitsAfter, highAfter, charOf, mayEnd}
 use Rattle.json.specs.declared.number.NumberMode.{NumberMode}
-use Rattle.json.specs.declared.lexer.Place.{Place}
-use Rattle.json.specs.declared.lexer.Place.the-variants as P
+use Rattle.json.specs.declared.lexer.Awaited.{Awaited}
+use Rattle.json.specs.declared.lexer.Awaited.the-variants as P
 use Rattle.json.specs.declared.lexer.Mode.{Mode}
 use Rattle.json.specs.declared.lexer.Mode.the-variants as M
 use Rattle.json.specs.declared.lexer.Act.{Act}
@@ -16,7 +16,7 @@ use Rattle.verdict.specs.declared.Verdict.{Verdict}
 use Rattle.verdict.specs.declared.Verdict.the-variants as Is
 use Rattle.progress.specs.declared.Fault.{Fault}
 use Rattle.progress.specs.declared.Fault.the-variants as F
-use Rattle.progress.specs.declared.Lex.{Lex}
+use Rattle.progress.specs.declared.Progress.{Progress}
 use Rattle.progress.specs.declared.Task.{Task}
 use Rattle.progress.specs.declared.Task.the-variants as To
 use Rattle.progress.specs.declared.Advanced.{Advanced}
@@ -26,16 +26,16 @@ use Rattle.progress.specs.Act.{firstFault, levelAfter, lenAfter, taskOf}
 unfoldable pub bump : ℕ → ℕ
 bump p = cond (ltb p 4294967295) (p + 1) p
 
-abbrev pub advance : Lex → Task → Advanced
-advance x t = record { lex = x; task = t }
+abbrev pub advance : Progress → Task → Advanced
+advance x t = record { progress = x; task = t }
 
 -- a byte that is counted, and no more
-abbrev pub counted : Lex → Advanced
+abbrev pub counted : Progress → Advanced
 counted x =
     advance (record { mode = x .mode; fault = x .fault; head = x .head; level = x .level; pos = bump (x .pos); place = x .place; bits = x .bits; high = x .high; len = x .len }) To.Idle
 
 -- the byte is the record's first fault
-abbrev pub faulted : Lex → Fault → Advanced
+abbrev pub faulted : Progress → Fault → Advanced
 faulted x f =
     advance (record { mode = x .mode; fault = f; head = x .head; level = x .level; pos = bump (x .pos); place = x .pos; bits = x .bits; high = x .high; len = x .len }) To.Idle
 
@@ -63,12 +63,12 @@ charIn (M.Number n) bits high b = 0
 charIn (M.Word w i) bits high b = 0
 
 -- the record after byte b, at mode m
-abbrev pub moved : Lex → ℕ → Mode → ℕ → ℕ → Lex
+abbrev pub moved : Progress → ℕ → Mode → ℕ → ℕ → Progress
 moved x b m level len =
     record { mode = m; fault = x .fault; head = x .head; level = level; pos = bump (x .pos); place = x .place; bits = bitsIn (x .mode) (x .bits) b; high = highIn (x .mode) (x .bits) (x .high) b; len = len }
 
 -- a step of the lexer, whose act has the fault f: e tells whether it ends a number, m is the mode after it
-abbrev pub actedBy : Fault → Act → Bool → Lex → ℕ → ℕ → Mode → Advanced
+abbrev pub actedBy : Fault → Act → Bool → Progress → ℕ → ℕ → Mode → Advanced
 actedBy F.Sound a e x n b m =
     advance (moved x b m (levelAfter a (x .level) n) (lenAfter a (x .len) (charIn (x .mode) (x .bits) (x .high) b)))
     (taskOf a e (x .mode) (x .len) (charIn (x .mode) (x .bits) (x .high) b))
@@ -76,31 +76,31 @@ actedBy F.Malformed a e x n b m = faulted x F.Malformed
 actedBy F.TooDeep a e x n b m = faulted x F.TooDeep
 actedBy F.TooLong a e x n b m = faulted x F.TooLong
 
-abbrev pub acted : Act → Bool → Lex → ℕ → ℕ → Mode → Advanced
+abbrev pub acted : Act → Bool → Progress → ℕ → ℕ → Mode → Advanced
 acted a e x n b m = actedBy (firstFault a (x .level) n) a e x n b m
 
 -- a byte of a record without a fault so far: 13 comes before 11, and 11 before 12
-unfoldable pub sound : Lex → ℕ → ℕ → Step → Advanced
+unfoldable pub sound : Progress → ℕ → ℕ → Step → Advanced
 sound x n b st = cond (ltb (x .pos) longest) (acted (st .act) (st .ends) x n b (st .mode)) (faulted x F.TooLong)
 
 -- an RS where no record is open ends the head
-abbrev pub afterHead : Lex → Lex
+abbrev pub afterHead : Progress → Progress
 afterHead x = record { mode = x .mode; fault = x .fault; head = false; level = x .level; pos = x .pos; place = x .place; bits = x .bits; high = x .high; len = x .len }
 
-abbrev pub byFault : Fault → Lex → ℕ → ℕ → Step → Advanced
+abbrev pub byFault : Fault → Progress → ℕ → ℕ → Step → Advanced
 byFault F.Sound x n b st = sound x n b st
 byFault F.Malformed x n b st = counted x
 byFault F.TooDeep x n b st = counted x
 byFault F.TooLong x n b st = counted x
 
 -- byte b with n frames, of which the lexer makes the step st; an RS (0x1E) here ends no record
-unfoldable pub advanced : Lex → ℕ → ℕ → Step → Advanced
+unfoldable pub advanced : Progress → ℕ → ℕ → Step → Advanced
 advanced x n b st = cond (eqb b 0x1E) (advance (afterHead x) To.Idle) (cond (x .head) (counted x) (byFault (x .fault) x n b st))
 
 -- ---- the verdict of a record that ends here
 
 -- with nothing open, after pos bytes: after a value it is valid where the root fits rule 0
-abbrev pub wholeAt : Place → ℕ → Bool → Verdict
+abbrev pub wholeAt : Awaited → ℕ → Bool → Verdict
 wholeAt P.Value pos root = Is.Unfinished pos
 wholeAt P.First pos root = Is.Unfinished pos
 wholeAt P.Key pos root = Is.Unfinished pos
@@ -119,14 +119,14 @@ wholeIn (M.Number n) pos root = wholeNumber n pos
 wholeIn (M.Word w i) pos root = Is.Unfinished pos
 
 -- a record with an open value is not finished
-unfoldable pub whole : Lex → Bool → Verdict
+unfoldable pub whole : Progress → Bool → Verdict
 whole x root = cond (eqb (x .level) 0) (wholeIn (x .mode) (x .pos) root) (Is.Unfinished (x .pos))
 
-abbrev pub verdictBy : Fault → Lex → Bool → Verdict
+abbrev pub verdictBy : Fault → Progress → Bool → Verdict
 verdictBy F.Sound x root = whole x root
 verdictBy F.Malformed x root = Is.Malformed (x .place)
 verdictBy F.TooDeep x root = Is.TooDeep (x .place)
 verdictBy F.TooLong x root = Is.TooLong
 
-unfoldable pub judged : Lex → Bool → Verdict
+unfoldable pub judged : Progress → Bool → Verdict
 judged x root = cond (x .head) Is.Head (verdictBy (x .fault) x root)

@@ -84,8 +84,8 @@ module _ (es : List Entry) (k : Loading (tableOf es) es) where
       form-of-code (formIn a) (formIn b)
       (of-each (FormKept es) es (k .forms) i ∙ ap (ruleForm es) e ∙ sym (of-each (FormKept es) es (k .forms) j))
 
-  kept-of-loading : Carries (tableOf es) es
-  kept-of-loading =
+  carries-of-loading : Carries (tableOf es) es
+  carries-of-loading =
       record {
         holds = k .holds;
         edge-limits = λ i. let p = of-each Proper es (k .proper) i in record { rule = p .rule; state = p .state; kind = p .kind; next = p .next };
@@ -109,8 +109,8 @@ module _ {t : Table} {es : List Entry} (book : Book t es) where
   loading = rw (← (book .entries)) (loads-kept (book .bytes))
 
   -- its table keeps its entries
-  pub kept-of-book : Carries t es
-  kept-of-book = rw (sym (book .table) ∙ book .gave .table ∙ ap tableOf (book .entries)) (kept-of-loading es loading)
+  pub carries-of-book : Carries t es
+  carries-of-book = rw (sym (book .table) ∙ book .gave .table ∙ ap tableOf (book .entries)) (carries-of-loading es loading)
 
   pub plain-of-book : PlainKeys es
   plain-of-book = plain-of-loading es loading

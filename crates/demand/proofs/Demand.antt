@@ -7,7 +7,7 @@ use Rattle.follows.specs.Follows.{Tracks}
 use Rattle.follows.proofs.TrackLaws.{tracks-start, tracks-step, tracks-judged}
 use Rattle.follows.proofs.MemoryLaws.{length-stepMem}
 use Rattle.demand.specs.Book.{Book}
-use Rattle.demand.proofs.BookLaws.{kept-of-book, plain-of-book, sound-of-book}
+use Rattle.demand.proofs.BookLaws.{carries-of-book, plain-of-book, sound-of-book}
 
 -- with an accepted book, the memory of the reader follows the track of a record, byte by byte
 pub reading : Reading Book Tracks
@@ -15,7 +15,7 @@ reading =
     record {
       sound = λ book. sound-of-book book;
       start = λ {t} {es} book n least most w long. tracks-start es n w long;
-      byte = λ book {n} least most {m} {s} tracks b other. tracks-step (kept-of-book book) (plain-of-book book) n most m s b other tracks;
+      byte = λ book {n} least most {m} {s} tracks b other. tracks-step (carries-of-book book) (plain-of-book book) n most m s b other tracks;
       verdict = λ book {n} {m} {s} tracks. tracks-judged m s tracks;
       length-kept = length-stepMem;
     }

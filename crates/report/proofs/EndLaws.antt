@@ -10,7 +10,7 @@ use borrow.Author.Tests.{le-leb, lt-leb, eq-eqb, ne-eqb}
 use Rattle.table.specs.Table.{Table}
 use Rattle.book.specs.Load.{loads}
 use Rattle.load.specs.Step.{loadedAs}
-use Rattle.load.specs.declared.BookAnswer.{Answer as Load·Answer}
+use Rattle.load.specs.declared.BookAnswer.{BookAnswer}
 use Rattle.load.specs.BookAnswer as load
 use Rattle.load.specs.Loads.{LoadsAs}
 use Rattle.text.specs.Text.{lineOf, streamNames, bookLines}
@@ -48,7 +48,7 @@ module _ (r : Reader) (t : Table) (w o : List ℕ) where
 
 -- ---- begin
 
-module _ (b o : List ℕ) (a : Load·Answer) (t : Table) (l : LoadsAs b (loadedAs a t)) (number : ℕ) (n : number ≡ load.numbered a .number)
+module _ (b o : List ℕ) (a : BookAnswer) (t : Table) (l : LoadsAs b (loadedAs a t)) (number : ℕ) (n : number ≡ load.numbered a .number)
     (after : List ℕ) (place : ℕ) where
   number-is : loads b .number ≡ number
   number-is = sym (n ∙ ap (λ (y : load.Numbered). y .number) (l .answer))

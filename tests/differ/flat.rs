@@ -243,11 +243,11 @@ pub fn changes(rng: &mut Rng, table: &[u8]) -> Vec<(usize, u8)> {
         let edge = if rng.chance(90) { rng.below(edges) } else { rng.below(EDGES) };
         list.push(match rng.below(12) {
             0 => (rng.below(3), *rng.pick(&[0, 1, 2, 3, 127, 128, 129, 255, any, table[0].wrapping_add(1)])),
-            1 => (RULE + edge, *rng.pick(&[0, 1, 2, 31, 32, 33, any])),
-            2 | 3 => (STATE + edge, *rng.pick(&[0, 1, 2, 15, 16, 17, 32, any])),
+            1 => (RULE + edge, *rng.pick(&[0, 1, 2, 31, 32, any, table[RULE + edge].wrapping_add(32)])),
+            2 | 3 => (STATE + edge, *rng.pick(&[0, 1, 2, 15, 16, any, table[STATE + edge].wrapping_add(16)])),
             4 => (KEY + edge, *rng.pick(&[0, 1, 2, 127, 128, 129, 255, any])),
             5 | 6 => (KIND + edge, *rng.pick(&[0, 3, 4, 5, 6, 7, 37, 38, 39, 70, any])),
-            7 => (NEXT + edge, *rng.pick(&[0, 1, 2, 15, 16, 17, 32, any])),
+            7 => (NEXT + edge, *rng.pick(&[0, 1, 2, 15, 16, any, table[NEXT + edge].wrapping_add(16)])),
             8 => (KEY_LENGTH + rng.below(keys), *rng.pick(&[0, 1, 2, 31, 32, 33, 34, 64, 255, any])),
             9 => (ENDS + rng.below(2 * RULES), *rng.pick(&[0, 1, 255, any])),
             10 => (FORMS + rng.below(RULES), *rng.pick(&[0, 1, 2, 3, 255, any])),

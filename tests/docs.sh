@@ -8,7 +8,8 @@
 #   ```output         what the commands before it print; a line ... stands for any lines
 #   ```text file=F    the file F
 #
-# It also tries that each link to a file leads to one, and that the picture of a rule has the rule's lines.
+# It also tries that each link to a file leads to one, that the picture of a rule has the rule's lines, and that the picture of the crates is that of
+# README.md and crates.txt.
 # The last line is a count; exit status 1 where anything failed. Needs coreutils, awk and git.
 set -u
 unset CDPATH
@@ -94,6 +95,14 @@ for page in README.md docs/*.md; do
 done
 sed -n 's/^ *<!-- \([0-9].*\) -->$/\1/p' docs/guidance-line.svg | sort >"$work/drawn"
 if grep '^4 ' examples/field/book.txt | sort | cmp -s - "$work/drawn"; then passed=$((passed + 1)); else bad 'docs/guidance-line.svg: not rule 4'; fi
+if ! command -v python3 >/dev/null 2>&1; then
+    echo 'skipped docs/architecture.svg: python3 is not installed'
+    skipped=$((skipped + 1))
+elif python3 docs/architecture.py >"$work/drawn" && cmp -s -- "$work/drawn" docs/architecture.svg; then
+    passed=$((passed + 1))
+else
+    bad 'docs/architecture.svg: not what docs/architecture.py draws of README.md and crates.txt'
+fi
 for stray in "$work"/blocks/*.stray; do
     [ ! -e "$stray" ] || bad "$(cat -- "$stray")"
 done

@@ -10,8 +10,6 @@ ghost use Rattle.progress.specs.Fresh.{freshProgress};
 ghost use Rattle.reader.specs.Refusals.{refusalNumber, fitReader, tableRung, firstRefusal, startGate, callGate};
 ghost use Rattle.reader.specs.Machine.{freshReader, countValid, countInvalid, countRefused, tallied, startOf, feeding, feedOf, closeOf};
 
-mod piece; // piece.rt: a piece is read on
-
 use json::lexer::Awaited;
 use json::lexer::Mode;
 use progress::Fault;

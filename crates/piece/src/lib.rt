@@ -7,7 +7,7 @@ ghost use Rattle.lexer.specs.Table.{classTable};
 ghost use Rattle.table.specs.Flat.{tableIn};
 ghost use Rattle.table.specs.Limits.{withinLimits};
 ghost use Rattle.progress.specs.Memory.{mem, endsRecord};
-ghost use Rattle.reader.specs.Went.{StepsAs, WentTo};
+ghost use Rattle.piece.specs.Went.{StepsAs, WentTo};
 use json::lexer::Step;
 use progress::Progress;
 

@@ -1,8 +1,8 @@
--- `piece::read_on` meets its contract: what is behind the bytes passed over gives what the whole gives. Assumes nothing.
-use Rattle.reader.proofs.RunLaws.{step-passed, went-all, went-on}
+-- `read_on` meets its contract: what is behind the bytes passed over gives what the whole gives. Assumes nothing.
+use Rattle.piece.proofs.PieceLaws.{step-passed, went-all, went-on}
 use borrow.Author.Needs.{needs}
-use Rattle.reader.proofs.piece.read_on.Statement.{statement}
-use Rattle.reader.proofs.piece.read_on.Tie as tie
+use Rattle.piece.proofs.read_on.Statement.{statement}
+use Rattle.piece.proofs.read_on.Tie as tie
 
 read-byte-requires : tie.Need-read-byte-requires
 read-byte-requires c κs = (search needs, search needs, search needs, search (needs, step-passed))

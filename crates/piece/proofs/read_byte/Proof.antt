@@ -1,8 +1,8 @@
--- `piece::read_byte` meets its contract: an RS ends the record, and any other byte has its turn. Assumes nothing.
-use Rattle.reader.proofs.RunLaws.{keys-le, went-ended, went-turned}
+-- `read_byte` meets its contract: an RS ends the record, and any other byte has its turn. Assumes nothing.
+use Rattle.piece.proofs.PieceLaws.{keys-le, went-ended, went-turned}
 use borrow.Author.Needs.{needs}
-use Rattle.reader.proofs.piece.read_byte.Statement.{statement}
-use Rattle.reader.proofs.piece.read_byte.Tie as tie
+use Rattle.piece.proofs.read_byte.Statement.{statement}
+use Rattle.piece.proofs.read_byte.Tie as tie
 
 returns : tie.Need-returns
 returns c = search (needs, went-ended)

@@ -29,11 +29,12 @@ use Rattle.demand.specs.Book.{Book}
 use Rattle.demand.specs.Reading.{Reads, ended, fed}
 use Rattle.demand.proofs.FeedLaws.{count-of-feed, some-of-feed, length-of-feed}
 use Rattle.demand.proofs.ReadingLaws.{verdicts-of-reads, book-of-loaded, start-quiet, feed-served, close-served, good-of-feed}
-use Rattle.fieldtext.specs.Entries.{Entry as Said}
-use Rattle.fieldtext.specs.Judge.{answerEntries, isRefused, Fed, stopped, entriesThen, pieceOf, feeds, closes, streamed, judges}
+use Rattle.entries.specs.Entries.{Entry as Said}
+use Rattle.entries.specs.Feeds.{answerEntries, isRefused, Fed, stopped, entriesThen, pieceOf, feeds, closes, streamed}
+use Rattle.fieldtext.specs.Judge.{judges}
 use Rattle.fieldtext.specs.Shows.{Shows, none, next}
-use Rattle.fieldtext.proofs.PieceLaws.{piece-some}
-use Rattle.fieldtext.proofs.FeedLaws.{feeds-done, feeds-more}
+use Rattle.entries.proofs.PieceLaws.{piece-some}
+use Rattle.entries.proofs.FeedLaws.{feeds-done, feeds-more}
 
 -- ---- one answer
 

@@ -1,4 +1,2 @@
-pub mod Entries
 pub mod Judge
 pub mod Shows
-pub mod Turn

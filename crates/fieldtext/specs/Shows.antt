@@ -2,7 +2,7 @@
 use mathlib.Core.List.{List, [], _∷_}
 use Prim.Native.Nat.{ℕ}
 use Rattle.verdict.specs.declared.Verdict.{Verdict}
-use Rattle.fieldtext.specs.Entries.{Entry, verdictEntry}
+use Rattle.entries.specs.Entries.{Entry, verdictEntry}
 
 -- one entry for each verdict, in their order, whatever number of bytes was read by then
 pub data Shows : List Entry → List Verdict → Type 0 where

@@ -6,9 +6,8 @@ ghost use Rattle.load.specs.Step.{tableOf};
 ghost use Rattle.load.specs.Loads.{Blank};
 ghost use Rattle.fieldtext.specs.Judge.{judgeTableOf, judgeOf};
 
-mod entry; // entry.rt: the bytes of an entry
-mod feeds; // feeds.rt: a stream fed piece by piece
-
+use entries::entry;
+use entries::feeds;
 use reader::Reader;
 
 // Fills the table that is lent with what a book says, and answers the number of its refusal; 0 where it is accepted. After a refusal every byte of

@@ -10,7 +10,7 @@ use borrow.Author.Tests.{lt-ltb, le-ltb}
 use Rattle.laws.proofs.TestLaws.{cond-elim}
 use Rattle.text.specs.Put.{Put}
 use Rattle.text.proofs.PutLaws.{Rest, rest-start, rest-put, rest-done, put-byte, put-then, length-of-put}
-use Rattle.fieldtext.specs.Entries.{Entry, little, bytesOf, withEntry, withEntries}
+use Rattle.entries.specs.Entries.{Entry, little, bytesOf, withEntry, withEntries}
 
 -- ---- a number, byte by byte: i of its k bytes are put, and n is what is left of it
 

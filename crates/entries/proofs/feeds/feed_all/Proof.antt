@@ -3,10 +3,10 @@ use mathlib.Core.Path.{_≡_, refl}
 use Prim.Native.Nat.{_-_, _<_}
 use lib.ListN.{length}
 use Rattle.table.specs.Flat.{tableIn}
-use Rattle.fieldtext.proofs.FeedLaws.{Going, going-start, going-done, going-refused, going-more, less-unread, made-refused}
+use Rattle.entries.proofs.FeedLaws.{Going, going-start, going-done, going-refused, going-more, less-unread, made-refused}
 use borrow.Author.Needs.{needs}
-use Rattle.fieldtext.proofs.feeds.feed_all.Statement.{statement}
-use Rattle.fieldtext.proofs.feeds.feed_all.Tie as tie
+use Rattle.entries.proofs.feeds.feed_all.Statement.{statement}
+use Rattle.entries.proofs.feeds.feed_all.Tie as tie
 
 abbrev Inv-loop : tie.InvT-loop
 Inv-loop table stream size work₀ out₀ f₀ work out f =

@@ -16,11 +16,11 @@ use Rattle.reader.specs.declared.Answer.the-variants as Says
 use Rattle.reader.specs.declared.Refusal.{Refusal}
 use Rattle.reader.specs.Machine.{Outcome, feedOf, closeOf}
 use Rattle.demand.proofs.FeedLaws.{count-of-feed, some-of-feed, weight, weight-of-feed}
-use Rattle.fieldtext.specs.Entries.{Entry, withEntries}
-use Rattle.fieldtext.specs.Judge.{answerEntries, isRefused, Fed, stopped, entriesThen, pieceOf, pieceEnd, feeds, Feeds, streamed, inOut}
-use Rattle.fieldtext.specs.Turn.{Turn, feedNext, turnOf}
-use Rattle.fieldtext.proofs.EntryLaws.{withEntries-append}
-use Rattle.fieldtext.proofs.PieceLaws.{piece-is, piece-some, piece-short}
+use Rattle.entries.specs.Entries.{Entry, withEntries}
+use Rattle.entries.specs.Feeds.{answerEntries, isRefused, Fed, stopped, entriesThen, pieceOf, pieceEnd, feeds, Feeds, streamed, inOut}
+use Rattle.entries.specs.Turn.{Turn, feedNext, turnOf}
+use Rattle.entries.proofs.EntryLaws.{withEntries-append}
+use Rattle.entries.proofs.PieceLaws.{piece-is, piece-some, piece-short}
 
 -- an answer has at most one entry
 one-entry : (a : Answer) (read : ℕ) → length (answerEntries a read) ≤ 1

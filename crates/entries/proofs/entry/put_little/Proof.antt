@@ -4,11 +4,11 @@ use Prim.Native.Nat.{_+_, _-_, _≤_}
 use native.Mathlib.Omega.{arith}
 use lib.ListN.{length}
 use Rattle.text.proofs.PutLaws.{Rest}
-use Rattle.fieldtext.specs.Entries.{little}
-use Rattle.fieldtext.proofs.EntryLaws.{little-start, little-more, little-done}
+use Rattle.entries.specs.Entries.{little}
+use Rattle.entries.proofs.EntryLaws.{little-start, little-more, little-done}
 use borrow.Author.Needs.{needs}
-use Rattle.fieldtext.proofs.entry.put_little.Statement.{statement}
-use Rattle.fieldtext.proofs.entry.put_little.Tie as tie
+use Rattle.entries.proofs.entry.put_little.Statement.{statement}
+use Rattle.entries.proofs.entry.put_little.Tie as tie
 
 abbrev Inv-loop : tie.InvT-loop
 Inv-loop out₀ at n k rest₀ i₀ out rest i = (i ≤ k) × (length out ≡ length out₀) × Rest out₀ at (little k n) out (at + i) (little (k - i) rest)

@@ -3,8 +3,8 @@ ghost use mathlib.Core.Path.{_≡_};
 ghost use Prim.Native.Nat.{_+_, _≤_, _<_};
 ghost use lib.ListN.{length};
 ghost use Rattle.text.specs.Put.{Put};
-ghost use Rattle.fieldtext.specs.Entries.{verdictEntry, little, withEntry, withEntries};
-ghost use Rattle.fieldtext.specs.Judge.{answerEntries};
+ghost use Rattle.entries.specs.Entries.{verdictEntry, little, withEntry, withEntries};
+ghost use Rattle.entries.specs.Feeds.{answerEntries};
 use reader::Answer;
 use verdict::Verdict;
 

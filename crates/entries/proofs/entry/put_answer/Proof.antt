@@ -1,8 +1,8 @@
 -- `entry::put_answer` meets its contract, answer by answer. Assumes nothing.
-use Rattle.fieldtext.proofs.JudgeLaws.{answer-quiet, answer-verdict, answer-refusal}
+use Rattle.entries.proofs.AnswerLaws.{answer-quiet, answer-verdict, answer-refusal}
 use borrow.Author.Needs.{needs}
-use Rattle.fieldtext.proofs.entry.put_answer.Statement.{statement}
-use Rattle.fieldtext.proofs.entry.put_answer.Tie as tie
+use Rattle.entries.proofs.entry.put_answer.Statement.{statement}
+use Rattle.entries.proofs.entry.put_answer.Tie as tie
 
 returns : tie.Need-returns
 returns c = answer-quiet _ _ _ _ (c .enum-told .given .1)

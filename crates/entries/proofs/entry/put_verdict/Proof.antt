@@ -1,8 +1,8 @@
 -- `entry::put_verdict` meets its contract. Assumes nothing.
-use Rattle.fieldtext.proofs.JudgeLaws.{verdict-entry}
+use Rattle.entries.proofs.AnswerLaws.{verdict-entry}
 use borrow.Author.Needs.{needs}
-use Rattle.fieldtext.proofs.entry.put_verdict.Statement.{statement}
-use Rattle.fieldtext.proofs.entry.put_verdict.Tie as tie
+use Rattle.entries.proofs.entry.put_verdict.Statement.{statement}
+use Rattle.entries.proofs.entry.put_verdict.Tie as tie
 
 returns : tie.Need-returns
 returns c = search (needs, verdict-entry)

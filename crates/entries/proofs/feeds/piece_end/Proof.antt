@@ -1,8 +1,8 @@
 -- `feeds::piece_end` meets its contract. Assumes nothing.
-use Rattle.fieldtext.proofs.PieceLaws.{end-whole, rest-of-size, end-last, end-cut}
+use Rattle.entries.proofs.PieceLaws.{end-whole, rest-of-size, end-last, end-cut}
 use borrow.Author.Needs.{needs}
-use Rattle.fieldtext.proofs.feeds.piece_end.Statement.{statement}
-use Rattle.fieldtext.proofs.feeds.piece_end.Tie as tie
+use Rattle.entries.proofs.feeds.piece_end.Statement.{statement}
+use Rattle.entries.proofs.feeds.piece_end.Tie as tie
 
 returns : tie.Need-returns
 returns c = (search (needs, end-whole), search needs)

@@ -3,8 +3,8 @@ ghost use mathlib.Core.Path.{_≡_};
 ghost use Prim.Native.Nat.{_+_, _≤_, _<_};
 ghost use lib.ListN.{length};
 ghost use Rattle.table.specs.Flat.{tableIn};
-ghost use Rattle.fieldtext.specs.Judge.{isQuiet, isRefused, feeds as Judge·feeds, streamed, pieceEnd, inOut, Feeds};
-ghost use Rattle.fieldtext.specs.Turn.{feedNext, turnOf};
+ghost use Rattle.entries.specs.Feeds.{isQuiet, isRefused, feeds as Feeds·feeds, streamed, pieceEnd, inOut, Feeds};
+ghost use Rattle.entries.specs.Turn.{feedNext, turnOf};
 use crate::entry;
 use reader::Answer;
 use reader::Reader;
@@ -116,7 +116,7 @@ fn feed_all<'a>(
     out: &mut [u8],
 ) -> Fed
     requires { ⌜ r .progress .pos ≡ 0 ⌝ }
-    ensures { λ x. ⌜ Feeds (Judge·feeds (length (now (stream .entry))) (tableIn (now (table .entry))) size r (now (work .entry)) 0 (now (stream .entry))) (now (out .entry)) (x .reader) (now (work .exit)) (x .read) (now (out .exit)) (x .made) ⌝ }
+    ensures { λ x. ⌜ Feeds (Feeds·feeds (length (now (stream .entry))) (tableIn (now (table .entry))) size r (now (work .entry)) 0 (now (stream .entry))) (now (out .entry)) (x .reader) (now (work .exit)) (x .read) (now (out .exit)) (x .made) ⌝ }
     ensures { λ x. ⌜ x .made < 18446744073709551615 ⌝ }
 {
     let mut f = Fed {

@@ -9,7 +9,7 @@ use lib.Dec.{eqb, ltb}
 use lib.ListN.{length, take, drop, length-take, length-drop}
 use lib.Seq.{take-all}
 use borrow.Author.Tests.{eq-eqb, ne-eqb, eqb-false, lt-ltb, le-ltb, ltb-true}
-use Rattle.fieldtext.specs.Judge.{pieceOf, pieceEnd}
+use Rattle.entries.specs.Feeds.{pieceOf, pieceEnd}
 
 -- ---- where it ends
 

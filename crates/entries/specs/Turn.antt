@@ -7,8 +7,8 @@ use Rattle.table.specs.Table.{Table}
 use Rattle.reader.specs.declared.Reader.{Reader}
 use Rattle.reader.specs.declared.Answer.{Answer}
 use Rattle.reader.specs.Machine.{Outcome, feedOf}
-use Rattle.fieldtext.specs.Entries.{Entry, withEntries}
-use Rattle.fieldtext.specs.Judge.{answerEntries, isRefused, pieceOf}
+use Rattle.entries.specs.Entries.{Entry, withEntries}
+use Rattle.entries.specs.Feeds.{answerEntries, isRefused, pieceOf}
 
 -- the reader and the work buffer after the feed, the bytes of the stream read by then, the output, its entries, and whether the feed was refused
 pub record Turn : Type 0 where

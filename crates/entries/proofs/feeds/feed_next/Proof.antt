@@ -1,8 +1,8 @@
 -- `feeds::feed_next` meets its contract: a feed, then its entry. Assumes nothing.
-use Rattle.fieldtext.proofs.FeedLaws.{turn-refused, turn-put}
+use Rattle.entries.proofs.FeedLaws.{turn-refused, turn-put}
 use borrow.Author.Needs.{needs}
-use Rattle.fieldtext.proofs.feeds.feed_next.Statement.{statement}
-use Rattle.fieldtext.proofs.feeds.feed_next.Tie as tie
+use Rattle.entries.proofs.feeds.feed_next.Statement.{statement}
+use Rattle.entries.proofs.feeds.feed_next.Tie as tie
 
 returns : tie.Need-returns
 returns c = search (needs, turn-refused)

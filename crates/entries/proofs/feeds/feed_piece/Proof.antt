@@ -1,8 +1,8 @@
 -- `feeds::feed_piece` meets its contract: the piece is what is unread up to the next cut. Assumes nothing.
-use Rattle.fieldtext.proofs.FeedLaws.{fed-piece, fed-count}
+use Rattle.entries.proofs.FeedLaws.{fed-piece, fed-count}
 use borrow.Author.Needs.{needs}
-use Rattle.fieldtext.proofs.feeds.feed_piece.Statement.{statement}
-use Rattle.fieldtext.proofs.feeds.feed_piece.Tie as tie
+use Rattle.entries.proofs.feeds.feed_piece.Statement.{statement}
+use Rattle.entries.proofs.feeds.feed_piece.Tie as tie
 
 returns : tie.Need-returns
 returns c = (search (needs, fed-piece), search (needs, fed-count))

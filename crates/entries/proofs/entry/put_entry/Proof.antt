@@ -1,9 +1,9 @@
 -- `entry::put_entry` meets its contract: four bytes, then two numbers. Assumes nothing.
 use lib.ListN.{length-set}
-use Rattle.fieldtext.proofs.EntryLaws.{room-mid, length-last, entry-put, entry-none}
+use Rattle.entries.proofs.EntryLaws.{room-mid, length-last, entry-put, entry-none}
 use borrow.Author.Needs.{needs}
-use Rattle.fieldtext.proofs.entry.put_entry.Statement.{statement}
-use Rattle.fieldtext.proofs.entry.put_entry.Tie as tie
+use Rattle.entries.proofs.entry.put_entry.Statement.{statement}
+use Rattle.entries.proofs.entry.put_entry.Tie as tie
 
 slice-write-out-2 : tie.Need-slice-write-out-2
 slice-write-out-2 c = simp length-set (search needs)

@@ -1,8 +1,8 @@
 -- `feeds::feed_close` meets its contract: the feeds, then the close. Assumes nothing.
-use Rattle.fieldtext.proofs.FeedLaws.{streamed-of}
+use Rattle.entries.proofs.FeedLaws.{streamed-of}
 use borrow.Author.Needs.{needs}
-use Rattle.fieldtext.proofs.feeds.feed_close.Statement.{statement}
-use Rattle.fieldtext.proofs.feeds.feed_close.Tie as tie
+use Rattle.entries.proofs.feeds.feed_close.Statement.{statement}
+use Rattle.entries.proofs.feeds.feed_close.Tie as tie
 
 returns : tie.Need-returns
 returns c =

@@ -5,7 +5,6 @@ ghost use Rattle.book.specs.Load.{loads};
 ghost use Rattle.load.specs.Step.{tableOf};
 ghost use Rattle.load.specs.Loads.{Blank};
 ghost use Rattle.fieldtext.specs.Judge.{judgeTableOf, judgeOf};
-
 use entries::entry;
 use entries::feeds;
 use reader::Reader;

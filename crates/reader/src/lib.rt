@@ -9,7 +9,6 @@ ghost use Rattle.progress.specs.Progress.{judged};
 ghost use Rattle.progress.specs.Fresh.{freshProgress};
 ghost use Rattle.reader.specs.Refusals.{refusalNumber, fitReader, tableRung, firstRefusal, startGate, callGate};
 ghost use Rattle.reader.specs.Machine.{freshReader, countValid, countInvalid, countRefused, tallied, startOf, feeding, feedOf, closeOf};
-
 use json::lexer::Awaited;
 use json::lexer::Mode;
 use progress::Fault;

@@ -1,4 +1,3 @@
 pub mod ChoiceLaws
-pub mod TableLaws
 pub mod GivenLaws
 pub mod WordLaws

@@ -2,12 +2,12 @@
 ghost use mathlib.Core.Path.{_≡_};
 ghost use Rattle.json.specs.Bytes.{isBlank};
 ghost use Rattle.json.specs.Lexer.{stepTo, faultStep, stay, valueStart, atValue, atFirstElement, atFirstKey, atKey, atColon, afterRoot, afterElement, afterPair, afterValue, atFirst, placeStep, keyStep, textStep, endedBefore, numberStep, wordStep, numberMove, wordMove};
-ghost use Rattle.lexer.specs.Table.{classAt};
+ghost use Rattle.chars.specs.Table.{classAt};
 ghost use Rattle.lexer.specs.Given.{stepBy};
 use super::number::is_digit_1_9;
 use super::number::number_move;
-use super::string::string_move;
 use super::word::word_move;
+use chars::string::string_move;
 use json::lexer::Act;
 use json::lexer::Awaited;
 use json::lexer::Mode;

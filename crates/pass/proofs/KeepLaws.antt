@@ -22,8 +22,8 @@ use Rattle.progress.specs.declared.Advanced.{Advanced}
 use Rattle.progress.specs.Act.{keyLen, keyTask, keptIn}
 use Rattle.progress.specs.Progress.{advance, bump, charIn, moved, advanced}
 use Rattle.progress.specs.Memory.{mem, topAt, perform, stepMem}
-use Rattle.lexer.specs.Table.{classTable, classAt}
-use Rattle.lexer.proofs.TableLaws.{classAt-classTable}
+use Rattle.chars.specs.Table.{classTable, classAt}
+use Rattle.chars.proofs.TableLaws.{classAt-classTable}
 use Rattle.progress.proofs.ActLaws.{length-keptIn}
 use Rattle.pass.specs.Pass.{plainClass, awaitsChar, readsOn, keepsIn, keepsChars, placed, PlainAt, KeptTo}
 use Rattle.pass.proofs.ByteLaws.{advanced-acted, bump-below, never, next-run, reads-told}

@@ -17,7 +17,7 @@ use Rattle.progress.specs.declared.Fault.the-variants as F
 use Rattle.progress.specs.declared.Progress.{Progress}
 use Rattle.progress.specs.Progress.{bitsIn, highIn, sound, advanced}
 use Rattle.progress.specs.Memory.{mem, topAt, runMem}
-use Rattle.lexer.specs.Table.{classTable, classAt}
+use Rattle.chars.specs.Table.{classTable, classAt}
 use Rattle.lexer.specs.Given.{stepBy}
 use Rattle.lexer.proofs.GivenLaws.{stepBy-classTable}
 use Rattle.pass.specs.Pass.{StayedTo, bitsOver, passes, isSound, readsOn, placed, reached, passedAt, RunsTo, PassedTo}

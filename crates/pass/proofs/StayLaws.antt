@@ -35,8 +35,8 @@ use Rattle.progress.specs.declared.Fault.the-variants as F
 use Rattle.progress.specs.declared.Progress.{Progress}
 use Rattle.progress.specs.Progress.{bump, bitsIn, highIn}
 use Rattle.progress.specs.Memory.{mem, topAt, runMem}
-use Rattle.lexer.specs.Table.{classTable, classAt}
-use Rattle.lexer.proofs.TableLaws.{classAt-classTable}
+use Rattle.chars.specs.Table.{classTable, classAt}
+use Rattle.chars.proofs.TableLaws.{classAt-classTable}
 use Rattle.pass.specs.Pass.{plainClass, awaitsChar, inDigits, staysIn, StayedTo, isQuiet, passes, placed}
 use Rattle.pass.proofs.ByteLaws.{bump-below, never, next-run, quiet-step}
 

@@ -6,7 +6,7 @@ ghost use Prim.Native.Nat.{_+_, _-_, _<_, _≤_, min};
 ghost use lib.ListN.{length, getD};
 ghost use Rattle.json.specs.Lexer.{stepOf};
 ghost use Rattle.json.specs.Numbers.{isDigit};
-ghost use Rattle.lexer.specs.Table.{classTable, classAt};
+ghost use Rattle.chars.specs.Table.{classTable, classAt};
 ghost use Rattle.pass.specs.Pass.{plainClass, awaitsChar, inDigits, staysIn, StayedTo, bitsOver, isQuiet, passes, readsOn, keepsChars, placed, passedAt, PassedTo, PlainAt, KeptTo};
 use json::class::Class;
 use json::lexer::Act;
@@ -132,7 +132,7 @@ fn stays(classes: &[u8; 256], m: Mode, b: u8) -> bool
     match m {
         Mode::At(_) => lexer::step::is_blank(b),
         Mode::Key(_) => false,
-        Mode::Text(s) => stays_char(lexer::class::class_in(classes, b), s),
+        Mode::Text(s) => stays_char(chars::class::class_in(classes, b), s),
         Mode::Number(n) => stays_digit(n, b),
         Mode::Word(_, _) => false,
     }
@@ -355,7 +355,7 @@ fn plain_at<'a>(classes: &'a [u8; 256], s: &'a [u8], at: usize) -> bool
     requires { ⌜ (now classes ≡ classTable) × (at < length (now s)) ⌝ }
     ensures { λ r. ⌜ PlainAt (now (s .entry)) at r ⌝ }
 {
-    plain_class(lexer::class::class_in(classes, s[at]))
+    plain_class(chars::class::class_in(classes, s[at]))
 }
 
 // Keeps the plain characters of a key up to a place where the record is not too long yet.

@@ -3,7 +3,7 @@ ghost use mathlib.Core.Path.{_≡_};
 ghost use mathlib.Core.Bool.{true};
 ghost use Prim.Native.Nat.{_<_};
 ghost use lib.ListN.{length, getD};
-ghost use Rattle.lexer.specs.Table.{classTable};
+ghost use Rattle.chars.specs.Table.{classTable};
 ghost use Rattle.table.specs.Flat.{tableIn};
 ghost use Rattle.table.specs.Limits.{withinLimits};
 ghost use Rattle.progress.specs.Memory.{mem, endsRecord};

@@ -9,8 +9,8 @@ pub fn bits_in(m: Mode, bits: u32, b: u8) -> u32
 {
     match m {
         Mode::At(_) => bits,
-        Mode::Key(s) => lexer::string::bits_after(s, bits, b),
-        Mode::Text(s) => lexer::string::bits_after(s, bits, b),
+        Mode::Key(s) => chars::string::bits_after(s, bits, b),
+        Mode::Text(s) => chars::string::bits_after(s, bits, b),
         Mode::Number(_) => bits,
         Mode::Word(_, _) => bits,
     }
@@ -22,8 +22,8 @@ pub fn high_in(m: Mode, bits: u32, high: u32, b: u8) -> u32
 {
     match m {
         Mode::At(_) => high,
-        Mode::Key(s) => lexer::string::high_after(s, bits, high, b),
-        Mode::Text(s) => lexer::string::high_after(s, bits, high, b),
+        Mode::Key(s) => chars::string::high_after(s, bits, high, b),
+        Mode::Text(s) => chars::string::high_after(s, bits, high, b),
         Mode::Number(_) => high,
         Mode::Word(_, _) => high,
     }
@@ -35,7 +35,7 @@ pub fn char_in(m: Mode, bits: u32, high: u32, b: u8) -> u32
 {
     match m {
         Mode::At(_) => 0,
-        Mode::Key(s) => lexer::string::char_of(s, bits, high, b),
+        Mode::Key(s) => chars::string::char_of(s, bits, high, b),
         Mode::Text(_) => 0,
         Mode::Number(_) => 0,
         Mode::Word(_, _) => 0,

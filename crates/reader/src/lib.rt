@@ -302,7 +302,7 @@ fn read_piece<'a>(r: Reader, table: &'a [u8; 7920], work: &mut [u8], piece: &'a 
     requires { ⌜ withinLimits (tableIn (now table)) ≡ true ⌝ }
     ensures { λ x. ⌜ record { reader = x .reader; count = x .count; answer = x .answer; work = now (work .exit) } ≡ feeding r (tableIn (now (table .entry))) (now (work .entry)) (now (piece .entry)) ⌝ }
 {
-    let classes = lexer::class::classes();
+    let classes = chars::class::classes();
     let frames = r.frames;
     let tally = r.tally;
     let mut progress = r.progress;

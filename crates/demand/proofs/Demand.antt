@@ -1,6 +1,6 @@
 -- Demand 3: after an accepted start, whatever is fed and closed, each stream that gets one accepted book and its own buffer back is answered as on
 -- paper, where each record is judged alone. Assumes nothing.
-use Rattle.reader.specs.Claim.{Demand3}
+use Rattle.stream.specs.Claim.{Demand3}
 use Rattle.stream.specs.Bytes.{Reading}
 use Rattle.stream.proofs.Demand.{demand-3 as demand-3-of-bytes}
 use Rattle.follows.specs.Follows.{Tracks}

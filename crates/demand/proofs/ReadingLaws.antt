@@ -17,8 +17,8 @@ use Rattle.reader.specs.declared.Answer.the-variants as Says
 use Rattle.reader.specs.declared.Refusal.{Refusal}
 use Rattle.reader.specs.Refusals.{isOpen}
 use Rattle.reader.specs.Machine.{Outcome, startOf, feedOf, closeOf}
-use Rattle.reader.specs.Paper.{Call, feed, close}
-use Rattle.reader.specs.Claim.{run, answers, accepted, Held, nothing, held, Same, Fair}
+use Rattle.stream.specs.Paper.{Call, feed, close}
+use Rattle.stream.specs.Claim.{run, answers, accepted, Held, nothing, held, Same, Fair}
 use Rattle.reader.proofs.RefusalLaws.{start-open-of-room, call-open-of-room}
 use Rattle.stream.specs.Records.{verdictsOf, verdictsIn, andThen, Hands, closed, fed as hands-fed, Fresh}
 use Rattle.stream.proofs.CallLaws.{Good, accepted-of-true, good-of-call, reading-not-refused}

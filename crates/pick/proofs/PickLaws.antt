@@ -10,8 +10,8 @@ use Rattle.book.specs.Entry.{Entry}
 use Rattle.verdict.specs.declared.Verdict.{Verdict}
 use Rattle.verdict.specs.declared.Verdict.the-variants as Is
 use Rattle.reader.specs.declared.Reader.{Reader}
-use Rattle.reader.specs.Paper.{Call, Judge, nonempty}
-use Rattle.reader.specs.Claim.{answers}
+use Rattle.stream.specs.Paper.{Call, Judge, nonempty}
+use Rattle.stream.specs.Claim.{answers}
 use Rattle.stream.specs.Records.{cutAtRS, givenAll, verdictsOf, verdictsIn, StreamOf}
 use Rattle.stream.proofs.JudgeLaws.{judgeOf}
 use Rattle.demand.specs.Book.{Book}

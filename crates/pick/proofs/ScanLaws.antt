@@ -9,7 +9,7 @@ use lib.ListN.{length, getD, take, drop, length-take, length-drop, drop-of-lengt
 use lib.Seq.{drop-cons, take-suc, getD-drop}
 use borrow.Author.Tests.{ltb-true, ltb-false, eqb-true, eqb-false}
 use Rattle.laws.proofs.TestLaws.{true-neq-false}
-use Rattle.reader.specs.Paper.{nonempty}
+use Rattle.stream.specs.Paper.{nonempty}
 use Rattle.stream.specs.Records.{cutAtRS}
 use Rattle.stream.proofs.RecordLaws.{cutAtRS-of-RS, cutAtRS-of-byte}
 use Rattle.pick.specs.Pick.{nonempties, pickOf}

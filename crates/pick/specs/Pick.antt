@@ -9,7 +9,7 @@ use Rattle.book.specs.Entry.{Entry}
 use Rattle.verdict.specs.declared.Verdict.{Verdict}
 use Rattle.verdict.specs.declared.Verdict.the-variants as Is
 use Rattle.verdict.specs.Verdict.{Judged}
-use Rattle.reader.specs.Paper.{nonempty}
+use Rattle.stream.specs.Paper.{nonempty}
 use Rattle.stream.specs.Records.{cutAtRS}
 
 -- each nonempty part is a record; empty parts are none

@@ -18,8 +18,8 @@ use Rattle.progress.specs.Memory.{Mem}
 use Rattle.reader.specs.declared.Reader.{Reader}
 use Rattle.reader.specs.declared.Answer.the-variants as Says
 use Rattle.reader.specs.Machine.{startOf}
-use Rattle.reader.specs.Paper.{Call, feed, close, Judge, Judges, Paper, opening, nonempty, says}
-use Rattle.reader.specs.Claim.{run, answers, after, closes, Held, nothing, held, Fair}
+use Rattle.stream.specs.Paper.{Call, feed, close, Judge, Judges, Paper, opening, nonempty, says}
+use Rattle.stream.specs.Claim.{run, answers, after, closes, Held, nothing, held, Fair}
 use Rattle.stream.specs.Bytes.{Reading}
 use Rattle.stream.specs.Records.{noRS, verdictsOf, verdictsBehind, verdictsIn, Hands, closed, fed, refused, Fresh, StreamOf}
 use Rattle.stream.proofs.CallLaws.{Good, good-of-fresh, accepted-of-true, refused-of-false, good-of-call, good-of-calls, fresh-of-closes, begun-of-start}

@@ -4,7 +4,7 @@ use mathlib.Core.List.{List, [], _∷_}
 use mathlib.Core.Path.{_≡_, refl}
 use Prim.Native.Nat.{ℕ}
 use Rattle.reader.specs.declared.Answer.the-variants as Says
-use Rattle.reader.specs.Paper.{Judge, opening, goes, ends}
+use Rattle.stream.specs.Paper.{Judge, opening, goes, ends}
 use Rattle.stream.specs.Records.{cutAtRS, givenAll, verdictsOf}
 
 bytes : List ℕ

@@ -10,7 +10,7 @@ use Rattle.verdict.specs.Track.{track, trackStart, trackEnd}
 use Rattle.verdict.specs.declared.Verdict.the-variants as Is
 use Rattle.verdict.proofs.FoundLaws.{judged-of-track}
 use Rattle.verdict.proofs.JudgedLaws.{judged-unique}
-use Rattle.reader.specs.Paper.{Judge, Judges}
+use Rattle.stream.specs.Paper.{Judge, Judges}
 
 -- the judge that goes through a part byte by byte
 abbrev pub judgeOf : List Entry → ℕ → Judge

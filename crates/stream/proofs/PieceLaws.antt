@@ -19,7 +19,7 @@ use Rattle.progress.specs.Progress.{bump, afterHead, judged}
 use Rattle.progress.specs.Memory.{Mem, mem, stepMem, Ran, runMem}
 use Rattle.reader.specs.declared.Answer.{Answer}
 use Rattle.reader.specs.declared.Answer.the-variants as Says
-use Rattle.reader.specs.Paper.{Judge, Judges, Paper, nonempty, Said, goes}
+use Rattle.stream.specs.Paper.{Judge, Judges, Paper, nonempty, Said, goes}
 use Rattle.laws.proofs.TestLaws.{true-neq-false}
 use Rattle.progress.specs.Fresh.{freshMem}
 use Rattle.stream.specs.Bytes.{Reading}

@@ -9,7 +9,7 @@ use lib.Seq.{drop-drop}
 use Rattle.laws.specs.Lists.{all}
 use Rattle.verdict.specs.declared.Verdict.{Verdict}
 use Rattle.reader.specs.declared.Answer.the-variants as Says
-use Rattle.reader.specs.Paper.{Judge, Paper, nonempty, Said, goes, ends}
+use Rattle.stream.specs.Paper.{Judge, Paper, nonempty, Said, goes, ends}
 use Rattle.laws.proofs.TestLaws.{true-neq-false}
 use Rattle.stream.specs.Records.{Parts, withByte, cutAtRS, noRS, given, givenAll, verdictsOf, verdictsBehind, andThen}
 

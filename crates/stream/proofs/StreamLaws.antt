@@ -2,8 +2,8 @@
 use mathlib.Core.List.{List, [], _∷_, flatten}
 use mathlib.Core.Path.{_≡_, refl, ap, _∙_}
 use Prim.Native.Nat.{ℕ}
-use Rattle.reader.specs.Paper.{Call}
-use Rattle.reader.specs.Claim.{closes, before, streams}
+use Rattle.stream.specs.Paper.{Call}
+use Rattle.stream.specs.Claim.{closes, before, streams}
 use Rattle.laws.proofs.TestLaws.{cond-elim}
 
 flatten-before : (c : Call) (ss : List (List Call)) → flatten (before c ss) ≡ c ∷ flatten ss

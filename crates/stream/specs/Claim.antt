@@ -9,11 +9,11 @@ use lib.ListN.{length}
 use Rattle.table.specs.Table.{Table}
 use Rattle.book.specs.Entry.{Entry}
 use Rattle.frame.specs.Frame.{frameCount}
 use Rattle.reader.specs.declared.Reader.{Reader}
 use Rattle.reader.specs.declared.Answer.the-variants as Says
 use Rattle.reader.specs.Refusals.{callGate, isOpen}
 use Rattle.reader.specs.Machine.{Outcome, startOf, feedOf, closeOf}
-use Rattle.reader.specs.Paper.{Call, feed, close, Heard, Judge, Judges, opening, told}
+use Rattle.stream.specs.Paper.{Call, feed, close, Heard, Judge, Judges, opening, told}
 
 -- ---- the calls, one after the other
 

@@ -1,0 +1,11 @@
+pub mod ByteLaws
+pub mod PieceLaws
+pub mod FreshLaws
+pub mod CallLaws
+pub mod Demand
+pub mod StreamLaws
+pub mod JudgeLaws
+pub mod RecordLaws
+pub mod Corollaries
+pub mod TallyLaws
+pub mod Examples

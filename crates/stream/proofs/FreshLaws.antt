@@ -1,4 +1,4 @@
--- An RS sets the level to 0 and gives a fresh reader, whatever the reader was before: REQUIREMENT.md, sections 5 and 6. `feed-of-RS` says the whole
+-- An RS sets the level to 0 and gives a fresh reader, whatever the reader was before: REQUIREMENT.md, section 5. `feed-of-RS` says the whole
 -- outcome of a piece that is one RS, `fresh-after-RS` what reader any piece gives whose last byte read is an RS. Assumes nothing.
 use mathlib.Core.Bool.{Bool, true, false, cond}
 use mathlib.Core.List.{List, [], _∷_}

@@ -18,6 +18,7 @@ use Rattle.reader.specs.declared.Refusal.{Refusal}
 use Rattle.reader.specs.Refusals.{withinReader, callGate}
 use Rattle.reader.specs.Machine.{Outcome, refusing, memoryOf, ending, going, feeding, feedOf}
 use Rattle.reader.proofs.RefusalLaws.{through-elim}
+use Rattle.stream.proofs.FreshLaws.{le-count-of-run}
 
 -- ---- a feed by its three ways: it is refused, ends a record, or reads its piece
 
@@ -48,17 +49,11 @@ count-of-feed r t w s =
 
 -- ---- unless it is refused, a feed reads a byte of a piece that has one
 
-some-of-run : (t : Table) (n : ℕ) (m : Mem) (i : ℕ) (s : List ℕ) → i ≤ runMem t n m i s .count
-unfolding runMem
-some-of-run t n m i [] = omega arith
-some-of-run t n m i (b ∷ s) =
-    cond-elim (λ (e : Ran). i ≤ e .count) (endsRecord (m .progress) b) (λ _. omega arith) (λ _. omega (arith, some-of-run t n (stepMem t n m b) (i + 1) s))
-
 first-of-run : (t : Table) (n : ℕ) (m : Mem) (s : List ℕ) → 0 < length s → 0 < runMem t n m 0 s .count
 unfolding runMem
 first-of-run t n m [] h = omega (arith, h)
 first-of-run t n m (b ∷ s) h =
-    cond-elim (λ (e : Ran). 0 < e .count) (endsRecord (m .progress) b) (λ _. omega arith) (λ _. omega (arith, some-of-run t n (stepMem t n m b) (0 + 1) s))
+    cond-elim (λ (e : Ran). 0 < e .count) (endsRecord (m .progress) b) (λ _. omega arith) (λ _. omega (arith, le-count-of-run t n (stepMem t n m b) (0 + 1) s))
 
 -- an answer that is no refusal
 abbrev Served : Answer → Type 0

@@ -13,7 +13,7 @@ use Rattle.runs.specs.Examples.{bookB}
 use Rattle.meaning.specs.Shows.{Carries}
 use Rattle.verdict.specs.Track.{track, trackStart, trackEnd}
 use Rattle.progress.specs.Progress.{judged}
-use Rattle.progress.specs.Fresh.{freshMem}
+use Rattle.progress.specs.Memory.{freshMem}
 use Rattle.follows.specs.Follows.{PlainKeys, NoRS, readPart}
 use Rattle.follows.proofs.PartLaws.{judged-part}
 

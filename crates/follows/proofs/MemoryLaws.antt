@@ -36,6 +36,7 @@ use Rattle.progress.specs.declared.Advanced.{Advanced}
 use Rattle.progress.specs.Act.{firstFault}
 use Rattle.progress.specs.Progress.{bump, actedBy, sound, byFault, advanced}
 use Rattle.progress.specs.Memory.{Mem, valueAt, rulesAt, closeAt, perform, topAt, advancedAt, stepMem}
+use Rattle.progress.proofs.MemoryLaws.{progress-of-perform}
 
 -- ---- lengths
 
@@ -62,6 +63,7 @@ length-keyed-frame w l c = length-worked w l (keyed c) (λ f e. length-keyed f c
 pub length-perform : (x : Task) (t : Table) (m : Mem) (y : Progress) → length (perform x t m y .work) ≡ length (m .work)
 unfolding closeAt
 length-perform To.Idle t m y = refl
+length-perform To.Begin t m y = refl
 length-perform (To.Put c) t m y = refl
 length-perform To.Named t m y = length-keyed-frame (m .work) (m .progress .level) (keyFound t (m .key) (m .progress .len))
 length-perform (To.Open o) t m y = length-opened-frame t (m .work) (y .level) o
@@ -114,19 +116,9 @@ module _ (x : Progress) (n b : ℕ) where
   counts-advanced st e =
       rw e (cond-elim (λ (a : Advanced). Counts x (a .progress)) (x .head) (λ _. record { pos = refl; head = refl }) (λ _. counts-byFault (x .fault) st))
 
-progress-perform : (x : Task) (t : Table) (m : Mem) (y : Progress) → perform x t m y .progress ≡ y
-unfolding closeAt
-progress-perform To.Idle t m y = refl
-progress-perform (To.Put c) t m y = refl
-progress-perform To.Named t m y = refl
-progress-perform (To.Open o) t m y = refl
-progress-perform (To.Finish s) t m y = refl
-progress-perform To.Close t m y = refl
-progress-perform (To.FinishClose s) t m y = refl
-
 -- each byte but RS is counted, with or without a fault and in the head too
 pub counts-stepMem : (t : Table) (n : ℕ) (m : Mem) (b : ℕ) → eqb b 0x1E ≡ false → Counts (m .progress) (stepMem t n m b .progress)
 unfolding stepMem
 counts-stepMem t n m b e =
-    rw (progress-perform (advancedAt n m b .task) t m (advancedAt n m b .progress))
+    rw (progress-of-perform (advancedAt n m b .task) t m (advancedAt n m b .progress))
     (counts-advanced (m .progress) n b (stepOf (m .progress .mode) (topAt (m .work) (m .progress .level)) b) e)

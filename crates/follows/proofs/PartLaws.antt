@@ -13,9 +13,8 @@ use Rattle.book.specs.Entry.{Entry}
 use Rattle.meaning.specs.Shows.{Carries}
 use Rattle.verdict.specs.declared.Verdict.the-variants as Is
 use Rattle.verdict.specs.Track.{Track, track, trackByte, trackStart, trackEnd}
-use Rattle.progress.specs.Progress.{advanced, judged}
-use Rattle.progress.specs.Memory.{Mem, stepMem, endsRecord, runMem}
-use Rattle.progress.specs.Fresh.{freshMem}
+use Rattle.progress.specs.Progress.{judged}
+use Rattle.progress.specs.Memory.{Mem, freshMem, stepMem, endsRecord, runMem}
 use Rattle.follows.specs.Follows.{PlainKeys, Tracks, NoRS, nonempty, readPart}
 use Rattle.follows.proofs.MemoryLaws.{length-stepMem, one-le-bump, bump-below, counts-stepMem}
 use Rattle.follows.proofs.TrackLaws.{tracks-step, tracks-start, tracks-judged}
@@ -96,8 +95,3 @@ module _ (t : Table) (n : ℕ) where
   runMem-part m i (b ∷ p) s h =
       let e : i + 1 + length p ≡ i + length (b ∷ p) = omega arith in
       rw (h .0) (runMem-part (stepMem t n m b) (i + 1) p s (h .1) ∙ rw e)
-
-  -- an RS where nothing is read of a record ends the head
-  pub stepMem-RS : (head : Bool) (w : List ℕ) → stepMem t n (freshMem head w) 0x1E ≡ freshMem false w
-  unfolding stepMem advanced
-  stepMem-RS head w = refl

@@ -25,8 +25,7 @@ use Rattle.verdict.specs.declared.Verdict.{Verdict}
 use Rattle.verdict.specs.declared.Verdict.the-variants as Is
 use Rattle.verdict.specs.Track.{Track, sound, stopped, trackByte, trackStart, verdictOf, trackEnd}
 use Rattle.progress.specs.Progress.{advanced, wholeNumber, wholeIn, whole as wholeBy, judged}
-use Rattle.progress.specs.Memory.{Mem, mem, topAt, stepMem}
-use Rattle.progress.specs.Fresh.{freshMem}
+use Rattle.progress.specs.Memory.{Mem, mem, freshMem, topAt, stepMem}
 use Rattle.follows.specs.Follows.{PlainKeys, NoRoot, AnyRoot, ShowsRoot, Shown, Follows, follows, Tracks, on-track, off-track}
 use Rattle.follows.proofs.StackLaws.{topAt-shows}
 use Rattle.follows.proofs.MemoryLaws.{one-le-bump}

@@ -1,16 +1,12 @@
 -- Laws of lists that the loops over a frame's bytes ask for. Assumes nothing.
-use mathlib.Core.List.{List, _++_, append-nil}
+use mathlib.Core.List.{List, append-nil}
 use mathlib.Core.Path.{_≡_, sym, ap, _∙_}
 use Prim.Native.Nat.{ℕ, _+_, _<_, _≤_}
-use native.Mathlib.Nat.{le-of-eq, zero-add}
+use native.Mathlib.Nat.{zero-add}
 use native.Mathlib.Numerals.{add-one}
 use native.Mathlib.Omega.{arith}
-use lib.ListN.{length, getD, set, take, drop, drop-of-length-le, replicate}
+use lib.ListN.{length, getD, set, take, drop, drop-of-length-le}
 use lib.Seq.{paste, paste-suc, take-all}
-
--- a list that is filled to its end
-pub fill-all : (v : ℕ) (d : List ℕ) (i : ℕ) → i ≡ length d → replicate i v ++ drop i d ≡ replicate (length d) v
-fill-all v d i e = rw (drop-of-length-le d (le-of-eq (sym e)), append-nil) (ap (λ (n : ℕ). replicate n v) e)
 
 -- a list copied over another, one more of its bytes
 pub copy-more : (d s : List ℕ) (j : ℕ) → j < length d → j < length s → set (paste d 0 s j) j (getD s j 0) ≡ paste d 0 s (j + 1)

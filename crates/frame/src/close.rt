@@ -1,4 +1,5 @@
 // Closing: 01, "Frames".
+use crate::FRAME;
 use crate::edge;
 use crate::open;
 use table::bits;
@@ -139,5 +140,5 @@ pub fn close_frame<'a>(frame: &'a [u8], table: &'a [u8; 7920]) -> u32
         let reached = walk(frame, table);
         return rule_set(&reached, table, 1);
     }
-    rule_set(&frame[32..96], table, 2)
+    rule_set(&frame[32..FRAME], table, 2)
 }

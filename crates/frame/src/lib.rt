@@ -15,13 +15,19 @@ ghost use Rattle.frame.specs.Frame.{frameCount, frameAt, putFrame, kindN
 ghost use Rattle.frame.specs.Place.{framePlace};
 ghost use Rattle.frame.specs.Ops.{opened, keyed, valued, closed};
 
+// The bytes of a frame.
+pub const FRAME: usize = 96;
+
+// The most levels.
+pub const LEVELS: usize = 64;
+
 // The number of frames of a buffer of n bytes: one for each 96, at most 64.
 // Ruled out: a program that counts a frame of fewer than 96 bytes at the end; one that counts a 65th.
 pub fn frames(n: usize) -> usize
     ensures { λ r. ⌜ r ≡ frameCount n ⌝ }
 {
-    let k = n / 96;
-    if k < 64 { k } else { 64 }
+    let k = n / FRAME;
+    if k < LEVELS { k } else { LEVELS }
 }
 
 // The place of a level's first byte in a buffer of n bytes, or n where there is no frame of the level.
@@ -30,7 +36,7 @@ fn place(n: usize, level: usize) -> usize
 {
     if 0 < level {
         if level <= frames(n) {
-            return 96 * (level - 1);
+            return FRAME * (level - 1);
         }
         return n;
     }
@@ -58,7 +64,7 @@ pub fn open_level(work: &mut [u8], level: usize, object: bool, table: &[u8; 7920
 {
     let a = place(work.len(), level);
     if a < work.len() {
-        let b = a + 96;
+        let b = a + FRAME;
         open::open_frame(&mut work[a..b], object, table);
     }
 }
@@ -70,7 +76,7 @@ pub fn key_level(work: &mut [u8], level: usize, key: u8)
 {
     let a = place(work.len(), level);
     if a < work.len() {
-        let b = a + 96;
+        let b = a + FRAME;
         key::key_frame(&mut work[a..b], key);
     }
 }
@@ -82,7 +88,7 @@ pub fn value_level(work: &mut [u8], level: usize, table: &[u8; 7920], v: Finishe
 {
     let a = place(work.len(), level);
     if a < work.len() {
-        let b = a + 96;
+        let b = a + FRAME;
         value::value_frame(&mut work[a..b], table, v);
     }
 }
@@ -94,7 +100,7 @@ pub fn close_level<'a>(work: &'a [u8], level: usize, table: &'a [u8; 7920]) -> u
 {
     let a = place(work.len(), level);
     if a < work.len() {
-        let b = a + 96;
+        let b = a + FRAME;
         return close::close_frame(&work[a..b], table);
     }
     0

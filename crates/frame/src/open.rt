@@ -1,24 +1,17 @@
 // Opening: 01, "Frames".
+use crate::FRAME;
 use table::bits;
+use table::bytes;
 use table::flat;
 ghost use mathlib.Core.Bool.{true, cond};
 ghost use mathlib.Core.List.{List};
 ghost use mathlib.Core.Path.{_≡_};
 ghost use Prim.Native.Nat.{ℕ, _+_, _*_, _<_, _≤_};
-ghost use lib.ListN.{length, getD, replicate};
+ghost use lib.ListN.{length, getD};
 ghost use Rattle.table.specs.Flat.{tableIn};
 ghost use Rattle.laws.specs.Bits.{setAll};
 ghost use Rattle.frame.specs.Edges.{hasForm};
 ghost use Rattle.frame.specs.Ops.{opened};
-
-// Sets every byte to 0.
-pub fn clear(s: &mut [u8])
-    ensures { λ _. ⌜ now (s .exit) ≡ replicate (length (now (s .entry))) 0 ⌝ }
-{
-    for i in 0..s.len() {
-        s[i] = 0;
-    }
-}
 
 // 1 where a rule is of the form.
 fn one_if(on: bool) -> u8
@@ -65,12 +58,12 @@ pub fn open_frame(frame: &mut [u8], object: bool, table: &[u8; 7920])
     requires { ⌜ length (now frame) ≡ 96 ⌝ }
     ensures { λ _. ⌜ now (frame .exit) ≡ opened (tableIn (now (table .entry)) .forms) object ⌝ }
 {
-    clear(frame);
+    bytes::clear(frame);
     if object {
         frame[0] = 1;
         frame[1] = 255;
         return;
     }
     frame[0] = 2;
-    add_starts(&mut frame[32..96], table, 2);
+    add_starts(&mut frame[32..FRAME], table, 2);
 }

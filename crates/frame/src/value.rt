@@ -1,8 +1,9 @@
 // A finished value: 01, "Frames".
+use crate::FRAME;
 use crate::edge;
 use crate::mask;
-use crate::open;
 use table::bits;
+use table::bytes;
 use table::kind::Finished;
 ghost use mathlib.Core.Path.{_≡_};
 ghost use Prim.Native.Nat.{_+_};
@@ -41,12 +42,12 @@ fn add_states<'a>(next: &mut [u8], table: &'a [u8; 7920], frame: &'a [u8], m: u6
 }
 
 // A copy of a frame: an array's new states are written where the old ones stood.
-fn copied(frame: &[u8]) -> [u8; 96]
+fn copied(frame: &[u8]) -> [u8; FRAME]
     requires { ⌜ length (now frame) ≡ 96 ⌝ }
     ensures { λ r. ⌜ r ≡ now (frame .entry) ⌝ }
 {
-    let mut copy = [0u8; 96];
-    for i in 0..96 {
+    let mut copy = [0u8; FRAME];
+    for i in 0..FRAME {
         copy[i] = frame[i];
     }
     copy
@@ -66,6 +67,6 @@ pub fn value_frame(frame: &mut [u8], table: &[u8; 7920], v: Finished)
         return;
     }
     let old = copied(frame);
-    open::clear(&mut frame[32..96]);
-    add_states(&mut frame[32..96], table, &old, m);
+    bytes::clear(&mut frame[32..FRAME]);
+    add_states(&mut frame[32..FRAME], table, &old, m);
 }

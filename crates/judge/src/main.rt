@@ -21,11 +21,13 @@ fn book_space() -> [u8; 65537]
     [0; 65537]
 }
 
-// 6,144 bytes: 64 frames.
-fn work_space() -> [u8; 6144]
+// The work bytes: as many frames as there can be levels, 6,144 bytes.
+const WORK: usize = Reader::FRAME * Reader::LEVELS;
+
+fn work_space() -> [u8; WORK]
     ensures { λ r. ⌜ 6144 ≡ length r ⌝ }
 {
-    [0; 6144]
+    [0; WORK]
 }
 
 // The bytes of book.txt; none where it cannot be read.

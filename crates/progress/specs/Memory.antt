@@ -20,6 +20,7 @@ use Rattle.progress.specs.declared.Task.{Task}
 use Rattle.progress.specs.declared.Task.the-variants as To
 use Rattle.progress.specs.declared.Advanced.{Advanced}
 use Rattle.progress.specs.Act.{keptIn}
+use Rattle.progress.specs.Fresh.{freshProgress, freshKey}
 use Rattle.progress.specs.Progress.{advanced}
 
 -- what a byte can change
@@ -31,6 +32,10 @@ pub record Mem : Type 0 where
 
 abbrev pub mem : Progress → Bool → List ℕ → List ℕ → Mem
 mem x root key work = record { progress = x; root = root; key = key; work = work }
+
+-- nothing is read of a record, in the head or not; the buffer is w
+abbrev pub freshMem : Bool → List ℕ → Mem
+freshMem head w = mem (freshProgress head) false freshKey w
 
 -- the kind of the innermost open value, by its frame
 unfoldable pub topAt : List ℕ → ℕ → Top
@@ -52,6 +57,7 @@ closeAt t x root key w l = mem x (cond (eqb l 1) (ruleFits (rulesAt t w l) 0) ro
 -- what is to be done at a byte, from the memory m; x is what is known after it
 abbrev pub perform : Task → Table → Mem → Progress → Mem
 perform To.Idle t m x = mem x (m .root) (m .key) (m .work)
+perform To.Begin t m x = mem x false freshKey (m .work)
 perform (To.Put c) t m x = mem x (m .root) (keptIn (m .key) (m .progress .len) c) (m .work)
 perform To.Named t m x =
     mem x (m .root) (m .key) (putFrame (m .work) (m .progress .level) (keyed (keyFound t (m .key) (m .progress .len)) (frameAt (m .work) (m .progress .level))))

@@ -21,6 +21,7 @@ use Rattle.progress.specs.declared.Task.{Task}
 use Rattle.progress.specs.declared.Task.the-variants as To
 use Rattle.progress.specs.declared.Advanced.{Advanced}
 use Rattle.progress.specs.Act.{firstFault, levelAfter, lenAfter, taskOf}
+use Rattle.progress.specs.Fresh.{freshProgress}
 
 -- a count of bytes after one more; it stops at the largest number
 unfoldable pub bump : ℕ → ℕ
@@ -83,19 +84,15 @@ acted a e x n b m = actedBy (firstFault a (x .level) n) a e x n b m
 unfoldable pub sound : Progress → ℕ → ℕ → Step → Advanced
 sound x n b st = cond (ltb (x .pos) longest) (acted (st .act) (st .ends) x n b (st .mode)) (faulted x F.TooLong)
 
--- an RS where no record is open ends the head
-abbrev pub afterHead : Progress → Progress
-afterHead x = record { mode = x .mode; fault = x .fault; head = false; level = x .level; pos = x .pos; place = x .place; bits = x .bits; high = x .high; len = x .len }
-
 abbrev pub byFault : Fault → Progress → ℕ → ℕ → Step → Advanced
 byFault F.Sound x n b st = sound x n b st
 byFault F.Malformed x n b st = counted x
 byFault F.TooDeep x n b st = counted x
 byFault F.TooLong x n b st = counted x
 
--- byte b with n frames, of which the lexer makes the step st; an RS (0x1E) here ends no record
+-- byte b with n frames, of which the lexer makes the step st. An RS (0x1E) here ends no record: a fresh one begins, whatever was known of the old one
 unfoldable pub advanced : Progress → ℕ → ℕ → Step → Advanced
-advanced x n b st = cond (eqb b 0x1E) (advance (afterHead x) To.Idle) (cond (x .head) (counted x) (byFault (x .fault) x n b st))
+advanced x n b st = cond (eqb b 0x1E) (advance (freshProgress false) To.Begin) (cond (x .head) (counted x) (byFault (x .fault) x n b st))
 
 -- ---- the verdict of a record that ends here
 

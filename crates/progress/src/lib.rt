@@ -1,6 +1,8 @@
 // The open record, byte by byte: what the reader knows of it, its frames and the bytes of its key aside.
 ghost use mathlib.Core.Path.{_≡_};
-ghost use Rattle.progress.specs.Progress.{bump, counted, faulted, moved, acted, sound, afterHead, advanced, judged};
+ghost use Rattle.progress.specs.Fresh.{freshProgress};
+ghost use Rattle.progress.specs.Progress.{bump, counted, faulted, moved, acted, sound, advanced, judged};
+use json::lexer::Awaited;
 use json::lexer::Mode;
 use json::lexer::Step;
 use table::kind::Scalar;
@@ -41,6 +43,8 @@ pub struct Progress {
 // What is to be done to the key and the frames at a byte.
 pub enum Task {
     Idle,
+    // a record begins: its root and its key are fresh
+    Begin,
     // a character of the key
     Put(u8),
     // the key is finished
@@ -57,6 +61,23 @@ pub enum Task {
 pub struct Advanced {
     pub progress: Progress,
     pub task: Task,
+}
+
+// Nothing is read of a record.
+pub fn fresh(head: bool) -> Progress
+    ensures { λ r. ⌜ r ≡ freshProgress head ⌝ }
+{
+    Progress {
+        mode: Mode::At(Awaited::Value),
+        fault: Fault::Sound,
+        head: head,
+        level: 0,
+        pos: 0,
+        place: 0,
+        bits: 0,
+        high: 0,
+        len: 0,
+    }
 }
 
 // One byte more; at the largest number it stays.
@@ -166,33 +187,15 @@ fn sound(x: Progress, frames: usize, b: u8, st: Step) -> Advanced
     faulted(x, Fault::TooLong)
 }
 
-// An RS where no record is open.
-fn after_head(x: Progress) -> Progress
-    ensures { λ r. ⌜ r ≡ afterHead x ⌝ }
-{
-    let m = x.mode;
-    let f = x.fault;
-    Progress {
-        mode: m,
-        fault: f,
-        head: false,
-        level: x.level,
-        pos: x.pos,
-        place: x.place,
-        bits: x.bits,
-        high: x.high,
-        len: x.len,
-    }
-}
-
-// A byte that ends no record, of which the lexer makes a step: the record after it, and what is to be done to its key and frames.
+// A byte that ends no record, of which the lexer makes a step: the record after it, and what is to be done to its key and frames. Ruled out: an RS
+// that keeps levels of the record before it, and one that keeps a fault.
 pub fn advance(x: Progress, frames: usize, b: u8, st: Step) -> Advanced
     ensures { λ r. ⌜ r ≡ advanced x frames b st ⌝ }
 {
     if b == 0x1E {
         return Advanced {
-            progress: after_head(x),
-            task: Task::Idle,
+            progress: fresh(false),
+            task: Task::Begin,
         };
     }
     if x.head {

@@ -4,13 +4,13 @@ use mathlib.Core.Bool.{Bool, true, false, cond}
 use mathlib.Core.List.{List}
 use Prim.Native.Nat.{ℕ}
 use lib.Dec.{ltb}
-use lib.ListN.{length, replicate}
+use lib.ListN.{length}
 use Rattle.table.specs.Table.{Table}
 use Rattle.frame.specs.Frame.{frameCount}
 use Rattle.verdict.specs.declared.Verdict.{Verdict}
 use Rattle.verdict.specs.declared.Verdict.the-variants as Is
 use Rattle.progress.specs.Progress.{bump, judged}
-use Rattle.progress.specs.Fresh.{freshProgress}
+use Rattle.progress.specs.Fresh.{freshProgress, freshKey}
 use Rattle.progress.specs.Memory.{Mem, mem, Ran, runMem}
 use Rattle.reader.specs.declared.Tally.{Tally}
 use Rattle.reader.specs.declared.Reader.{Reader}
@@ -23,7 +23,7 @@ use Rattle.reader.specs.Refusals.{withinReader, startGate, callGate, thr
 
 -- nothing is read of a record
 abbrev pub freshReader : ℕ → Bool → Tally → Reader
-freshReader frames head tally = record { frames = frames; progress = freshProgress head; root = false; key = replicate 32 0; tally = tally }
+freshReader frames head tally = record { frames = frames; progress = freshProgress head; root = false; key = freshKey; tally = tally }
 
 abbrev pub zeroTally : Tally
 zeroTally = record { valid = 0; invalid = 0; refused = 0 }

@@ -6,12 +6,10 @@ ghost use mathlib.Core.List.{[], _∷_};
 ghost use Rattle.table.specs.Flat.{tableIn};
 ghost use Rattle.table.specs.Limits.{withinLimits};
 ghost use Rattle.progress.specs.Progress.{judged};
-ghost use Rattle.progress.specs.Fresh.{freshProgress};
 ghost use Rattle.reader.specs.Refusals.{refusalNumber, fitReader, tableRung, firstRefusal, startGate, callGate};
 ghost use Rattle.reader.specs.Machine.{freshReader, countValid, countInvalid, countRefused, tallied, startOf, feeding, feedOf, closeOf};
-use json::lexer::Awaited;
-use json::lexer::Mode;
-use progress::Fault;
+
+
 use progress::Progress;
 use table::limits;
 use verdict::Verdict;
@@ -143,27 +141,10 @@ fn admit(table: &[u8; 7920], frames: usize, level: usize, len: u8, n: usize) -> 
     Gate::Shut(Refusal::AboveLimit)
 }
 
-// Nothing is read of a record.
-fn fresh_lex(head: bool) -> Progress
-    ensures { λ r. ⌜ r ≡ freshProgress head ⌝ }
-{
-    Progress {
-        mode: Mode::At(Awaited::Value),
-        fault: Fault::Sound,
-        head: head,
-        level: 0,
-        pos: 0,
-        place: 0,
-        bits: 0,
-        high: 0,
-        len: 0,
-    }
-}
-
 fn fresh_reader(frames: usize, head: bool, tally: Tally) -> Reader
     ensures { λ r. ⌜ r ≡ freshReader frames head tally ⌝ }
 {
-    let l = fresh_lex(head);
+    let l = progress::fresh(head);
     let key = [0u8; 32];
     Reader {
         frames: frames,
@@ -267,9 +248,9 @@ fn whole_key(key: [u8; 32]) -> [u8; 32]
 
 impl Reader {
     // the bytes of a frame, and the most levels
-    pub const FRAME: usize = 96;
+    pub const FRAME: usize = frame::FRAME;
 
-    pub const LEVELS: usize = 64;
+    pub const LEVELS: usize = frame::LEVELS;
 
     // A fresh reader for a table and a buffer, which it leaves. Ruled out: a start that counts the frames of a longer buffer past 64, and
     // one that hands out frames with a refusal.

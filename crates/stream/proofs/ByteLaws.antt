@@ -16,13 +16,12 @@ use Rattle.verdict.specs.Verdict.{longest}
 use Rattle.progress.specs.declared.Fault.{Fault}
 use Rattle.progress.specs.declared.Fault.the-variants as F
 use Rattle.progress.specs.declared.Progress.{Progress}
-use Rattle.progress.specs.declared.Task.{Task}
-use Rattle.progress.specs.declared.Task.the-variants as To
 use Rattle.progress.specs.declared.Advanced.{Advanced}
 use Rattle.progress.specs.Act.{firstFault}
 use Rattle.progress.proofs.ActLaws.{levelAfter-le, lenAfter-le}
-use Rattle.progress.specs.Progress.{bump, counted, faulted, actedBy, sound, afterHead, byFault, advanced}
-use Rattle.progress.specs.Memory.{Mem, mem, topAt, closeAt, perform, advancedAt, stepMem, endsRecord, Ran, runMem}
+use Rattle.progress.specs.Progress.{bump, counted, faulted, actedBy, sound, byFault, advanced}
+use Rattle.progress.specs.Memory.{Mem, topAt, advancedAt, stepMem, endsRecord, Ran, runMem}
+use Rattle.progress.proofs.MemoryLaws.{progress-of-perform, fresh-of-RS}
 use Rattle.laws.proofs.TestLaws.{cond-elim}
 
 -- no more open levels than n, and at most 33 characters of a key
@@ -83,17 +82,6 @@ module _ (n : ℕ) (x : Progress) where
 
 -- ---- the memory
 
--- what is to be done does not change what is known of the record
-progress-of-perform : (k : Task) (t : Table) (m : Mem) (x : Progress) → perform k t m x .progress ≡ x
-unfolding closeAt
-progress-of-perform To.Idle t m x = refl
-progress-of-perform (To.Put c) t m x = refl
-progress-of-perform To.Named t m x = refl
-progress-of-perform (To.Open o) t m x = refl
-progress-of-perform (To.Finish s) t m x = refl
-progress-of-perform To.Close t m x = refl
-progress-of-perform (To.FinishClose s) t m x = refl
-
 module _ (t : Table) (n : ℕ) (m : Mem) where
   -- a byte other than RS
   pub moves-of-byte : (b : ℕ) → eqb b 0x1E ≡ false → Moves n (m .progress) (stepMem t n m b .progress)
@@ -102,23 +90,12 @@ module _ (t : Table) (n : ℕ) (m : Mem) where
       rw (progress-of-perform (advancedAt n m b .task) t m (advancedAt n m b .progress))
       (moves-advanced n (m .progress) b (stepOf (m .progress .mode) (topAt (m .work) (m .progress .level)) b) e)
 
-  -- in the head it is counted, and no more
-  pub stepMem-in-head : (b : ℕ) → eqb b 0x1E ≡ false → m .progress .head ≡ true
-      → stepMem t n m b ≡ mem (counted (m .progress) .progress) (m .root) (m .key) (m .work)
-  unfolding stepMem advanced
-  stepMem-in-head b e h = rw (e, h)
-
-  -- an RS that ends no record ends the head, and no more
-  pub stepMem-of-RS : (b : ℕ) → eqb b 0x1E ≡ true → stepMem t n m b ≡ mem (afterHead (m .progress)) (m .root) (m .key) (m .work)
-  unfolding stepMem advanced
-  stepMem-of-RS b e = rw e
-
   -- a byte keeps the bounds
   pub within-of-byte : (b : ℕ) → Within n (m .progress) → Within n (stepMem t n m b .progress)
   within-of-byte b i = go (eqb b 0x1E) refl
     where
       go : (x : Bool) → eqb b 0x1E ≡ x → Within n (stepMem t n m b .progress)
-      go true e = rw (stepMem-of-RS b e) (record { level = i .level; len = i .len })
+      go true e = rw (fresh-of-RS t n m b e) (record { level = omega arith; len = omega arith })
       go false e = moves-of-byte b e .within i
 
 -- a count of bytes after one more is not 0

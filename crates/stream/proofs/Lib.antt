@@ -1,5 +1,6 @@
 pub mod ByteLaws
 pub mod PieceLaws
+pub mod FreshLaws
 pub mod CallLaws
 pub mod Demand
 pub mod StreamLaws

@@ -3,39 +3,26 @@ use mathlib.Core.Bool.{Bool, true, false, cond}
 use mathlib.Core.List.{List, [], _∷_, _++_}
 use mathlib.Core.Path.{_≡_, refl, sym, ap, _∙_}
 use Prim.Native.Nat.{ℕ, _+_, _*_, _≤_}
-use native.Mathlib.Omega.{arith}
 use lib.Dec.{eqb, ltb}
-use lib.ListN.{length, replicate}
-use borrow.Author.Tests.{ltb-false}
-use Rattle.json.specs.declared.lexer.Awaited.the-variants as P
-use Rattle.json.specs.declared.lexer.Mode.the-variants as M
+use lib.ListN.{length}
 use Rattle.table.specs.Table.{Table}
 use Rattle.book.specs.Entry.{Entry}
 use Rattle.verdict.specs.Track.{Track, trackStart, trackByte, track}
 use Rattle.verdict.proofs.JudgedLaws.{judged-iff-track}
-use Rattle.progress.specs.declared.Progress.{Progress}
-use Rattle.progress.specs.declared.Fault.the-variants as F
-use Rattle.progress.specs.Progress.{bump, afterHead, judged}
-use Rattle.progress.specs.Memory.{Mem, mem, stepMem, Ran, runMem}
+use Rattle.progress.specs.Progress.{judged}
+use Rattle.progress.specs.Memory.{Mem, freshMem, stepMem, Ran, runMem}
 use Rattle.reader.specs.declared.Answer.{Answer}
 use Rattle.reader.specs.declared.Answer.the-variants as Says
 use Rattle.stream.specs.Paper.{Judge, Judges, Paper, nonempty, Said, goes}
-use Rattle.laws.proofs.TestLaws.{true-neq-false}
-use Rattle.progress.specs.Fresh.{freshMem}
+use Rattle.progress.proofs.MemoryLaws.{fresh-of-RS}
 use Rattle.stream.specs.Bytes.{Reading}
-use Rattle.stream.proofs.ByteLaws.{moves-of-byte, stepMem-in-head, stepMem-of-RS, bump-pos, endsRecord-of-RS, endsRecord-of-byte}
+use Rattle.stream.proofs.ByteLaws.{moves-of-byte, bump-pos, endsRecord-of-RS, endsRecord-of-byte}
 
 -- ---- the relation
 
--- what is known of a record in the head, behind so many bytes
-abbrev headProgress : ℕ → Progress
-headProgress pos = record { mode = M.At P.Value; fault = F.Sound; head = true; level = 0; pos = pos; place = 0; bits = 0; high = 0; len = 0 }
-
--- in the head bytes are counted, and no more
+-- in the head bytes are counted, and no more: an RS gives the fresh record, whatever else is known
 pub record InHead (m : Mem) : Type 0 where
-  pub progress : m .progress ≡ headProgress (m .progress .pos)
-  pub root : m .root ≡ false
-  pub key : m .key ≡ replicate 32 0
+  pub head : m .progress .head ≡ true
 
 -- behind an RS they move the track
 pub record InRecord (es : List Entry) (Along : Mem → Track es → Type 0) (n : ℕ) (m : Mem) (part : List ℕ) : Type 0 where
@@ -79,12 +66,6 @@ nonempty-of-byte : (p : List ℕ) (b : ℕ) → nonempty (p ++ (b ∷ [])) ≡ t
 nonempty-of-byte [] b = refl
 nonempty-of-byte (c ∷ p) b = refl
 
--- out of the head, an RS that ends no record changes nothing
-afterHead-of-false : (x : Progress) → x .head ≡ false → afterHead x ≡ x
-afterHead-of-false x e =
-    ap (λ (h : Bool). record { mode = x .mode; fault = x .fault; head = h; level = x .level; pos = x .pos; place = x .place; bits = x .bits; high = x .high; len = x .len })
-    (sym e)
-
 module _ {Book : Table → List Entry → Type 0} {Tracks : (es : List Entry) → ℕ → Mem → Track es → Type 0} (facts : Reading Book Tracks)
     {t : Table} {es : List Entry} (book : Book t es) (n : ℕ) (least : 1 ≤ n) (most : n ≤ 64) (J : Judge) (judge : Judges es n J) where
   abbrev Follow : Mem → Paper → Type 0
@@ -92,13 +73,13 @@ module _ {Book : Table → List Entry → Type 0} {Tracks : (es : List Entry) �
 
   -- a record that begins, whatever the buffer holds
   pub follows-of-fresh : (head : Bool) (w : List ℕ) → 96 * n ≤ length w → Follow (freshMem head w) (record { head = head; part = [] })
-  follows-of-fresh true w h = record { some = refl; long = h; reads = record { progress = refl; root = refl; key = refl } }
+  follows-of-fresh true w h = record { some = refl; long = h; reads = record { head = refl } }
   follows-of-fresh false w h = record { some = refl; long = h; reads = record { head = refl; tracks = facts .start book n least most w h } }
 
   -- the verdict of the part is the memory's
   pub judged-of-follows : (m : Mem) (head : Bool) (part : List ℕ) → Follow m (record { head = head; part = part }) → judged (m .progress) (m .root) ≡ J head part
   unfolding judged
-  judged-of-follows m true part f = rw (f .reads .progress) (sym (judge .head part))
+  judged-of-follows m true part f = rw (f .reads .head) (sym (judge .head part))
   judged-of-follows m false part f =
       facts .verdict book (f .reads .tracks) ∙ sym (judged-iff-track (facts .sound book) n part (J false part) .0 (judge .part part))
 
@@ -112,27 +93,16 @@ module _ {Book : Table → List Entry → Type 0} {Tracks : (es : List Entry) �
         reads = reads-of head (f .reads);
       }
     where
-      in-head : InHead m → stepMem t n m b ≡ mem (headProgress (bump (m .progress .pos))) false (replicate 32 0) (m .work)
-      in-head i = stepMem-in-head t n m b e (ap (λ (x : Progress). x .head) (i .progress)) ∙ rw (i .progress, i .root, i .key)
-
       tracked : InRecord es (Tracks es n) n m part → Tracks es n (stepMem t n m b) (track es n (trackStart es) (part ++ (b ∷ [])))
       tracked i = rw (track-of-byte es n (trackStart es) part b) (facts .byte book least most (i .tracks) b e)
 
       reads-of : (h : Bool) → Reads es (Tracks es n) n h m part → Reads es (Tracks es n) n h (stepMem t n m b) (part ++ (b ∷ []))
-      reads-of true i = rw (in-head i) (record { progress = refl; root = refl; key = refl })
+      reads-of true i = record { head = moves-of-byte t n m b e .head ∙ i .head }
       reads-of false i = record { head = moves-of-byte t n m b e .head ∙ i .head; tracks = tracked i }
 
   -- an RS before any byte of a record ends the head
-  follows-of-RS : (m : Mem) (head : Bool) (part : List ℕ) (b : ℕ) → eqb b 0x1E ≡ true → nonempty part ≡ false → Follow m (record { head = head; part = part })
-      → Follow (stepMem t n m b) (record { head = false; part = [] })
-  follows-of-RS m true part b e u f =
-      let i : InHead m = f .reads in
-      let z : m .progress .pos ≡ 0 = omega (arith, ltb-false 0 (m .progress .pos) (f .some ∙ u)) in
-      rw (stepMem-of-RS t n m b e, i .progress, i .root, i .key, z) (follows-of-fresh false (m .work) (f .long))
-  follows-of-RS m false [] b e u f =
-      let q : mem (afterHead (m .progress)) (m .root) (m .key) (m .work) ≡ m = rw (afterHead-of-false (m .progress) (f .reads .head)) in
-      rw (stepMem-of-RS t n m b e ∙ q) f
-  follows-of-RS m false (c ∷ part) b e u f = true-neq-false u
+  follows-of-RS : (m : Mem) (p : Paper) (b : ℕ) → eqb b 0x1E ≡ true → Follow m p → Follow (stepMem t n m b) (record { head = false; part = [] })
+  follows-of-RS m p b e f = rw (fresh-of-RS t n m b e) (follows-of-fresh false (m .work) (f .long))
 
   module _ (b : ℕ) (s : List ℕ) (m : Mem) (p : Paper) (i : ℕ) (f : Follow m p)
       (rest : (m : Mem) (p : Paper) (i : ℕ) → Follow m p → Agrees es (Tracks es n) n (runMem t n m i s) (goes J p i s)) where
@@ -148,7 +118,7 @@ module _ {Book : Table → List Entry → Type 0} {Tracks : (es : List Entry) �
         })
     agrees-of-byte true e false u =
         rw (endsRecord-of-RS (m .progress) b e ∙ f .some ∙ u, e, u)
-        (rest (stepMem t n m b) (record { head = false; part = [] }) (i + 1) (follows-of-RS m (p .head) (p .part) b e u f))
+        (rest (stepMem t n m b) (record { head = false; part = [] }) (i + 1) (follows-of-RS m p b e f))
     agrees-of-byte false e y u =
         rw (endsRecord-of-byte (m .progress) b e, e)
         (rest (stepMem t n m b) (record { head = p .head; part = p .part ++ (b ∷ []) }) (i + 1) (follows-of-byte m (p .head) (p .part) b e f))

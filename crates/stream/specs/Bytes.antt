@@ -11,8 +11,7 @@ use Rattle.book.specs.Entry.{Entry}
 use Rattle.runs.specs.Sound.{Sound}
 use Rattle.verdict.specs.Track.{Track, trackStart, trackByte, trackEnd}
 use Rattle.progress.specs.Progress.{judged}
-use Rattle.progress.specs.Memory.{Mem, stepMem}
-use Rattle.progress.specs.Fresh.{freshMem}
+use Rattle.progress.specs.Memory.{Mem, freshMem, stepMem}
 
 -- `Book t es`: the table t is that of an accepted book with the entries es. `Tracks es n m s`: with n frames the memory m is that of a record
 -- whose track is s

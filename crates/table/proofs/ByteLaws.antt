@@ -1,14 +1,14 @@
--- Byte strings that are compared, and bytes that are 0 together. Assumes nothing.
+-- Byte strings that are compared or filled, and bytes that are 0 together. Assumes nothing.
 use mathlib.Core.Bool.{Bool, false}
-use mathlib.Core.List.{List, [], _∷_}
-use mathlib.Core.Path.{_≡_, refl, ap, _∙_}
+use mathlib.Core.List.{List, [], _∷_, _++_, append-nil}
+use mathlib.Core.Path.{_≡_, refl, sym, ap, _∙_}
 use Prim.Native.Nat.{ℕ, _+_, _<_, _≤_}
-use native.Mathlib.Nat.{add-zero}
+use native.Mathlib.Nat.{add-zero, le-of-eq}
 use native.Mathlib.Numerals.{add-one}
 use native.Mathlib.Omega.{arith}
 use lib.Bits.{bitOr, or-add-and, and-le-l, and-le-r}
 use lib.Dec.{eqb}
-use lib.ListN.{length, getD, drop, drop-of-length-le, length-drop}
+use lib.ListN.{length, getD, drop, drop-of-length-le, length-drop, replicate}
 use lib.Seq.{drop-cons}
 use borrow.Author.Count.{below-none, below-more}
 use borrow.Author.Tests.{eq-eqb, ne-eqb}
@@ -71,3 +71,9 @@ module _ (s : List ℕ) (a : ℕ) where
     where
       P : ℕ → Type 0
       P k = getD s (a + k) 0 ≡ 0
+
+-- ---- filled
+
+-- a list that is filled to its end
+pub fill-all : (v : ℕ) (d : List ℕ) (i : ℕ) → i ≡ length d → replicate i v ++ drop i d ≡ replicate (length d) v
+fill-all v d i e = rw (drop-of-length-le d (le-of-eq (sym e)), append-nil) (ap (λ (n : ℕ). replicate n v) e)

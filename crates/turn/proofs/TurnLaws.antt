@@ -5,6 +5,7 @@ use mathlib.Core.Path.{_≡_, refl, sym, ap, _∙_}
 use Prim.Native.Nat.{ℕ, _-_, _≤_}
 use native.Mathlib.Omega.{arith}
 use lib.Dec.{eqb}
+use lib.ListN.{length, replicate}
 use borrow.Author.Tests.{eq-eqb, ne-eqb}
 use Rattle.json.specs.Lexer.{stepOf}
 use Rattle.json.specs.declared.lexer.Top.the-variants as Is
@@ -78,6 +79,9 @@ module _ (t : Table) (w : List ℕ) (l s d : ℕ) (v : List ℕ) (root : Bool)
 module _ (t : Table) (k : Task) (level len up : ℕ) (root : Bool) (key w : List ℕ) where
   pub idle-done : k ≡ To.Idle → PerformedTo k t level len up root key w root key w
   idle-done h = record { same = λ old x p q u. rw h }
+
+  pub begin-done : (next : List ℕ) → k ≡ To.Begin → length key ≡ 32 → next ≡ replicate (length key) 0 → PerformedTo k t level len up root key w false next w
+  begin-done next h l e = record { same = λ old x p q u. rw (h, e, l) }
 
   pub put-done : (c : ℕ) (next : List ℕ) → k ≡ To.Put c → next ≡ keptIn key len c → PerformedTo k t level len up root key w root next w
   put-done c next h e = record { same = λ old x p q u. rw (h, q, e) }

@@ -11,6 +11,7 @@ use progress::Progress;
 use progress::Task;
 use progress::act;
 use progress::key;
+use table::bytes;
 use table::keys;
 use table::kind;
 use table::kind::Finished;
@@ -72,6 +73,10 @@ fn perform(
 {
     match task {
         Task::Idle => root,
+        Task::Begin => {
+            bytes::clear(key);
+            false
+        }
         Task::Put(c) => {
             key::keep_char(key, len, c);
             root

@@ -7,6 +7,7 @@ ghost use Rattle.io.specs.Counts.{Counts};
 use crate::verdicts;
 use crate::verdicts::Stream;
 use crate::verdicts::Verdicts;
+use crate::verdicts::WORK;
 use libc::STDOUT_FILENO;
 
 // The bytes, in pieces of the given size.
@@ -216,7 +217,7 @@ pub fn run() {
     load::load(&space[..n], &mut t);
     let mut names = io::large_buffer();
     let m = content(b"names", &mut names);
-    let mut work = [0u8; 6144];
+    let mut work = [0u8; WORK];
     let mut counts = [0u32; 6];
     run_names(&t, &names[..m], &mut work, &mut space, &mut counts);
     say_summary(&counts);

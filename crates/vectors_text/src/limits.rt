@@ -2,6 +2,7 @@
 // and the bytes of the buffer.
 use crate::long;
 use crate::nest;
+use crate::verdicts::WORK;
 
 // Any tree of arrays, and of objects with the key a; strings and numbers in arrays.
 fn array_book(t: &mut [u8; 7920]) {
@@ -20,7 +21,7 @@ fn object_book(t: &mut [u8; 7920]) {
 }
 
 // Records that are JSON as long as they are not too long.
-fn sound_ones(t: &[u8; 7920], work: &mut [u8; 6144], space: &mut [u8; 65536]) {
+fn sound_ones(t: &[u8; 7920], work: &mut [u8; WORK], space: &mut [u8; 65536]) {
     long::run_three(t, work, space, b"string", b"[\"", b"a", b"\"]");
     long::run_two(t, work, space, b"blanks-before", b"", b" ", b"[]");
     long::run_two(t, work, space, b"blanks-behind", b"[]", b"\n", b"");
@@ -29,7 +30,7 @@ fn sound_ones(t: &[u8; 7920], work: &mut [u8; 6144], space: &mut [u8; 65536]) {
 }
 
 // Records whose last byte is a fault, that break off, or that are lost from the first bytes on.
-fn broken_ones(t: &[u8; 7920], work: &mut [u8; 6144], space: &mut [u8; 65536]) {
+fn broken_ones(t: &[u8; 7920], work: &mut [u8; WORK], space: &mut [u8; 65536]) {
     long::run_two(t, work, space, b"malformed-last", b"[", b" ", b"x");
     long::run_two(t, work, space, b"malformed-first", b"x", b" ", b"");
     long::run_two(
@@ -46,7 +47,7 @@ fn broken_ones(t: &[u8; 7920], work: &mut [u8; 6144], space: &mut [u8; 65536]) {
 }
 
 // Buffers of k frames to the byte, with all but a byte of one more, and beyond 64 frames.
-fn buffers(t: &[u8; 7920], u: &[u8; 7920], work: &mut [u8; 12288]) {
+fn buffers(t: &[u8; 7920], u: &[u8; 7920], work: &mut [u8; 2 * WORK]) {
     nest::run_two(t, u, work, 96, 191, 1);
     nest::run_two(t, u, work, 192, 287, 1);
     nest::run_two(t, u, work, 5952, 6047, 61);
@@ -61,11 +62,11 @@ pub fn run() {
     array_book(&mut t);
     let mut u = [0u8; 7920];
     object_book(&mut u);
-    let mut large = [0u8; 12288];
+    let mut large = [0u8; 2 * WORK];
     buffers(&t, &u, &mut large);
     nest::run_texts(&t);
     nest::pairs(&t, &mut large);
-    let mut work = [0u8; 6144];
+    let mut work = [0u8; WORK];
     let mut space = [0u8; 65536];
     sound_ones(&t, &mut work, &mut space);
     broken_ones(&t, &mut work, &mut space);

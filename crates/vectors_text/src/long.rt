@@ -1,6 +1,7 @@
 // Records of many bytes, made from three parts: the first bytes, a unit over and over, the last bytes.
 use crate::verdicts;
 use crate::verdicts::Stream;
+use crate::verdicts::WORK;
 use libc::STDOUT_FILENO;
 
 const BLOCK: usize = 65536;
@@ -21,7 +22,7 @@ fn fill(space: &mut [u8; 65536], unit: &[u8]) {
 fn feed_many<'a>(
     t: &'a [u8; 7920],
     s: Stream,
-    work: &mut [u8; 6144],
+    work: &mut [u8; WORK],
     block: &'a [u8],
     n: usize,
 ) -> Stream {
@@ -41,7 +42,7 @@ fn feed_many<'a>(
 fn feed_long<'a>(
     t: &'a [u8; 7920],
     s: Stream,
-    work: &mut [u8; 6144],
+    work: &mut [u8; WORK],
     bytes: usize,
     first: &'a [u8],
     block: &'a [u8; 65536],
@@ -68,7 +69,7 @@ fn say_label(label: &[u8], bytes: usize) {
 // A record alone in its stream, with 64 frames.
 fn run<'a>(
     t: &'a [u8; 7920],
-    work: &mut [u8; 6144],
+    work: &mut [u8; WORK],
     space: &mut [u8; 65536],
     label: &[u8],
     bytes: usize,
@@ -88,7 +89,7 @@ fn run<'a>(
 // A record of as many bytes as a record can have, and one of a byte more.
 pub fn run_two<'a>(
     t: &'a [u8; 7920],
-    work: &mut [u8; 6144],
+    work: &mut [u8; WORK],
     space: &mut [u8; 65536],
     label: &[u8],
     first: &'a [u8],
@@ -102,7 +103,7 @@ pub fn run_two<'a>(
 // The same, with one of a byte less before them.
 pub fn run_three<'a>(
     t: &'a [u8; 7920],
-    work: &mut [u8; 6144],
+    work: &mut [u8; WORK],
     space: &mut [u8; 65536],
     label: &[u8],
     first: &'a [u8],
@@ -114,7 +115,7 @@ pub fn run_three<'a>(
 }
 
 // A record that is too long, and one behind it.
-pub fn pair(t: &[u8; 7920], work: &mut [u8; 6144], space: &mut [u8; 65536]) {
+pub fn pair(t: &[u8; 7920], work: &mut [u8; WORK], space: &mut [u8; 65536]) {
     fill(space, b"[\"a\",1],");
     let began = verdicts::begin(t, work);
     let open = verdicts::feed_all(t, began, work, b"\x1e[");
@@ -125,7 +126,7 @@ pub fn pair(t: &[u8; 7920], work: &mut [u8; 6144], space: &mut [u8; 65536]) {
 }
 
 // A head that would be too long for a record, and a record behind it.
-pub fn head(t: &[u8; 7920], work: &mut [u8; 6144], space: &mut [u8; 65536]) {
+pub fn head(t: &[u8; 7920], work: &mut [u8; WORK], space: &mut [u8; 65536]) {
     fill(space, b" ");
     let began = verdicts::begin(t, work);
     let s = feed_many(t, began, work, space, 16777217);

@@ -1,7 +1,9 @@
 // Records of many levels: arrays, objects, and arrays and objects in turn, all closed or all left open.
 use crate::verdicts;
 use crate::verdicts::Stream;
+use crate::verdicts::WORK;
 use libc::STDOUT_FILENO;
+use reader::Reader;
 
 pub enum Shape {
     Arrays,
@@ -129,7 +131,7 @@ pub fn run_two(
 }
 
 // A text on one frame, which is its own label.
-fn run_text<'a>(t: &'a [u8; 7920], work: &mut [u8; 96], text: &'a [u8]) {
+fn run_text<'a>(t: &'a [u8; 7920], work: &mut [u8; Reader::FRAME], text: &'a [u8]) {
     let began = verdicts::begin(t, work);
     let first = verdicts::feed_all(t, began, work, b"\x1e");
     let last = verdicts::feed_all(t, first, work, text);
@@ -139,7 +141,7 @@ fn run_text<'a>(t: &'a [u8; 7920], work: &mut [u8; 96], text: &'a [u8]) {
 
 // Second openings on one frame: too deep where a value can stand, malformed where none can.
 pub fn run_texts(t: &[u8; 7920]) {
-    let mut work = [0u8; 96];
+    let mut work = [0u8; Reader::FRAME];
     run_text(t, &mut work, b"[[");
     run_text(t, &mut work, b"[{");
     run_text(t, &mut work, b"{[");
@@ -150,7 +152,7 @@ pub fn run_texts(t: &[u8; 7920]) {
 }
 
 // Arrays left open, and behind them 64 that are closed.
-fn pair(t: &[u8; 7920], work: &mut [u8; 12288], label: &[u8], levels: usize) {
+fn pair(t: &[u8; 7920], work: &mut [u8; 2 * WORK], label: &[u8], levels: usize) {
     let began = verdicts::begin(t, work);
     let first = verdicts::feed_all(t, began, work, b"\x1e");
     let open = open_levels(t, first, work, Shape::Arrays, levels);
@@ -162,7 +164,7 @@ fn pair(t: &[u8; 7920], work: &mut [u8; 12288], label: &[u8], levels: usize) {
 }
 
 // A record that fails, and one behind it: the second is judged as it is alone.
-pub fn pairs(t: &[u8; 7920], work: &mut [u8; 12288]) {
+pub fn pairs(t: &[u8; 7920], work: &mut [u8; 2 * WORK]) {
     pair(t, work, b"alone", 0);
     pair(t, work, b"broken-off-then-sound", 64);
     pair(t, work, b"too-deep-then-sound", 65);

@@ -5,6 +5,9 @@ use reader::Answer;
 use reader::Reader;
 use verdict::Verdict;
 
+// The bytes of as many frames as there can be levels.
+pub const WORK: usize = Reader::FRAME * Reader::LEVELS;
+
 // The verdicts that are kept.
 pub const KEPT: usize = 16;
 

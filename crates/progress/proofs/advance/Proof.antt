@@ -7,7 +7,7 @@ use Rattle.progress.proofs.advance.Tie as tie
 
 returns : tie.Need-returns
 unfolding advanced
-returns c = simp (c .after-head .ensures, eq-eqb _ _ (c .before .if1 .taken))
+returns c = simp (c .fresh .ensures, eq-eqb _ _ (c .before .if1 .taken))
 
 returns-2 : tie.Need-returns-2
 unfolding advanced

@@ -1,14 +1,14 @@
--- `open::clear` meets its contract. The loop has filled the bytes below i. Assumes nothing.
+-- `bytes::clear` meets its contract. The loop has filled the bytes below i. Assumes nothing.
 use Prim.Native.Nat.{_-_, _≤_}
-use Rattle.frame.proofs.ListLaws.{fill-all}
+use Rattle.table.proofs.ByteLaws.{fill-all}
 use borrow.Author.Fill.{fill-more}
 use borrow.Author.Needs.{needs}
 use lib.ListN.{length, drop, replicate}
 use mathlib.Core.List.{_++_}
 use mathlib.Core.Path.{_≡_, _∙_}
 use native.Mathlib.Omega.{arith}
-use Rattle.frame.proofs.open.clear.Statement.{statement}
-use Rattle.frame.proofs.open.clear.Tie as tie
+use Rattle.table.proofs.bytes.clear.Statement.{statement}
+use Rattle.table.proofs.bytes.clear.Tie as tie
 
 abbrev Inv-loop : tie.InvT-loop
 Inv-loop s₀ i₀ i-end s i = (i ≤ i-end) × (i-end ≡ length s₀) × (length s ≡ length s₀) × (s ≡ replicate i 0 ++ drop i s₀)

@@ -8,8 +8,6 @@ ghost use Rattle.table.specs.Limits.{withinLimits};
 ghost use Rattle.progress.specs.Progress.{judged};
 ghost use Rattle.reader.specs.Refusals.{refusalNumber, fitReader, tableRung, firstRefusal, startGate, callGate};
 ghost use Rattle.reader.specs.Machine.{freshReader, countValid, countInvalid, countRefused, tallied, startOf, feeding, feedOf, closeOf};
-
-
 use progress::Progress;
 use table::limits;
 use verdict::Verdict;

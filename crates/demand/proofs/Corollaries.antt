@@ -15,7 +15,7 @@ use Rattle.verdict.specs.Verdict.{Judged}
 use Rattle.reader.specs.declared.Reader.{Reader}
 use Rattle.reader.specs.declared.Answer.the-variants as Says
 use Rattle.reader.specs.declared.Refusal.the-variants as No
-use Rattle.reader.specs.Machine.{startOf}
+use Rattle.reader.specs.Start.{startOf}
 use Rattle.stream.specs.Paper.{Call, Judges, nonempty}
 use Rattle.stream.specs.Claim.{run, answers, after, table}
 use Rattle.stream.specs.Records.{noRS, verdictsOf, verdictsBehind, verdictsIn, StreamOf}

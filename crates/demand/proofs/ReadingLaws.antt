@@ -16,7 +16,8 @@ use Rattle.reader.specs.declared.Reader.{Reader}
 use Rattle.reader.specs.declared.Answer.the-variants as Says
 use Rattle.reader.specs.declared.Refusal.{Refusal}
 use Rattle.reader.specs.Refusals.{isOpen}
-use Rattle.reader.specs.Machine.{Outcome, startOf, feedOf, closeOf}
+use Rattle.reader.specs.Start.{startOf}
+use Rattle.reader.specs.Machine.{Outcome, feedOf, closeOf}
 use Rattle.stream.specs.Paper.{Call, feed, close}
 use Rattle.stream.specs.Claim.{run, answers, accepted, Held, nothing, held, Same, Fair}
 use Rattle.reader.proofs.RefusalLaws.{start-open-of-room, call-open-of-room}

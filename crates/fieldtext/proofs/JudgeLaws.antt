@@ -13,7 +13,7 @@ use Rattle.load.specs.Step.{Loaded}
 use Rattle.load.specs.BookAnswer as load
 use Rattle.load.specs.Loads.{LoadsAs}
 use Rattle.reader.specs.Refusals.{startGate}
-use Rattle.reader.specs.Machine.{Start, startOf}
+use Rattle.reader.specs.Start.{Start, startOf}
 use Rattle.reader.proofs.RefusalLaws.{through-elim}
 use Rattle.entries.specs.Entries.{withEntry, withEntries}
 use Rattle.entries.specs.Feeds.{answerEntries, isQuiet, Called, streamed, inOut}

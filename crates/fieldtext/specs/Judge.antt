@@ -7,7 +7,7 @@ use lib.Dec.{eqb}
 use Rattle.table.specs.Table.{Table}
 use Rattle.book.specs.Load.{loads}
 use Rattle.load.specs.Step.{tableOf}
-use Rattle.reader.specs.Machine.{startOf}
+use Rattle.reader.specs.Start.{startOf}
 use Rattle.entries.specs.Entries.{refusalEntry}
 use Rattle.entries.specs.Feeds.{answerEntries, isQuiet, StreamEntries, streamed, Called, inOut}
 

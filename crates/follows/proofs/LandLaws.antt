@@ -26,7 +26,8 @@ use Rattle.verdict.specs.Track.{trackTo}
 use Rattle.verdict.proofs.TrackLaws.{trackTo-fault, trackTo-deep, trackTo-sound}
 use Rattle.progress.specs.declared.Fault.the-variants as F
 use Rattle.progress.specs.declared.Progress.{Progress}
-use Rattle.progress.specs.Progress.{bump, faulted}
+use Rattle.progress.specs.Count.{bump}
+use Rattle.progress.specs.Progress.{faulted}
 use Rattle.progress.specs.Memory.{mem, valueAt, rulesAt, closeAt}
 use Rattle.follows.specs.Follows.{lexAt, ShowsStack, NoRoot, AnyRoot, ShowsRoot, Shown, follows, Tracks, on-track, off-track}
 use Rattle.follows.proofs.StackLaws.{shows-finished, shows-rules-array, shows-rules-object, root-closed}

@@ -34,7 +34,8 @@ use Rattle.progress.specs.declared.Task.{Task}
 use Rattle.progress.specs.declared.Task.the-variants as To
 use Rattle.progress.specs.declared.Advanced.{Advanced}
 use Rattle.progress.specs.Act.{firstFault}
-use Rattle.progress.specs.Progress.{bump, actedBy, sound, byFault, advanced}
+use Rattle.progress.specs.Count.{bump}
+use Rattle.progress.specs.Progress.{actedBy, sound, byFault, advanced}
 use Rattle.progress.specs.Memory.{Mem, valueAt, rulesAt, closeAt, perform, topAt, advancedAt, stepMem}
 use Rattle.progress.proofs.MemoryLaws.{progress-of-perform}
 

@@ -53,7 +53,8 @@ use Rattle.progress.specs.declared.Fault.the-variants as F
 use Rattle.progress.specs.declared.Progress.{Progress}
 use Rattle.progress.specs.declared.Advanced.{Advanced}
 use Rattle.progress.specs.Act.{openFault, openLevel, keyLen, keyTask, keptIn}
-use Rattle.progress.specs.Progress.{advance, advanced, faulted, moved, sound as sounding, bump, bitsIn, highIn, acted}
+use Rattle.progress.specs.Count.{bump}
+use Rattle.progress.specs.Progress.{advance, advanced, faulted, moved, sound as sounding, bitsIn, highIn, acted}
 use Rattle.progress.specs.declared.Task.the-variants as To
 use Rattle.progress.specs.Memory.{Mem, mem, valueAt, perform, stepMem}
 use Rattle.follows.specs.Follows.{PlainKeys, all-kept, ShowsText, ShowsNumber, lexAt, ShowsStack, NoRoot, AnyRoot, ShowsRoot, Shown, Follows, follows, Tracks, off-track}

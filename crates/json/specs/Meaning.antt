@@ -1,5 +1,6 @@
 -- Any meaning of values that is found from left to right: what is known of an open array, object, string or number after each of its
--- parts, and the result of a finished value. Stated: a reader of a text is told only what a meaning is told. Assumes nothing.
+-- parts, and the result of a finished value. A reader of a text is told only what a meaning is told. Derived: the machine of `Machine` runs over any
+-- meaning, and `text-of-accepted` and `accepted-of-text` join it to the grammar. Assumes nothing.
 use mathlib.Core.List.{List, [], _∷_}
 use Prim.Native.Nat.{ℕ}
 use Rattle.json.specs.Tree.{Word, Json, Values, Pairs, word, string, number, array, object, no-values, values, no-pairs, pairs}

@@ -1,4 +1,4 @@
--- Tests of lists that the library has no word for. Derived: `ListLaws` says what each means. Assumes nothing.
+-- Tests of lists that the library has no word for. Stated; `ListLaws` says what each means. Assumes nothing.
 use mathlib.Core.Bool.{Bool, true, false, _&&_, _||_}
 use mathlib.Core.List.{List, [], _∷_}
 use Prim.Native.Nat.{ℕ}

@@ -1,4 +1,4 @@
--- Lists and tests that are computed from a rule, one number after the other. Derived: `TabLaws` says what each is at a place. Assumes nothing.
+-- Lists and tests that are computed from a rule, one number after the other. Stated; `TabLaws` says what each is at a place. Assumes nothing.
 use mathlib.Core.Bool.{Bool, true, _&&_}
 use mathlib.Core.List.{List, [], _∷_}
 use Prim.Native.Nat.{ℕ, zero, suc}

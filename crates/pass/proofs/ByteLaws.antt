@@ -20,7 +20,8 @@ use Rattle.progress.specs.declared.Fault.the-variants as F
 use Rattle.progress.specs.declared.Progress.{Progress}
 use Rattle.progress.specs.declared.Advanced.{Advanced}
 use Rattle.progress.specs.declared.Task.the-variants as To
-use Rattle.progress.specs.Progress.{bump, advance, moved, acted, sound, advanced}
+use Rattle.progress.specs.Count.{bump}
+use Rattle.progress.specs.Progress.{advance, moved, acted, sound, advanced}
 use Rattle.progress.specs.Memory.{Mem, mem, topAt, perform, stepMem, runMem, endsRecord}
 use Rattle.pass.specs.Pass.{isQuiet, passes, isSound, readsOn}
 

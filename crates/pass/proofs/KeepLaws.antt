@@ -20,7 +20,8 @@ use Rattle.progress.specs.declared.Fault.the-variants as F
 use Rattle.progress.specs.declared.Progress.{Progress}
 use Rattle.progress.specs.declared.Advanced.{Advanced}
 use Rattle.progress.specs.Act.{keyLen, keyTask, keptIn}
-use Rattle.progress.specs.Progress.{advance, bump, charIn, moved, advanced}
+use Rattle.progress.specs.Count.{bump}
+use Rattle.progress.specs.Progress.{advance, charIn, moved, advanced}
 use Rattle.progress.specs.Memory.{mem, topAt, perform, stepMem}
 use Rattle.chars.specs.Table.{classTable, classAt}
 use Rattle.chars.proofs.TableLaws.{classAt-classTable}

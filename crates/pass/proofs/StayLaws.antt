@@ -33,7 +33,8 @@ use Rattle.json.specs.declared.lexer.Act.the-variants as A
 use Rattle.table.specs.Table.{Table}
 use Rattle.progress.specs.declared.Fault.the-variants as F
 use Rattle.progress.specs.declared.Progress.{Progress}
-use Rattle.progress.specs.Progress.{bump, bitsIn, highIn}
+use Rattle.progress.specs.Count.{bump}
+use Rattle.progress.specs.Progress.{bitsIn, highIn}
 use Rattle.progress.specs.Memory.{mem, topAt, runMem}
 use Rattle.chars.specs.Table.{classTable, classAt}
 use Rattle.chars.proofs.TableLaws.{classAt-classTable}

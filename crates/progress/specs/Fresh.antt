@@ -1,5 +1,4 @@
--- A record of which nothing is read, in the head or after an RS: what is known of it, and the places of its key. Derived: `tracks-start` of crate
--- follows joins the memory of it, `freshMem`, to the track of crate verdict. Assumes nothing.
+-- A record of which nothing is read, in the head or after an RS, as a fresh reader has it: REQUIREMENT.md, section 7. Stated. Assumes nothing.
 use mathlib.Core.Bool.{Bool}
 use mathlib.Core.List.{List}
 use Prim.Native.Nat.{ℕ}

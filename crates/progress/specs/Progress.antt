@@ -1,7 +1,7 @@
 -- What a byte does to the open record, over the reader's own types. Derived: `tracks-step` of crate follows joins it to the track of crate verdict.
 -- Assumes nothing.
 use mathlib.Core.Bool.{Bool, false, cond}
-use Prim.Native.Nat.{ℕ, _+_}
+use Prim.Native.Nat.{ℕ}
 use lib.Dec.{eqb, ltb}
 use Rattle.json.specs.Lexer.{bitsAfter, highAfter, charOf, mayEnd}
 use Rattle.json.specs.declared.number.NumberMode.{NumberMode}
@@ -21,11 +21,8 @@ use Rattle.progress.specs.declared.Task.{Task}
 use Rattle.progress.specs.declared.Task.the-variants as To
 use Rattle.progress.specs.declared.Advanced.{Advanced}
 use Rattle.progress.specs.Act.{firstFault, levelAfter, lenAfter, taskOf}
+use Rattle.progress.specs.Count.{bump}
 use Rattle.progress.specs.Fresh.{freshProgress}
-
--- a count of bytes after one more; it stops at the largest number
-unfoldable pub bump : ℕ → ℕ
-bump p = cond (ltb p 4294967295) (p + 1) p
 
 abbrev pub advance : Progress → Task → Advanced
 advance x t = record { progress = x; task = t }

@@ -1,7 +1,8 @@
 // The open record, byte by byte: what the reader knows of it, its frames and the bytes of its key aside.
 ghost use mathlib.Core.Path.{_≡_};
 ghost use Rattle.progress.specs.Fresh.{freshProgress};
-ghost use Rattle.progress.specs.Progress.{bump, counted, faulted, moved, acted, sound, advanced, judged};
+ghost use Rattle.progress.specs.Count.{bump};
+ghost use Rattle.progress.specs.Progress.{counted, faulted, moved, acted, sound, advanced, judged};
 use json::lexer::Awaited;
 use json::lexer::Mode;
 use json::lexer::Step;

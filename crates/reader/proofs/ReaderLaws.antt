@@ -15,7 +15,9 @@ use Rattle.reader.specs.declared.Gate.{Gate}
 use Rattle.reader.specs.declared.Gate.the-variants as Is
 use Rattle.reader.specs.declared.Answer.the-variants as Says
 use Rattle.reader.specs.Refusals.{withinReader, startGate, callGate}
-use Rattle.reader.specs.Machine.{Outcome, freshReader, zeroTally, tallied, startOf, refusing, feeding, feedOf, closing, closeOf}
+use Rattle.reader.specs.Tally.{zeroTally, tallied}
+use Rattle.reader.specs.Start.{freshReader, startOf}
+use Rattle.reader.specs.Machine.{Outcome, refusing, feeding, feedOf, closing, closeOf}
 
 -- ---- start, by its gate
 

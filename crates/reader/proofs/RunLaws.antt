@@ -13,7 +13,9 @@ use Rattle.piece.specs.Went.{WentTo}
 use Rattle.reader.specs.declared.Reader.{Reader}
 use Rattle.reader.specs.declared.Fed.{Fed}
 use Rattle.reader.specs.declared.Answer.the-variants as Says
-use Rattle.reader.specs.Machine.{freshReader, tallied, feeding}
+use Rattle.reader.specs.Tally.{tallied}
+use Rattle.reader.specs.Start.{freshReader}
+use Rattle.reader.specs.Machine.{feeding}
 
 -- where no byte is left, the run is done
 run-done : (t : Table) (n : ℕ) (m : Mem) (s : List ℕ) (i : ℕ) → length s ≤ i → runMem t n m i (drop i s) ≡ record { memory = m; count = i; ended = false }

@@ -1,68 +1,21 @@
--- What start, feed and close do, whole: 01, "The stream", Start, Feed, Close. Stated as far as readers and tallies go; the reading of
--- bytes is derived: `demand-3` of crate demand joins it to the stream on paper. Assumes nothing.
+-- What feed and close give and leave in the buffer, whole: REQUIREMENT.md, section 7. Derived: the contracts of `feed` and `close` say that the
+-- code gives exactly this; `demand-3` joins counts and answers to the stream on paper, `lent` the buffer to section 5, `tally-of-calls` the tally to
+-- the verdicts, and `unchanged-of-refused` tells of refused calls. Assumes nothing.
 use mathlib.Core.Bool.{Bool, true, false, cond}
 use mathlib.Core.List.{List}
 use Prim.Native.Nat.{ℕ}
 use lib.Dec.{ltb}
 use lib.ListN.{length}
 use Rattle.table.specs.Table.{Table}
-use Rattle.frame.specs.Frame.{frameCount}
-use Rattle.verdict.specs.declared.Verdict.{Verdict}
-use Rattle.verdict.specs.declared.Verdict.the-variants as Is
-use Rattle.progress.specs.Progress.{bump, judged}
-use Rattle.progress.specs.Fresh.{freshProgress, freshKey}
+use Rattle.progress.specs.Progress.{judged}
 use Rattle.progress.specs.Memory.{Mem, mem, Ran, runMem}
-use Rattle.reader.specs.declared.Tally.{Tally}
 use Rattle.reader.specs.declared.Reader.{Reader}
 use Rattle.reader.specs.declared.Refusal.{Refusal}
 use Rattle.reader.specs.declared.Answer.{Answer}
 use Rattle.reader.specs.declared.Answer.the-variants as Says
-use Rattle.reader.specs.Refusals.{withinReader, startGate, callGate, through}
-
--- ---- readers
-
--- nothing is read of a record
-abbrev pub freshReader : ℕ → Bool → Tally → Reader
-freshReader frames head tally = record { frames = frames; progress = freshProgress head; root = false; key = freshKey; tally = tally }
-
-abbrev pub zeroTally : Tally
-zeroTally = record { valid = 0; invalid = 0; refused = 0 }
-
--- the tally counts valid, invalid and refused records
-abbrev pub countValid : Tally → Tally
-countValid y = record { valid = bump (y .valid); invalid = y .invalid; refused = y .refused }
-
-abbrev pub countInvalid : Tally → Tally
-countInvalid y = record { valid = y .valid; invalid = bump (y .invalid); refused = y .refused }
-
-abbrev pub countRefused : Tally → Tally
-countRefused y = record { valid = y .valid; invalid = y .invalid; refused = bump (y .refused) }
-
-abbrev pub tallied : Verdict → Tally → Tally
-tallied Is.Valid y = countValid y
-tallied Is.Invalid y = countInvalid y
-tallied (Is.Malformed p) y = countRefused y
-tallied (Is.TooDeep p) y = countRefused y
-tallied Is.TooLong y = countRefused y
-tallied (Is.Unfinished p) y = countRefused y
-tallied Is.Head y = countRefused y
-
--- ---- start
-
-pub record Start : Type 0 where
-  pub reader : Reader
-  pub answer : Answer
-
--- a refused start gives a fresh reader with 0 frames
-abbrev pub unstarted : Refusal → Start
-unstarted n = record { reader = freshReader 0 true zeroTally; answer = Says.Refused n }
-
-unfoldable pub startOf : Table → List ℕ → Start
-startOf t w =
-    through (startGate t (length w)) unstarted
-    (record { reader = freshReader (frameCount (length w)) true zeroTally; answer = Says.Quiet })
-
--- ---- feed and close
+use Rattle.reader.specs.Refusals.{withinReader, callGate, through}
+use Rattle.reader.specs.Tally.{tallied}
+use Rattle.reader.specs.Start.{freshReader}
 
 -- what a feed or a close gives, and leaves in the buffer; a close reads no bytes
 pub record Outcome : Type 0 where

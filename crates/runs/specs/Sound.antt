@@ -1,5 +1,5 @@
--- What the theorems ask of the entries of a book, and load sees to: 01, "Rule books" and "Load". Stated, but for the test `isSound`, which is
--- derived: `SoundLaws.sound-of-isSound` joins it to `Sound`. Assumes nothing.
+-- What the theorems on runs ask of the entries of a book. Derived: `sound-of-book` of crate demand shows it for every book that load accepts, and
+-- `SoundLaws.sound-of-isSound` joins the test `isSound` to it. Assumes nothing.
 use mathlib.Core.Bool.{Bool, true, false, not, _&&_}
 use mathlib.Core.List.{List, [], _∷_}
 use mathlib.Core.Path.{_≡_}

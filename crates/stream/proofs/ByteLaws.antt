@@ -19,7 +19,8 @@ use Rattle.progress.specs.declared.Progress.{Progress}
 use Rattle.progress.specs.declared.Advanced.{Advanced}
 use Rattle.progress.specs.Act.{firstFault}
 use Rattle.progress.proofs.ActLaws.{levelAfter-le, lenAfter-le}
-use Rattle.progress.specs.Progress.{bump, counted, faulted, actedBy, sound, byFault, advanced}
+use Rattle.progress.specs.Count.{bump}
+use Rattle.progress.specs.Progress.{counted, faulted, actedBy, sound, byFault, advanced}
 use Rattle.progress.specs.Memory.{Mem, topAt, advancedAt, stepMem, endsRecord, Ran, runMem}
 use Rattle.progress.proofs.MemoryLaws.{progress-of-perform, fresh-of-RS}
 use Rattle.laws.proofs.TestLaws.{cond-elim}

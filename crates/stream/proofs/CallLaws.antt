@@ -20,7 +20,8 @@ use Rattle.reader.specs.declared.Answer.the-variants as Says
 use Rattle.reader.specs.declared.Gate.{Gate}
 use Rattle.reader.specs.declared.Gate.the-variants as Is
 use Rattle.reader.specs.Refusals.{fitReader, withinReader, startGate, callGate, through}
-use Rattle.reader.specs.Machine.{Outcome, Start, startOf, refusing, orRefused, memoryOf, outcome, feeding, feedOf, closing, closeOf}
+use Rattle.reader.specs.Start.{Start, startOf}
+use Rattle.reader.specs.Machine.{Outcome, refusing, orRefused, memoryOf, outcome, feeding, feedOf, closing, closeOf}
 use Rattle.stream.specs.Paper.{Call, feed, close, Judge, Paper, Said, goes, ends, refuses, says}
 use Rattle.stream.specs.Claim.{run, after, table, buffer, accepted, closes}
 use Rattle.reader.proofs.RefusalLaws.{through-elim, open-of-isOpen, shut-of-not-isOpen, room-of-start, room-of-call, table-of-above-limit}

@@ -17,7 +17,7 @@ use Rattle.verdict.proofs.JudgedLaws.{judged-unique}
 use Rattle.progress.specs.Memory.{Mem}
 use Rattle.reader.specs.declared.Reader.{Reader}
 use Rattle.reader.specs.declared.Answer.the-variants as Says
-use Rattle.reader.specs.Machine.{startOf}
+use Rattle.reader.specs.Start.{startOf}
 use Rattle.stream.specs.Paper.{Call, feed, close, Judge, Judges, Paper, opening, nonempty, says}
 use Rattle.stream.specs.Claim.{run, answers, after, closes, Held, nothing, held, Fair}
 use Rattle.stream.specs.Bytes.{Reading}

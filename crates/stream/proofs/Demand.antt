@@ -14,7 +14,8 @@ use Rattle.progress.specs.Progress.{judged}
 use Rattle.progress.specs.Memory.{Mem, freshMem, Ran, runMem}
 use Rattle.reader.specs.declared.Reader.{Reader}
 use Rattle.reader.specs.declared.Answer.the-variants as Says
-use Rattle.reader.specs.Machine.{Outcome, freshReader, startOf, memoryOf, ending, going, outcome, feeding, closing}
+use Rattle.reader.specs.Start.{freshReader, startOf}
+use Rattle.reader.specs.Machine.{Outcome, memoryOf, ending, going, outcome, feeding, closing}
 use Rattle.stream.specs.Paper.{Call, feed, close, Judge, Judges, Paper, opening, nonempty, Said, goes, says, told}
 use Rattle.stream.specs.Claim.{run, answers, after, table, buffer, accepted, closes, before, streams, Held, nothing, held, Same, Fair, Answered, Demand3}
 use Rattle.stream.specs.Bytes.{Reading}

@@ -16,7 +16,8 @@ use Rattle.reader.specs.declared.Reader.{Reader}
 use Rattle.reader.specs.declared.Gate.the-variants as Is
 use Rattle.reader.specs.declared.Answer.the-variants as Says
 use Rattle.reader.specs.Refusals.{withinReader, callGate}
-use Rattle.reader.specs.Machine.{Outcome, freshReader, memoryOf, ending, going, outcome, feeding, feedOf}
+use Rattle.reader.specs.Start.{freshReader}
+use Rattle.reader.specs.Machine.{Outcome, memoryOf, ending, going, outcome, feeding, feedOf}
 use Rattle.stream.proofs.ByteLaws.{endsRecord-of-RS}
 
 -- ---- how far a run reads

@@ -13,7 +13,8 @@ use Rattle.reader.specs.declared.Refusal.{Refusal}
 use Rattle.reader.specs.declared.Answer.{Answer}
 use Rattle.reader.specs.declared.Answer.the-variants as Says
 use Rattle.reader.specs.Refusals.{withinReader, callGate}
-use Rattle.reader.specs.Machine.{Outcome, freshReader, refusing, memoryOf, ending, going, outcome, feeding, closing}
+use Rattle.reader.specs.Start.{freshReader}
+use Rattle.reader.specs.Machine.{Outcome, refusing, memoryOf, ending, going, outcome, feeding, closing}
 use Rattle.stream.specs.Paper.{Call, feed, close}
 use Rattle.stream.specs.Claim.{run, answers, after, table, buffer}
 use Rattle.reader.proofs.RefusalLaws.{through-elim}

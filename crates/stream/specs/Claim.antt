@@ -12,7 +12,8 @@ use Rattle.frame.specs.Frame.{frameCount}
 use Rattle.reader.specs.declared.Reader.{Reader}
 use Rattle.reader.specs.declared.Answer.the-variants as Says
 use Rattle.reader.specs.Refusals.{callGate, isOpen}
-use Rattle.reader.specs.Machine.{Outcome, startOf, feedOf, closeOf}
+use Rattle.reader.specs.Start.{startOf}
+use Rattle.reader.specs.Machine.{Outcome, feedOf, closeOf}
 use Rattle.stream.specs.Paper.{Call, feed, close, Heard, Judge, Judges, opening, told}
 
 -- ---- the calls, one after the other

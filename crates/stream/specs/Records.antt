@@ -15,7 +15,7 @@ use Rattle.reader.specs.declared.Tally.{Tally}
 use Rattle.reader.specs.declared.Reader.{Reader}
 use Rattle.reader.specs.declared.Answer.{Answer}
 use Rattle.reader.specs.declared.Answer.the-variants as Says
-use Rattle.reader.specs.Machine.{tallied}
+use Rattle.reader.specs.Tally.{tallied}
 use Rattle.stream.specs.Paper.{Call, feed, close, Heard, Judge, nonempty}
 use Rattle.stream.specs.Claim.{run, accepted, nothing, Fair}
 

@@ -1,5 +1,5 @@
 -- `bump` meets its contract. Assumes nothing.
-use Rattle.progress.specs.Progress.{bump}
+use Rattle.progress.specs.Count.{bump}
 use Rattle.laws.proofs.Tests.{tests}
 use borrow.Author.Needs.{needs}
 use Rattle.progress.proofs.bump.Statement.{statement}

@@ -8,10 +8,12 @@ use mathlib.Core.Option.{some}
 use mathlib.Core.Path.{_≡_, refl}
 use Prim.Native.Nat.{ℕ, _≤_, _<_}
 use lib.ListN.{length, getElem?}
-use Rattle.json.specs.Tree.{Json}
+use Rattle.json.specs.Tree.{Json, object, Pairs}
 use Rattle.json.specs.Grammar.{Text, FaultAt}
 use Rattle.book.specs.Entry.{Entry}
-use Rattle.runs.specs.Runs.{Valid}
+use Rattle.json.proofs.TreeLaws.{text-unique}
+use Rattle.runs.specs.Runs.{Within, Valid}
+use Rattle.runs.proofs.LengthLaws.{pairCount}
 use Rattle.verdict.specs.declared.Verdict.{Verdict}
 use Rattle.verdict.specs.declared.Verdict.the-variants as Is
 use Rattle.verdict.specs.Verdict.{longest, DeepAt, Earliest, Faultless, Judged}
@@ -23,7 +25,8 @@ use Rattle.stream.proofs.JudgeLaws.{judgeOf}
 use Rattle.stream.proofs.RecordLaws.{verdictsOf-append, verdictsOf-of-head, length-verdictsOf}
 use Rattle.demand.specs.Book.{Book}
 use Rattle.demand.specs.Given.{RecordAfter, until-RS, until-close, RecordInHead, head-until-RS, head-until-close, GivenAfter}
-use Rattle.demand.proofs.Corollaries.{verdicts-of-stream, judge-of-stream, record-alone, last-record-alone}
+use Rattle.demand.proofs.BookLaws.{pairs-le-15-of-book}
+use Rattle.demand.proofs.Corollaries.{book-of-stream, verdicts-of-stream, judge-of-stream, record-alone, last-record-alone}
 
 -- the place after the first list has the element that stands there
 getElem-append : {A : Type 0} (us : List A) (v : A) (ws : List A) → getElem? (us ++ (v ∷ ws)) (length us) ≡ some v
@@ -94,3 +97,10 @@ module _ (es : List Entry) (n : ℕ) (least : 1 ≤ n) (most : n ≤ 64) {r : Re
   -- 15: never
   pub never-head : GivenAfter a r cs Is.Head → ⊥
   never-head g = not-judged-head (given-iff-judged Is.Head .0 g)
+
+  -- ---- an object of a record that is given valid has at most 15 pairs
+  pub pairs-le-15-of-given : GivenAfter a r cs Is.Valid → {t : Json} {ps : Pairs} → Text p t → Within (object ps) t → pairCount ps ≤ 15
+  pairs-le-15-of-given g {t} h i =
+      let (f, (u, k, v)) = valid-exactly-when .0 g in
+      let e : u ≡ t = text-unique k h in
+      pairs-le-15-of-book (book-of-stream es n least most x .1) (rw e at v) i

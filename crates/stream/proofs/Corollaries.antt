@@ -69,16 +69,19 @@ module _ {Book : Table → List Entry → Type 0} {Tracks : (es : List Entry) �
     verdicts-of-bytes r cs s f fair h = verdicts-of-stands nothing r opening cs s (good-of-fresh n r f) (f, refl) fair h
 
   -- a fair stream that hands over bytes and closes has an accepted book
-  sound-of-hands : (k : Held Book) (r : Reader) (cs : List Call) (s : List ℕ) → Fair Book es n k r cs → Hands n r cs s → Sound es
+  book-of-hands : (k : Held Book) (r : Reader) (cs : List Call) (s : List ℕ) → Fair Book es n k r cs → Hands n r cs s → (t : Table) × Book t es
   unfolding Fair
-  sound-of-hands k r _ _ fair (closed {t = t} {w = w} e) = facts .sound ((rw e at fair) .0)
-  sound-of-hands k r _ _ fair (fed {t = t} {w = w} {s = s} u e rest) = facts .sound ((rw e at fair) .0)
-  sound-of-hands k r _ s fair (refused {c = c} {cs = cs} e rest) = sound-of-hands k (run r c .reader) cs s (rw e at fair) rest
+  book-of-hands k r _ _ fair (closed {t = t} {w = w} e) = (t, (rw e at fair) .0)
+  book-of-hands k r _ _ fair (fed {t = t} {w = w} {s = s} u e rest) = (t, (rw e at fair) .0)
+  book-of-hands k r _ s fair (refused {c = c} {cs = cs} e rest) = book-of-hands k (run r c .reader) cs s (rw e at fair) rest
 
   module _ {r : Reader} {cs : List Call} {s : List ℕ} (x : StreamOf Book es n r cs s) where
+    pub book-of-stream : (t : Table) × Book t es
+    book-of-stream = book-of-hands nothing r cs s (x .fair) (x .hands)
+
     -- its book is accepted, so its parts have a judge
     pub sound-of-stream : Sound es
-    sound-of-stream = sound-of-hands nothing r cs s (x .fair) (x .hands)
+    sound-of-stream = facts .sound (book-of-stream .1)
 
     -- and its verdicts are those of its bytes
     pub verdicts-of-stream : verdictsIn (answers r cs) ≡ verdictsOf (judgeOf es n) s

@@ -1,9 +1,8 @@
 -- Demand 3 in the customer's words, of the books that load accepts. Assumes nothing.
-use mathlib.Core.Bool.{true, false}
+use mathlib.Core.Bool.{true}
 use mathlib.Core.List.{List, [], _∷_, _++_, getLast?}
 use mathlib.Core.Path.{_≡_}
 use Prim.Native.Nat.{ℕ, _≤_}
-use lib.ListN.{length}
 use Rattle.table.specs.Table.{Table}
 use Rattle.book.specs.Entry.{Entry}
 use Rattle.book.proofs.TruthLaws.{true-not-false}

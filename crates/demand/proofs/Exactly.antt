@@ -1,6 +1,7 @@
 -- Demands 2 and 3 about single records, of the books that load accepts: the calls of a stream give a record after an RS the verdict that it has alone
 -- (`given-iff-judged`), so valid, invalid, too deep and each other refusal exactly when the record itself is so, whatever stands before it. The head
--- is given 15 (`given-head`), and no other record is. Assumes nothing.
+-- is given 15 (`given-head`), and no other record is. The frames n are those that an accepted start counted, from 1 to 64 (`stream: begun-of-start`).
+-- Assumes nothing.
 use mathlib.Core.Bool.{false}
 use mathlib.Core.List.{List, [], _∷_, _++_}
 use mathlib.Core.Logic.{_↔_, Iff·trans}

@@ -98,7 +98,7 @@ module _ {Book : Table → List Entry → Type 0} {Tracks : (es : List Entry) �
       → verdictsIn (answers r cs) ≡ verdictsOf (judgeOf es n) a ++ (v ∷ verdictsBehind (judgeOf es n) z)
   record-alone a p z full plain j x =
       let J : Judge = judgeOf es n in
-      let e : J false p ≡ _ = judged-unique (sound-of-stream x) (judges-exist (sound-of-stream x) n .part p) j in
+      let e : J false p ≡ _ = judged-unique (judges-exist (sound-of-stream x) n .part p) j in
       verdicts-of-stream x ∙ rw (verdictsOf-append J a (p ++ (0x1E ∷ z)), verdictsBehind-append J p z, verdictsBehind-of-record J p full plain, e)
 
   -- here a close ends it
@@ -106,7 +106,7 @@ module _ {Book : Table → List Entry → Type 0} {Tracks : (es : List Entry) �
       → StreamOf Book es n r cs (a ++ (0x1E ∷ p)) → verdictsIn (answers r cs) ≡ verdictsOf (judgeOf es n) a ++ (v ∷ [])
   last-record-alone a p full plain j x =
       let J : Judge = judgeOf es n in
-      let e : J false p ≡ _ = judged-unique (sound-of-stream x) (judges-exist (sound-of-stream x) n .part p) j in
+      let e : J false p ≡ _ = judged-unique (judges-exist (sound-of-stream x) n .part p) j in
       verdicts-of-stream x ∙ rw (verdictsOf-append J a p, verdictsBehind-of-record J p full plain, e)
 
   -- two streams that end in one record give it one verdict, whatever stood before it in each

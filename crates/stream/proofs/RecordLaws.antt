@@ -86,7 +86,7 @@ pub verdictsBehind-of-record : (J : Judge) (p : List ℕ) → nonempty p ≡ tru
 unfolding givenAll
 verdictsBehind-of-record J p e h = rw (cutAtRS-of-noRS p h, e)
 
--- so has a record in the head
+-- a record in the head has one verdict
 pub verdictsOf-of-head : (J : Judge) (p : List ℕ) → nonempty p ≡ true → noRS p ≡ true → verdictsOf J p ≡ J true p ∷ []
 unfolding givenAll
 verdictsOf-of-head J p e h = rw (cutAtRS-of-noRS p h, e)

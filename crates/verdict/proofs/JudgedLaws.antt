@@ -2,19 +2,16 @@
 -- verdict: `judged-unique`. So it is the one that the machine finds: `judged-iff-track`. Assumes nothing.
 use mathlib.Core.List.{List}
 use mathlib.Core.Logic.{_↔_}
-use mathlib.Core.Path.{_≡_, refl, sym, ap}
+use mathlib.Core.Path.{_≡_, refl, ap}
 use Prim.Native.Nat.{ℕ, _<_}
 use native.Mathlib.Omega.{arith}
 use lib.ListN.{length}
 use Rattle.json.specs.Tree.{Json}
-use Rattle.json.specs.Meaning.{meaning}
 use Rattle.json.specs.Grammar.{Text, FaultAt}
-use Rattle.json.proofs.Accepted.{accepted-of-text}
+use Rattle.json.proofs.TreeLaws.{text-unique}
 use Rattle.book.specs.Entry.{Entry}
 use Rattle.runs.specs.Runs.{Valid}
 use Rattle.runs.specs.Sound.{Sound}
-use Rattle.runs.specs.Walk.{judging}
-use Rattle.runs.proofs.Judging.{valid-iff-judged}
 use Rattle.verdict.specs.declared.Verdict.{Verdict}
 use Rattle.verdict.specs.declared.Verdict.the-variants as Is
 use Rattle.verdict.specs.Verdict.{longest, DeepAt, Fault, too-long, malformed, too-deep, rank, NotLater, earlier, at-one-byte, Earliest, Faultless, Judged, by-fault, by-end, by-book, not-by-book}
@@ -109,41 +106,31 @@ module _ {es : List Entry} {n : ℕ} {p : List ℕ} where
   pub not-judged-head : Judged es n p Is.Head → ⊥
   not-judged-head (by-fault x e) = elim x [ ]
 
-module _ {es : List Entry} (sound-book : Sound es) where
-  -- two trees of one text are both valid, or neither
-  valid-of-same-text : {p : List ℕ} {t u : Json} → Text p t → Text p u → Valid es t → Valid es u
-  valid-of-same-text {p} {t} {u} x y g =
-      let a = accepted-of-text (judging es) x in
-      let b = accepted-of-text (judging es) y in
-      let e : meaning (judging es) t ≡ meaning (judging es) u = cc in
-      valid-iff-judged sound-book u .1 (rw (← e) (valid-iff-judged sound-book t .0 g))
+  -- a part has one verdict
+  pub judged-unique : {v w : Verdict} → Judged es n p v → Judged es n p w → v ≡ w
+  judged-unique (by-fault {v} {i} x f) (by-fault {v = w} {i = j} y g) = same-first-fault x y (f w j y) (g v i x)
+  judged-unique (by-fault x f) (by-end g m) = absurd (g _ _ x)
+  judged-unique (by-fault x f) (by-book g y z) = absurd (g _ _ x)
+  judged-unique (by-fault x f) (not-by-book g y z) = absurd (g _ _ x)
+  judged-unique (by-end f m) (by-fault y g) = absurd (f _ _ y)
+  judged-unique (by-end f m) (by-end g l) = refl
+  judged-unique (by-end f m) (by-book g y z) = absurd (m _ y)
+  judged-unique (by-end f m) (not-by-book g y z) = absurd (m _ y)
+  judged-unique (by-book f x a) (by-fault y g) = absurd (f _ _ y)
+  judged-unique (by-book f x a) (by-end g m) = absurd (m _ x)
+  judged-unique (by-book f x a) (by-book g y b) = refl
+  judged-unique (by-book f x a) (not-by-book g y b) = absurd (b (rw (text-unique x y) at a))
+  judged-unique (not-by-book f x a) (by-fault y g) = absurd (f _ _ y)
+  judged-unique (not-by-book f x a) (by-end g m) = absurd (m _ x)
+  judged-unique (not-by-book f x a) (by-book g y b) = absurd (a (rw (text-unique y x) at b))
+  judged-unique (not-by-book f x a) (not-by-book g y b) = refl
 
-  module _ {n : ℕ} {p : List ℕ} where
-    -- a part has one verdict
-    pub judged-unique : {v w : Verdict} → Judged es n p v → Judged es n p w → v ≡ w
-    judged-unique (by-fault {v} {i} x f) (by-fault {v = w} {i = j} y g) = same-first-fault x y (f w j y) (g v i x)
-    judged-unique (by-fault x f) (by-end g m) = absurd (g _ _ x)
-    judged-unique (by-fault x f) (by-book g y z) = absurd (g _ _ x)
-    judged-unique (by-fault x f) (not-by-book g y z) = absurd (g _ _ x)
-    judged-unique (by-end f m) (by-fault y g) = absurd (f _ _ y)
-    judged-unique (by-end f m) (by-end g l) = refl
-    judged-unique (by-end f m) (by-book g y z) = absurd (m _ y)
-    judged-unique (by-end f m) (not-by-book g y z) = absurd (m _ y)
-    judged-unique (by-book f x a) (by-fault y g) = absurd (f _ _ y)
-    judged-unique (by-book f x a) (by-end g m) = absurd (m _ x)
-    judged-unique (by-book f x a) (by-book g y b) = refl
-    judged-unique (by-book f x a) (not-by-book g y b) = absurd (b (valid-of-same-text x y a))
-    judged-unique (not-by-book f x a) (by-fault y g) = absurd (f _ _ y)
-    judged-unique (not-by-book f x a) (by-end g m) = absurd (m _ x)
-    judged-unique (not-by-book f x a) (by-book g y b) = absurd (a (valid-of-same-text y x b))
-    judged-unique (not-by-book f x a) (not-by-book g y b) = refl
+-- ---- the verdict that the machine finds
 
-  -- ---- the verdict that the machine finds
-
-  module _ (n : ℕ) (p : List ℕ) where
-    -- a verdict is the part's exactly when the machine finds it
-    pub judged-iff-track : (v : Verdict) → Judged es n p v ↔ (v ≡ trackEnd es (track es n (trackStart es) p))
-    judged-iff-track v = (λ j. judged-unique j found, λ e. rw e found)
-      where
-        found : Judged es n p (trackEnd es (track es n (trackStart es) p))
-        found = judged-of-track sound-book n p
+module _ {es : List Entry} (sound-book : Sound es) (n : ℕ) (p : List ℕ) where
+  -- a verdict is the part's exactly when the machine finds it
+  pub judged-iff-track : (v : Verdict) → Judged es n p v ↔ (v ≡ trackEnd es (track es n (trackStart es) p))
+  judged-iff-track v = (λ j. judged-unique j found, λ e. rw e found)
+    where
+      found : Judged es n p (trackEnd es (track es n (trackStart es) p))
+      found = judged-of-track sound-book n p

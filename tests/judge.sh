@@ -1,6 +1,6 @@
 #!/bin/sh
 # Tests ./judge and target/bin/judge of the repository that this file stands in, from outside: what they print, and how they end.
-# The last line is a count; exit status 1 where anything failed. Needs coreutils, awk, find and python3.
+# The last line is a count; exit status 1 where anything failed. Needs coreutils, awk, find and python3; with a C compiler it tries failing reads too.
 set -u
 unset CDPATH
 root=$(cd -- "$(dirname -- "$0")/.." && pwd -P) || exit 1
@@ -242,6 +242,38 @@ mkdir "$work/run/book.txt"
 direct <"$day/day.jsons"
 prints 'a folder named book.txt' "$status" 'number line' '1 0'
 rmdir "$work/run/book.txt"
+# reads.so stands in front of the C library: files are read in pieces of 40 bytes, and after $READS reads every further one fails
+cat >"$work/reads.c" <<'END'
+#include <errno.h>
+#include <stdlib.h>
+#include <sys/syscall.h>
+#include <unistd.h>
+ssize_t read(int fd, void *bytes, size_t size) {
+    static int reads;
+    if (fd > 2 && reads++ >= atoi(getenv("READS"))) {
+        errno = EIO;
+        return -1;
+    }
+    return syscall(SYS_read, fd, bytes, fd > 2 && size > 40 ? 40 : size);
+}
+END
+# reading READS: the program on the example day, its book.txt read so
+reading() {
+    (export READS="$1" LD_PRELOAD="$work/reads.so" && alone) <"$day/day.jsons" >"$work/out" 2>"$work/err"
+    status=$?
+}
+if [ "$(uname -m)" = x86_64 ] && cc -shared -fPIC -o "$work/reads.so" "$work/reads.c" 2>/dev/null; then
+    cp "$day/book.txt" "$work/run/book.txt"
+    # the book has 166 bytes: the fifth read gives the last of them, the sixth says that the file ends
+    for reads in 0 1 4 5; do
+        reading $reads
+        prints "a book whose reading fails after $reads reads" "$status" 'number line' '1 0'
+    done
+    reading 6
+    prints 'a book read in small pieces' 0 'verdict number place' 'valid 0 0' 'invalid 0 0' 'refused 14 8' 'refused 11 3'
+else
+    echo 'skipped: errors in the middle of reading a book, since there is no C compiler for x86-64'
+fi
 cp five.txt "$work/run/book.txt"
 direct </dev/null
 direct_status=$status

@@ -1,4 +1,4 @@
--- Worked examples of load, by computation: the books of 01 and near misses of its refusals. Assumes nothing.
+-- Worked examples of load, by computation: near misses of its refusals, and the entries of book B. Assumes nothing.
 use mathlib.Core.Bool.{true, not, _&&_}
 use mathlib.Core.List.{List, [], _∷_, _++_}
 use mathlib.Core.Path.{_≡_, refl}
@@ -15,6 +15,7 @@ use Rattle.book.specs.Entry.{obj, arr, sameForm, Entry, edge, end-state,
 use Rattle.book.specs.Text.{isEmpty, onto, between, split, isNumber, numberFrom, number}
 use Rattle.book.specs.Line.{isForm, formOf, isKey, keyOf, behindR, isPlain, isKind, kindIn, smallKind, formed, small, entryOf, sayFields, sayParts, sayLine}
 use Rattle.book.specs.Load.{ruleOf, formIn, sameEntry, changesForm, isEdge, edgeCount, tooMany, faultOf, readOn, readLines, namesLine, readBook, firstLine, hasRule, dangles, clashes, firstClash, checkBook, checked, loads}
+use Rattle.book.specs.Examples.{bookB}
 
 -- a book, and the number and line of its answer
 pub record Case : Type 0 where
@@ -25,17 +26,13 @@ pub record Case : Type 0 where
 abbrev pub case : ℕ → ℕ → List ℕ → Case
 case k n b = record { book = b; number = k; line = n }
 
--- the lines of book B
-abbrev pub linesOfB : List ℕ
-linesOfB = ascii "0 obj 0 corners r1 1\n0 obj 1 name str 2\n0 obj 2 - end -\n1 arr 0 - r2 0\n1 arr 0 - end -\n2 arr 0 - int 1\n2 arr 1 - int 2\n2 arr 2 - end -\n"
-
 abbrev pub cases : List Case
 cases =
     case 1 0 ([])  -- 1: nothing
     ∷ case 2 1 (ascii "rule form state key value next")  -- 2: the names line without LF
     ∷ case 2 1 (ascii "rule form state key value next\r\n")  -- 2: the names line with CR
     ∷ case 2 1 (ascii "rule form state key value nexx\n")  -- 2: another name
-    ∷ case 0 0 (namesLine ++ linesOfB)  -- book B
+    ∷ case 0 0 bookB  -- book B
     ∷ case 9 2 (namesLine ++ (ascii "0 obj 0 a int 0\n"))  -- 9: the edge of the example, whose next is its own state
     ∷ case 3 2 (namesLine ++ (ascii "0 obj 0 a int\n"))  -- 3: five fields
     ∷ case 3 2 (namesLine ++ (ascii "0 obj 0 a int 1 1\n"))  -- 3: seven fields
@@ -97,17 +94,20 @@ pub too-many : (tooMany (tab nextEdge 0 512) (nextEdge 512) && (not (tooMany (ta
 unfolding same any isEdge edgeCount tooMany withKey keysFrom keysOf
 too-many = refl
 
--- `corners`
-abbrev pub corners : List ℕ
-corners = ascii "corners"
+-- the entries of book B
+abbrev pub entriesB : List Entry
+entriesB =
+    edge 0 obj 0 (ascii "corners") (Rule 1) 1
+    ∷ edge 0 obj 1 (ascii "name") (Plain Str) 2
+    ∷ end-state 0 obj 2
+    ∷ edge 1 arr 0 [] (Rule 2) 0
+    ∷ end-state 1 arr 0
+    ∷ edge 2 arr 0 [] (Plain Int) 1
+    ∷ edge 2 arr 1 [] (Plain Int) 2
+    ∷ end-state 2 arr 2
+    ∷ []
 
--- `name`
-abbrev pub name : List ℕ
-name = ascii "name"
-
--- book B loads to its entries
-pub book-B-entries : loads (namesLine ++ linesOfB) .entries
-    ≡ edge 0 obj 0 corners (Rule 1) 1 ∷ edge 0 obj 1 name (Plain Str) 2 ∷ end-state 0 obj 2 ∷ edge 1 arr 0 [] (Rule 2) 0 ∷ end-state 1 arr 0
-    ∷ edge 2 arr 0 [] (Plain Int) 1 ∷ edge 2 arr 1 [] (Plain Int) 2 ∷ end-state 2 arr 2 ∷ []
+-- load gives them for its bytes
+pub loads-bookB : loads bookB ≡ record { number = 0; line = 0; entries = entriesB }
 unfolding same all any isEmpty onto split between isNumber numberFrom number isForm formOf isKey keyOf behindR isPlain isKind kindIn smallKind formed small entryOf sayFields sayParts sayLine ruleOf formIn sameForm sameEntry changesForm isEdge edgeCount tooMany faultOf readOn readLines readBook firstLine hasRule dangles clashes firstClash checkBook checked loads withKey keysFrom keysOf numberOf clash codeOf
-book-B-entries = refl
+loads-bookB = refl

@@ -3,3 +3,4 @@ pub mod Text
 pub mod Line
 pub mod Load
 pub mod Holds
+pub mod Examples

@@ -1,30 +1,32 @@
 -- What the theorems ask of an accepted book: load sees to it. Assumes nothing.
-use mathlib.Core.Bool.{Bool, true, false, not, _&&_}
+use mathlib.Core.Bool.{true, false}
 use mathlib.Core.List.{List, [], _∷_, _++_, List·Memᴰ, List·Memᴰ·head, List·Memᴰ·tail}
 use mathlib.Core.Path.{_≡_, refl, sym, ap, _∙_}
-use Prim.Native.Nat.{ℕ, _<_, _≤_}
+use Prim.Native.Nat.{ℕ, _≤_}
 use native.Mathlib.Omega.{arith}
 use lib.Dec.{T, ltb, leb}
 use lib.ListN.{length}
 use borrow.Author.Tests.{leb-true, lt-ltb}
 use Rattle.laws.specs.Lists.{all, any, same}
-use Rattle.laws.proofs.TestLaws.{T-of-true, cond-elim}
+use Rattle.laws.proofs.TestLaws.{cond-elim}
+use Rattle.json.specs.Tree.{Json, object, Pairs}
 use Rattle.table.specs.Table.{Table}
 use Rattle.table.specs.declared.kind.ValueKind.{ValueKind}
-use Rattle.book.specs.Entry.{Form, obj, arr, Entry, edge, end-state, withKey, keysFrom, keysOf, clash}
+use Rattle.book.specs.Entry.{obj, arr, Entry, edge, end-state, withKey, keysFrom, keysOf, clash}
 use Rattle.book.specs.Text.{isEmpty, between}
 use Rattle.book.specs.Line.{isVisible}
-use Rattle.book.specs.Load.{ruleOf, formIn, loads}
-use Rattle.book.specs.Holds.{formCode, ruleForm}
+use Rattle.book.specs.Load.{ruleOf, formIn}
+use Rattle.book.specs.Holds.{ruleForm}
 use Rattle.book.proofs.HoldLaws.{Each, FormKept, form-of-code}
 use Rattle.book.proofs.TruthLaws.{and-true, true-not-false}
-use Rattle.load.specs.Proper.{isArr, ProperEdge, Proper}
+use Rattle.load.specs.Proper.{isArr, Proper}
 use Rattle.load.specs.Step.{tableOf}
 use Rattle.load.proofs.KeptLaws.{Loading}
 use Rattle.load.proofs.LoadedLaws.{loads-kept, loads-apart}
-use Rattle.runs.specs.Runs.{_∈_}
-use Rattle.runs.specs.Sound.{Sound}
-use Rattle.meaning.specs.Shows.{EdgeLimits, Carries}
+use Rattle.runs.specs.Runs.{_∈_, Within, Valid}
+use Rattle.runs.specs.Sound.{Sound, StatesBelow16}
+use Rattle.runs.proofs.LengthLaws.{pairCount, pairs-le-15-of-valid}
+use Rattle.meaning.specs.Shows.{Carries}
 use Rattle.follows.specs.Follows.{PlainKeys}
 use Rattle.demand.specs.Book.{Book}
 
@@ -125,3 +127,11 @@ module _ {t : Table} {es : List Entry} (book : Book t es) where
     where
       apart : Each (λ u. Each (λ z. clash (keysOf es) u z ≡ false) es) es
       apart = rw (← (book .entries)) (loads-apart (book .bytes))
+
+  -- its states are those from 0 to 15
+  pub below-of-book : StatesBelow16 es
+  below-of-book = record { next-below = λ i. of-each Proper es (loading .proper) i .next }
+
+  -- so an object within a text that is valid by it has at most 15 pairs
+  pub pairs-le-15-of-book : {v : Json} {ps : Pairs} → Valid es v → Within (object ps) v → pairCount ps ≤ 15
+  pairs-le-15-of-book g h = pairs-le-15-of-valid sound-of-book below-of-book g h

@@ -1,9 +1,8 @@
 -- Demand 3 in the customer's words, of the books that load accepts. Assumes nothing.
-use mathlib.Core.Bool.{true, false}
+use mathlib.Core.Bool.{true}
 use mathlib.Core.List.{List, [], _∷_, _++_, getLast?}
 use mathlib.Core.Path.{_≡_}
 use Prim.Native.Nat.{ℕ, _≤_}
-use lib.ListN.{length}
 use Rattle.table.specs.Table.{Table}
 use Rattle.book.specs.Entry.{Entry}
 use Rattle.book.proofs.TruthLaws.{true-not-false}
@@ -32,6 +31,10 @@ loaded-never-above-limit t w e calls c b r l q said =
     true-not-false _ (loaded-withinLimits b r l) (rw q at (never-above-limit t w e calls c said))
 
 module _ (es : List Entry) (n : ℕ) (least : 1 ≤ n) (most : n ≤ 64) where
+  -- a book that load accepts
+  pub book-of-stream : {r : Reader} {cs : List Call} {s : List ℕ} → StreamOf Book es n r cs s → (t : Table) × Book t es
+  book-of-stream x = of-bytes.book-of-stream reading es n least most x
+
   -- one verdict for each record of the bytes, in stream order
   pub verdicts-of-stream : {r : Reader} {cs : List Call} {s : List ℕ} → StreamOf Book es n r cs s
       → verdictsIn (answers r cs) ≡ verdictsOf (judgeOf es n) s
@@ -51,6 +54,11 @@ module _ (es : List Entry) (n : ℕ) (least : 1 ≤ n) (most : n ≤ 64) where
       → StreamOf Book es n r cs (a ++ (0x1E ∷ (p ++ (0x1E ∷ z))))
       → verdictsIn (answers r cs) ≡ verdictsOf (judgeOf es n) a ++ (v ∷ verdictsBehind (judgeOf es n) z)
   record-alone a p z full plain j x = of-bytes.record-alone reading es n least most a p z full plain j x
+
+  -- the same of a last record, which the close ends
+  pub last-record-alone : {r : Reader} {cs : List Call} {v : Verdict} (a p : List ℕ) → nonempty p ≡ true → noRS p ≡ true → Judged es n p v
+      → StreamOf Book es n r cs (a ++ (0x1E ∷ p)) → verdictsIn (answers r cs) ≡ verdictsOf (judgeOf es n) a ++ (v ∷ [])
+  last-record-alone a p full plain j x = of-bytes.last-record-alone reading es n least most a p full plain j x
 
   -- the last record of two streams, whatever stands before it
   pub same-verdict-of-same-record : {r q : Reader} {cs ds : List Call} (a b p : List ℕ) → nonempty p ≡ true → noRS p ≡ true

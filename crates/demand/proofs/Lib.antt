@@ -3,3 +3,4 @@ pub mod Demand
 pub mod Corollaries
 pub mod FeedLaws
 pub mod ReadingLaws
+pub mod Exactly

@@ -30,13 +30,56 @@ fn work_space() -> [u8; WORK]
     [0; WORK]
 }
 
-// The bytes of book.txt; none where it cannot be read.
+// The bytes read with so many more; the same where there are not so many.
+fn read_more(read: usize, more: usize, len: usize) -> usize
+    requires { ⌜ read ≤ len ⌝ }
+    ensures { λ r. ⌜ r ≤ len ⌝ }
+{
+    if len - read < more {
+        return read;
+    }
+    read + more
+}
+
+// What one read of a file gave: how many bytes, 0 at the end of the file, and whether it failed.
+struct Got {
+    bytes: usize,
+    failed: bool,
+}
+
+fn read_some(fd: i32, space: &mut [u8]) -> Got {
+    let got = libc::read(fd, space);
+    let n = io::count(got, space);
+    Got {
+        bytes: n,
+        failed: got < 0,
+    }
+}
+
+// Reads a file to its end, or until the space is full, and gives the number of bytes. Where a read fails it is 0, whatever was read before.
+fn read_file(fd: i32, space: &mut [u8]) -> usize {
+    let mut n = 0;
+    while n < space.len() {
+        let got = read_some(fd, &mut space[n..]);
+        if got.failed {
+            return 0;
+        }
+        let next = read_more(n, got.bytes, space.len());
+        if next <= n {
+            return n;
+        }
+        n = next;
+    }
+    n
+}
+
+// The bytes of book.txt; none where it cannot be read to its end.
 fn read_book(space: &mut [u8]) -> usize {
     let fd = os::open_read(b"book.txt");
     if fd < 0 {
         return 0;
     }
-    let n = io::read_full(fd, space);
+    let n = read_file(fd, space);
     libc::close(fd);
     n
 }
@@ -68,17 +111,6 @@ fn stopped(r: Reader) -> State {
 struct Part {
     reader: Reader,
     read: usize,
-}
-
-// The bytes read with so many more; the same where there are not so many.
-fn read_more(read: usize, more: usize, len: usize) -> usize
-    requires { ⌜ read ≤ len ⌝ }
-    ensures { λ r. ⌜ r ≤ len ⌝ }
-{
-    if len - read < more {
-        return read;
-    }
-    read + more
 }
 
 // Reports what is unread of a piece, and prints its lines. Where they cannot be printed, no more counts as read.

@@ -1,4 +1,4 @@
--- `Carries` can be met: the table of book B of 01 keeps book B, by computation. Assumes nothing.
+-- `Carries` can be met: the table of book B keeps the entries that load gives for it, by computation. Assumes nothing.
 use mathlib.Core.Bool.{Bool, true, false, not, _&&_, Bool·beq}
 use mathlib.Core.List.{List, [], _∷_, _++_}
 use mathlib.Core.Path.{_≡_, refl}
@@ -16,9 +16,10 @@ use Rattle.table.specs.Table.{Table}
 use Rattle.table.specs.declared.kind.ValueKind.{ValueKind}
 use Rattle.table.specs.Keys.{tableKeys, numberOf}
 use Rattle.book.specs.Entry.{Form, obj, arr, sameForm, Entry, edge, end-state, withKey, keysFrom, keysOf}
-use Rattle.book.specs.Load.{ruleOf, formIn, changesForm}
+use Rattle.book.specs.Load.{ruleOf, formIn, changesForm, loads}
 use Rattle.book.specs.Holds.{tableEdges, keyNumber, edgesFrom, edgesOf, formCode, ruleForm, endsAt, Holds}
-use Rattle.runs.specs.Examples.{bookB}
+use Rattle.book.specs.Examples.{bookB}
+use Rattle.book.proofs.Examples.{entriesB, loads-bookB}
 use Rattle.laws.proofs.ListLaws.{T-of-all}
 use Rattle.meaning.specs.Shows.{EdgeLimits, Carries}
 
@@ -114,19 +115,22 @@ tableB = record {
   forms = 1 ∷ 2 ∷ 2 ∷ [];
 }
 
-holds-b : Holds tableB bookB
+holds-b : Holds tableB entriesB
 unfolding tableEdges tableKeys keyNumber edgesFrom edgesOf formCode ruleForm endsAt ruleOf formIn withKey keysFrom keysOf numberOf same any codeOf bitAt
 holds-b = record {
   keyed = refl;
   edged = refl;
-  formed = λ r l. eq-of-every (λ (r : ℕ). getD (tableB .forms) r 0) (λ (r : ℕ). ruleForm bookB r) 32 tt r l;
-  ended = λ r q l g. eq-of-beq (bitAt (tableB .ends) (16 * r + q)) (any (endsAt r q) bookB) (T-of-every (right r) 16 (T-of-every (λ (r : ℕ). every (right r) 0 16) 32 tt r l) q g);
+  formed = λ r l. eq-of-every (λ (r : ℕ). getD (tableB .forms) r 0) (λ (r : ℕ). ruleForm entriesB r) 32 tt r l;
+  ended = λ r q l g. eq-of-beq (bitAt (tableB .ends) (16 * r + q)) (any (endsAt r q) entriesB) (T-of-every (right r) 16 (T-of-every (λ (r : ℕ). every (right r) 0 16) 32 tt r l) q g);
 }
   where
     right : ℕ → ℕ → Bool
-    right r q = Bool·beq (bitAt (tableB .ends) (16 * r + q)) (any (endsAt r q) bookB)
+    right r q = Bool·beq (bitAt (tableB .ends) (16 * r + q)) (any (endsAt r q) entriesB)
+
+kept-entriesB : Carries tableB entriesB
+unfolding inOrder within rightKey all changesForm sameForm ruleOf formIn codeOf
+kept-entriesB = kept-of-inOrder tableB entriesB holds-b (lit≤ tt) (lit≤ tt) tt
 
 -- it keeps book B
-pub kept-b : Carries tableB bookB
-unfolding inOrder within rightKey all changesForm sameForm ruleOf formIn codeOf
-kept-b = kept-of-inOrder tableB bookB holds-b (lit≤ tt) (lit≤ tt) tt
+pub kept-b : Carries tableB (loads bookB .entries)
+kept-b = rw loads-bookB kept-entriesB

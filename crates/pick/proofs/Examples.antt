@@ -2,8 +2,8 @@
 use mathlib.Core.List.{List, [], _∷_}
 use mathlib.Core.Path.{_≡_, refl}
 use Prim.Native.Nat.{ℕ}
-use Rattle.stream.specs.Records.{cutAtRS}
-use Rattle.pick.specs.Pick.{nonempties, pickOf}
+use Rattle.stream.specs.Records.{cutAtRS, nonempties}
+use Rattle.pick.specs.Pick.{pickOf}
 
 abbrev bytes : List ℕ
 bytes = 0x7A ∷ 0x1E ∷ 0x5B ∷ 0x1E ∷ 0x1E ∷ 0x31 ∷ []

@@ -12,35 +12,16 @@ use Rattle.verdict.specs.declared.Verdict.the-variants as Is
 use Rattle.reader.specs.declared.Reader.{Reader}
 use Rattle.stream.specs.Paper.{Call, Judge, nonempty}
 use Rattle.stream.specs.Claim.{answers}
-use Rattle.stream.specs.Records.{cutAtRS, givenAll, verdictsOf, verdictsIn, StreamOf}
+use Rattle.stream.specs.Records.{cutAtRS, nonempties, recordsOf, givenAll, verdictsOf, verdictsIn, StreamOf}
 use Rattle.stream.proofs.JudgeLaws.{judgeOf}
+use Rattle.stream.proofs.RecordLaws.{length-verdictsOf}
 use Rattle.demand.specs.Book.{Book}
 use Rattle.demand.proofs.Corollaries.{verdicts-of-stream, judge-of-stream}
-use Rattle.pick.specs.Pick.{nonempties, recordsOf, pickOf, isHead, HasVerdict}
+use Rattle.pick.specs.Pick.{pickOf, isHead, HasVerdict}
 
 -- ---- records and verdicts stand in the same order
 
 module _ (J : Judge) where
-  length-givenAll : (ps : List (List ℕ)) → length (givenAll J ps) ≡ length (nonempties ps)
-  unfolding givenAll nonempties
-  length-givenAll [] = refl
-  length-givenAll (p ∷ ps) = go (nonempty p) (length-givenAll ps)
-    where
-      go : (x : Bool) → length (givenAll J ps) ≡ length (nonempties ps)
-          → length (cond x (J false p ∷ givenAll J ps) (givenAll J ps)) ≡ length (cond x (p ∷ nonempties ps) (nonempties ps))
-      go true e = rw e
-      go false e = e
-
-  length-verdictsOf : (s : List ℕ) → length (verdictsOf J s) ≡ length (recordsOf s)
-  unfolding nonempties
-  length-verdictsOf s = go (nonempty (cutAtRS s .first)) (length-givenAll (cutAtRS s .behind))
-    where
-      go : (x : Bool) → length (givenAll J (cutAtRS s .behind)) ≡ length (nonempties (cutAtRS s .behind))
-          → length (cond x (J true (cutAtRS s .first) ∷ givenAll J (cutAtRS s .behind)) (givenAll J (cutAtRS s .behind)))
-          ≡ length (cond x (cutAtRS s .first ∷ nonempties (cutAtRS s .behind)) (nonempties (cutAtRS s .behind)))
-      go true e = rw e
-      go false e = e
-
   -- verdict k of parts behind an RS is that of their record k
   given-at : (ps : List (List ℕ)) (k : ℕ) (d : Verdict) → k < length (nonempties ps) → getD (givenAll J ps) k d ≡ J false (getD (nonempties ps) k [])
   unfolding givenAll nonempties

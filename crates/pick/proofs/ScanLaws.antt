@@ -10,9 +10,9 @@ use lib.Seq.{drop-cons, take-suc, getD-drop}
 use borrow.Author.Tests.{ltb-true, ltb-false, eqb-true, eqb-false}
 use Rattle.laws.proofs.TestLaws.{true-neq-false}
 use Rattle.stream.specs.Paper.{nonempty}
-use Rattle.stream.specs.Records.{cutAtRS}
+use Rattle.stream.specs.Records.{cutAtRS, nonempties}
 use Rattle.stream.proofs.RecordLaws.{cutAtRS-of-RS, cutAtRS-of-byte}
-use Rattle.pick.specs.Pick.{nonempties, pickOf}
+use Rattle.pick.specs.Pick.{pickOf}
 use Rattle.pick.specs.Scan.{endsPart, isIt, counted, partStart}
 
 -- the record to pick, when p is open before the bytes s and n records are to pass

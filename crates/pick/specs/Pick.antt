@@ -1,6 +1,6 @@
--- The records of a stream slice, and the one that has verdict n: 01, "The stream" and Pick. Stated. Assumes nothing.
-use mathlib.Core.Bool.{Bool, true, false, cond, _&&_}
-use mathlib.Core.List.{List, [], _∷_}
+-- The record of a stream slice that has verdict n: REQUIREMENT.md, section 7, Pick. Stated. Assumes nothing.
+use mathlib.Core.Bool.{Bool, true, false, _&&_}
+use mathlib.Core.List.{List, []}
 use mathlib.Core.Path.{_≡_}
 use Prim.Native.Nat.{ℕ}
 use lib.Dec.{eqb}
@@ -10,16 +10,7 @@ use Rattle.verdict.specs.declared.Verdict.{Verdict}
 use Rattle.verdict.specs.declared.Verdict.the-variants as Is
 use Rattle.verdict.specs.Verdict.{Judged}
 use Rattle.stream.specs.Paper.{nonempty}
-use Rattle.stream.specs.Records.{cutAtRS}
-
--- each nonempty part is a record; empty parts are none
-unfoldable pub nonempties : List (List ℕ) → List (List ℕ)
-nonempties [] = []
-nonempties (p ∷ ps) = cond (nonempty p) (p ∷ nonempties ps) (nonempties ps)
-
--- the records of a slice in stream order, head included
-abbrev pub recordsOf : List ℕ → List (List ℕ)
-recordsOf s = nonempties (cutAtRS s .first ∷ cutAtRS s .behind)
+use Rattle.stream.specs.Records.{cutAtRS, recordsOf}
 
 -- the record that has verdict n, counted from 0; an empty part where none has
 unfoldable pub pickOf : List ℕ → ℕ → List ℕ

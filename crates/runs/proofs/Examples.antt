@@ -1,7 +1,7 @@
--- The examples hold, by computation of what is judged. Assumes nothing.
+-- The examples hold, by computation of what is judged, with the entries that load gives for book B. Assumes nothing.
 use mathlib.Core.Bool.{Bool, true, false, _&&_, Bool·beq}
 use mathlib.Core.List.{List·Memᴰ}
-use mathlib.Core.Path.{_≡_}
+use mathlib.Core.Path.{_≡_, sym, subst}
 use lib.Dec.{T}
 use Rattle.laws.specs.Lists.{same, all, any}
 use Rattle.laws.proofs.TestLaws.{T-and-left, T-and-right, eq-of-beq}
@@ -10,10 +10,12 @@ use Rattle.json.specs.Meaning.{meaning}
 use Rattle.table.specs.declared.kind.ValueKind.the-variants.{Rule}
 use Rattle.table.specs.Keys.{numberOf}
 use Rattle.book.specs.Entry.{sameForm, withKey, keysFrom, keysOf, clash}
+use Rattle.book.specs.Load.{PaperAnswer}
+use Rattle.book.proofs.Examples.{entriesB, loads-bookB}
 use Rattle.runs.specs.Runs.{beginsPart, Valid}
 use Rattle.runs.specs.Sound.{isKeyed, isSound}
 use Rattle.runs.specs.Walk.{ofScalar, ofRules, ofWord, isOf, asks, ofArray, hasKey, anyEdge, leads, endsIn, startOf, moved, hasEnd, afterElement, keyCount, numberIn, atOpening, afterKey, fitsEdge, afterValue, useKey, walk, objectFits, judging}
-use Rattle.runs.specs.Examples.{Row, rows}
+use Rattle.runs.specs.Examples.{Row, rowsWith, rows}
 use Rattle.runs.proofs.SoundLaws.{sound-of-isSound}
 use Rattle.runs.proofs.Judging.{valid-iff-judged, invalid-iff-judged}
 
@@ -30,9 +32,12 @@ judgement x = meaning (judging (x .book)) (x .value) (Rule 0)
 agrees : Row → Bool
 agrees x = isSound (x .book) && Bool·beq (judgement x) (x .verdict)
 
-rows-agree : T (all agrees rows)
+agree-with-entriesB : T (all agrees (rowsWith entriesB))
 unfolding agrees judgement isSound isKeyed clash all any same withKey keysFrom keysOf numberOf beginsPart ofScalar ofRules ofWord sameForm isOf asks ofArray hasKey anyEdge leads endsIn startOf moved hasEnd afterElement keyCount numberIn atOpening afterKey fitsEdge afterValue useKey walk objectFits
-rows-agree = tt
+agree-with-entriesB = tt
+
+rows-agree : T (all agrees rows)
+rows-agree = subst (λ (x : PaperAnswer). T (all agrees (rowsWith (x .entries)))) (sym loads-bookB) agree-with-entriesB
 
 says-of-judgement : (x : Row) → T (isSound (x .book)) → (b : Bool) → judgement x ≡ b → Says b x
 unfolding judgement

@@ -1,48 +1,47 @@
--- Books and values, each with its verdict: 01, "An example day", those examples that are trees; then a book of our own, for the slips that 01
--- names. Stated. Assumes nothing.
+-- Books and values, each with its verdict: REQUIREMENT.md, section 8, those examples that are trees; then a book of our own, for the slips that are
+-- to be ruled out. Stated. Assumes nothing.
 use mathlib.Core.Bool.{Bool, true, false}
 use mathlib.Core.List.{List, [], _∷_}
 use Prim.Native.Nat.{ℕ}
+use Rattle.laws.specs.Ascii.{ascii}
 use Rattle.json.specs.Tree.{Json, string, number, array, object, no-values, values, no-pairs, pairs}
-use Rattle.table.specs.declared.kind.Scalar.the-variants.{Str, Num, Int}
+use Rattle.table.specs.declared.kind.Scalar.the-variants.{Num, Int}
 use Rattle.table.specs.declared.kind.ValueKind.the-variants.{Plain, Rule}
 use Rattle.book.specs.Entry.{obj, arr, Entry, edge, end-state}
+use Rattle.book.specs.Load.{loads}
+use Rattle.book.specs.Examples.{bookB}
 
 -- ---- keys and values
 
--- `corners`
 abbrev corners : List ℕ
-corners = 99 ∷ 111 ∷ 114 ∷ 110 ∷ 101 ∷ 114 ∷ 115 ∷ []
+corners = ascii "corners"
 
--- `name`
 abbrev name : List ℕ
-name = 110 ∷ 97 ∷ 109 ∷ 101 ∷ []
+name = ascii "name"
 
--- `a`, `b`, `c`, `d`, `z`
 abbrev a : List ℕ
-a = 97 ∷ []
+a = ascii "a"
 
 abbrev b : List ℕ
-b = 98 ∷ []
+b = ascii "b"
 
 abbrev c : List ℕ
-c = 99 ∷ []
+c = ascii "c"
 
 abbrev d : List ℕ
-d = 100 ∷ []
+d = ascii "d"
 
 abbrev z : List ℕ
-z = 122 ∷ []
+z = ascii "z"
 
--- the numbers 1, 2 and 1.0
 abbrev one : Json
-one = number (49 ∷ [])
+one = number (ascii "1")
 
 abbrev two : Json
-two = number (50 ∷ [])
+two = number (ascii "2")
 
 abbrev one-point-zero : Json
-one-point-zero = number (49 ∷ 46 ∷ 48 ∷ [])
+one-point-zero = number (ascii "1.0")
 
 -- the string without characters
 abbrev empty : Json
@@ -63,19 +62,6 @@ abbrev object2 : List ℕ → Json → List ℕ → Json → Json
 object2 k v l w = object (pairs k v (pairs l w no-pairs))
 
 -- ---- books
-
--- book B
-abbrev pub bookB : List Entry
-bookB =
-    edge 0 obj 0 corners (Rule 1) 1
-    ∷ edge 0 obj 1 name (Plain Str) 2
-    ∷ end-state 0 obj 2
-    ∷ edge 1 arr 0 [] (Rule 2) 0
-    ∷ end-state 1 arr 0
-    ∷ edge 2 arr 0 [] (Plain Int) 1
-    ∷ edge 2 arr 1 [] (Plain Int) 2
-    ∷ end-state 2 arr 2
-    ∷ []
 
 -- a book in which each state of rule 0 is an end state, so that a pair which is passed over shows
 abbrev pub bookC : List Entry
@@ -102,24 +88,25 @@ pub record Row : Type 0 where
 abbrev row : List Entry → Json → Bool → Row
 row es v x = record { book = es; value = v; verdict = x }
 
-abbrev pub rows : List Row
-rows =
+-- the rows, where es are the entries of book B
+abbrev pub rowsWith : List Entry → List Row
+rowsWith es =
     -- {}
-    row bookB (object no-pairs) false
+    row es (object no-pairs) false
     -- {"corners":[],"name":""}
-    ∷ row bookB (object2 corners (array no-values) name empty) true
+    ∷ row es (object2 corners (array no-values) name empty) true
     -- {"name":"","corners":[]}
-    ∷ row bookB (object2 name empty corners (array no-values)) true
+    ∷ row es (object2 name empty corners (array no-values)) true
     -- {"name":"","name":"","corners":[]}
-    ∷ row bookB (object (pairs name empty (pairs name empty (pairs corners (array no-values) no-pairs)))) false
+    ∷ row es (object (pairs name empty (pairs name empty (pairs corners (array no-values) no-pairs)))) false
     -- {"name":""}
-    ∷ row bookB (object1 name empty) false
+    ∷ row es (object1 name empty) false
     -- {"corners":[[1.0,2]],"name":""}
-    ∷ row bookB (object2 corners (list1 (list2 one-point-zero two)) name empty) false
+    ∷ row es (object2 corners (list1 (list2 one-point-zero two)) name empty) false
     -- {"corners":[[1,2]],"name":""}
-    ∷ row bookB (object2 corners (list1 (list2 one two)) name empty) true
+    ∷ row es (object2 corners (list1 (list2 one two)) name empty) true
     -- 12
-    ∷ row bookB (number (49 ∷ 50 ∷ [])) false
+    ∷ row es (number (ascii "12")) false
     -- {}
     ∷ row bookC (object no-pairs) true
     -- {"a":""}: a key seen that no edge takes
@@ -143,3 +130,6 @@ rows =
     -- []: an array under an `obj` rule
     ∷ row bookC (array no-values) false
     ∷ []
+
+abbrev pub rows : List Row
+rows = rowsWith (loads bookB .entries)

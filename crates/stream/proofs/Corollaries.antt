@@ -69,16 +69,19 @@ module _ {Book : Table → List Entry → Type 0} {Tracks : (es : List Entry) �
     verdicts-of-bytes r cs s f fair h = verdicts-of-stands nothing r opening cs s (good-of-fresh n r f) (f, refl) fair h
 
   -- a fair stream that hands over bytes and closes has an accepted book
-  sound-of-hands : (k : Held Book) (r : Reader) (cs : List Call) (s : List ℕ) → Fair Book es n k r cs → Hands n r cs s → Sound es
+  book-of-hands : (k : Held Book) (r : Reader) (cs : List Call) (s : List ℕ) → Fair Book es n k r cs → Hands n r cs s → (t : Table) × Book t es
   unfolding Fair
-  sound-of-hands k r _ _ fair (closed {t = t} {w = w} e) = facts .sound ((rw e at fair) .0)
-  sound-of-hands k r _ _ fair (fed {t = t} {w = w} {s = s} u e rest) = facts .sound ((rw e at fair) .0)
-  sound-of-hands k r _ s fair (refused {c = c} {cs = cs} e rest) = sound-of-hands k (run r c .reader) cs s (rw e at fair) rest
+  book-of-hands k r _ _ fair (closed {t = t} {w = w} e) = (t, (rw e at fair) .0)
+  book-of-hands k r _ _ fair (fed {t = t} {w = w} {s = s} u e rest) = (t, (rw e at fair) .0)
+  book-of-hands k r _ s fair (refused {c = c} {cs = cs} e rest) = book-of-hands k (run r c .reader) cs s (rw e at fair) rest
 
   module _ {r : Reader} {cs : List Call} {s : List ℕ} (x : StreamOf Book es n r cs s) where
+    pub book-of-stream : (t : Table) × Book t es
+    book-of-stream = book-of-hands nothing r cs s (x .fair) (x .hands)
+
     -- its book is accepted, so its parts have a judge
     pub sound-of-stream : Sound es
-    sound-of-stream = sound-of-hands nothing r cs s (x .fair) (x .hands)
+    sound-of-stream = facts .sound (book-of-stream .1)
 
     -- and its verdicts are those of its bytes
     pub verdicts-of-stream : verdictsIn (answers r cs) ≡ verdictsOf (judgeOf es n) s
@@ -95,7 +98,7 @@ module _ {Book : Table → List Entry → Type 0} {Tracks : (es : List Entry) �
       → verdictsIn (answers r cs) ≡ verdictsOf (judgeOf es n) a ++ (v ∷ verdictsBehind (judgeOf es n) z)
   record-alone a p z full plain j x =
       let J : Judge = judgeOf es n in
-      let e : J false p ≡ _ = judged-unique (sound-of-stream x) (judges-exist (sound-of-stream x) n .part p) j in
+      let e : J false p ≡ _ = judged-unique (judges-exist (sound-of-stream x) n .part p) j in
       verdicts-of-stream x ∙ rw (verdictsOf-append J a (p ++ (0x1E ∷ z)), verdictsBehind-append J p z, verdictsBehind-of-record J p full plain, e)
 
   -- here a close ends it
@@ -103,7 +106,7 @@ module _ {Book : Table → List Entry → Type 0} {Tracks : (es : List Entry) �
       → StreamOf Book es n r cs (a ++ (0x1E ∷ p)) → verdictsIn (answers r cs) ≡ verdictsOf (judgeOf es n) a ++ (v ∷ [])
   last-record-alone a p full plain j x =
       let J : Judge = judgeOf es n in
-      let e : J false p ≡ _ = judged-unique (sound-of-stream x) (judges-exist (sound-of-stream x) n .part p) j in
+      let e : J false p ≡ _ = judged-unique (judges-exist (sound-of-stream x) n .part p) j in
       verdicts-of-stream x ∙ rw (verdictsOf-append J a p, verdictsBehind-of-record J p full plain, e)
 
   -- two streams that end in one record give it one verdict, whatever stood before it in each

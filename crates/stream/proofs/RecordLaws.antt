@@ -4,14 +4,14 @@ use mathlib.Core.List.{List, [], _∷_, _++_, append-assoc, append-nil}
 use mathlib.Core.Path.{_≡_, refl, sym, ap, _∙_}
 use Prim.Native.Nat.{ℕ, _+_}
 use lib.Dec.{eqb}
-use lib.ListN.{drop}
+use lib.ListN.{length, drop}
 use lib.Seq.{drop-drop}
 use Rattle.laws.specs.Lists.{all}
 use Rattle.verdict.specs.declared.Verdict.{Verdict}
 use Rattle.reader.specs.declared.Answer.the-variants as Says
 use Rattle.stream.specs.Paper.{Judge, Paper, nonempty, Said, goes, ends}
 use Rattle.laws.proofs.TestLaws.{true-neq-false}
-use Rattle.stream.specs.Records.{Parts, withByte, cutAtRS, noRS, given, givenAll, verdictsOf, verdictsBehind, andThen}
+use Rattle.stream.specs.Records.{Parts, withByte, cutAtRS, noRS, nonempties, recordsOf, given, givenAll, verdictsOf, verdictsBehind, andThen}
 
 -- ---- what stands behind an RS
 
@@ -85,6 +85,35 @@ cutAtRS-of-noRS (b ∷ p) h = go (λ g. cutAtRS-of-noRS p g) (eqb b 0x1E) refl h
 pub verdictsBehind-of-record : (J : Judge) (p : List ℕ) → nonempty p ≡ true → noRS p ≡ true → verdictsBehind J p ≡ J false p ∷ []
 unfolding givenAll
 verdictsBehind-of-record J p e h = rw (cutAtRS-of-noRS p h, e)
+
+-- a record in the head has one verdict
+pub verdictsOf-of-head : (J : Judge) (p : List ℕ) → nonempty p ≡ true → noRS p ≡ true → verdictsOf J p ≡ J true p ∷ []
+unfolding givenAll
+verdictsOf-of-head J p e h = rw (cutAtRS-of-noRS p h, e)
+
+-- ---- how many verdicts there are
+
+module _ (J : Judge) where
+  length-givenAll : (ps : List (List ℕ)) → length (givenAll J ps) ≡ length (nonempties ps)
+  unfolding givenAll nonempties
+  length-givenAll [] = refl
+  length-givenAll (p ∷ ps) = go (nonempty p) (length-givenAll ps)
+    where
+      go : (x : Bool) → length (givenAll J ps) ≡ length (nonempties ps)
+          → length (cond x (J false p ∷ givenAll J ps) (givenAll J ps)) ≡ length (cond x (p ∷ nonempties ps) (nonempties ps))
+      go true e = rw e
+      go false e = e
+
+  -- there are as many verdicts as records
+  pub length-verdictsOf : (s : List ℕ) → length (verdictsOf J s) ≡ length (recordsOf s)
+  unfolding nonempties
+  length-verdictsOf s = go (nonempty (cutAtRS s .first)) (length-givenAll (cutAtRS s .behind))
+    where
+      go : (x : Bool) → length (givenAll J (cutAtRS s .behind)) ≡ length (nonempties (cutAtRS s .behind))
+          → length (cond x (J true (cutAtRS s .first) ∷ givenAll J (cutAtRS s .behind)) (givenAll J (cutAtRS s .behind)))
+          ≡ length (cond x (cutAtRS s .first ∷ nonempties (cutAtRS s .behind)) (nonempties (cutAtRS s .behind)))
+      go true e = rw e
+      go false e = e
 
 -- ---- the paper
 

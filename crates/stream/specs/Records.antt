@@ -38,6 +38,15 @@ cutAtRS (b ∷ s) = withByte b (cutAtRS s)
 abbrev pub noRS : List ℕ → Bool
 noRS s = all (λ (b : ℕ). not (eqb b 0x1E)) s
 
+-- each nonempty part is a record; empty parts are none
+unfoldable pub nonempties : List (List ℕ) → List (List ℕ)
+nonempties [] = []
+nonempties (p ∷ ps) = cond (nonempty p) (p ∷ nonempties ps) (nonempties ps)
+
+-- the records of bytes in stream order, head included
+abbrev pub recordsOf : List ℕ → List (List ℕ)
+recordsOf s = nonempties (cutAtRS s .first ∷ cutAtRS s .behind)
+
 -- a nonempty part is a record with one verdict, an empty part has none; vs are the verdicts behind it
 abbrev pub given : Judge → Bool → List ℕ → List Verdict → List Verdict
 given J head p vs = cond (nonempty p) (J head p ∷ vs) vs

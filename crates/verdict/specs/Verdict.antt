@@ -68,13 +68,21 @@ pub data NotLater (a : Verdict) (i : ℕ) (b : Verdict) (j : ℕ) : Type 0 where
   earlier : i < j → NotLater a i b j
   at-one-byte : i ≡ j → rank a ≤ rank b → NotLater a i b j
 
--- ---- the verdict of a part behind an RS, with n frames and the entries of the book
+-- of a part's faults, the one at byte i that brings v is the earliest
+abbrev pub Earliest : ℕ → List ℕ → Verdict → ℕ → Type 0
+Earliest n p v i = (w : Verdict) (j : ℕ) → Fault n p w j → NotLater v i w j
+
+-- a part with none of the three
+abbrev pub Faultless : ℕ → List ℕ → Type 0
+Faultless n p = (w : Verdict) (j : ℕ) → Fault n p w j → ⊥
+
+-- ---- the verdict of a part after an RS, with n frames and the entries of the book
 
 pub data Judged (es : List Entry) (n : ℕ) (p : List ℕ) : Verdict → Type 0 where
   -- the earliest fault is its first fault
-  by-fault : {v : Verdict} {i : ℕ} → Fault n p v i → ((w : Verdict) (j : ℕ) → Fault n p w j → NotLater v i w j) → Judged es n p v
+  by-fault : {v : Verdict} {i : ℕ} → Fault n p v i → Earliest n p v i → Judged es n p v
   -- a part with none that is no whole text has its first fault at its end
-  by-end : ((w : Verdict) (j : ℕ) → Fault n p w j → ⊥) → ((t : Json) → Text p t → ⊥) → Judged es n p (Is.Unfinished (length p))
+  by-end : Faultless n p → ((t : Json) → Text p t → ⊥) → Judged es n p (Is.Unfinished (length p))
   -- any other is valid or invalid
-  by-book : {t : Json} → ((w : Verdict) (j : ℕ) → Fault n p w j → ⊥) → Text p t → Valid es t → Judged es n p Is.Valid
-  not-by-book : {t : Json} → ((w : Verdict) (j : ℕ) → Fault n p w j → ⊥) → Text p t → (Valid es t → ⊥) → Judged es n p Is.Invalid
+  by-book : {t : Json} → Faultless n p → Text p t → Valid es t → Judged es n p Is.Valid
+  not-by-book : {t : Json} → Faultless n p → Text p t → (Valid es t → ⊥) → Judged es n p Is.Invalid

@@ -8,7 +8,7 @@ use lib.Dec.{eqb, ltb}
 use lib.ListN.{length, take, drop}
 use Rattle.table.specs.Table.{Table}
 use Rattle.book.specs.Load.{loads}
-use Rattle.load.specs.Step.{tableOf}
+use Rattle.load.specs.Loads.{bookTable}
 use Rattle.reader.specs.declared.Reader.{Reader}
 use Rattle.reader.specs.declared.Answer.{Answer}
 use Rattle.reader.specs.declared.Answer.the-variants as Says
@@ -102,7 +102,7 @@ started t size w s =
 
 unfoldable pub judges : List ℕ → ℕ → List ℕ → List ℕ → StreamEntries
 judges b size w s =
-    cond (eqb (loads b .number) 0) (started (tableOf (loads b .entries)) size w s)
+    cond (eqb (loads b .number) 0) (started (bookTable b) size w s)
     (record { work = w; entries = refusalEntry (loads b .number) (loads b .line) 0 ∷ [] })
 
 -- ---- what a call gives and leaves

@@ -22,7 +22,7 @@ use Rattle.book.proofs.TruthLaws.{and-true, true-not-false}
 use Rattle.load.specs.Proper.{isArr, Proper}
 use Rattle.load.specs.Step.{tableOf}
 use Rattle.load.proofs.KeptLaws.{Loading}
-use Rattle.load.proofs.LoadedLaws.{loads-kept, loads-apart}
+use Rattle.load.proofs.LoadedLaws.{loads-kept, loads-apart, table-of-entries}
 use Rattle.runs.specs.Runs.{_∈_, Within, Valid}
 use Rattle.runs.specs.Sound.{Sound, StatesBelow16}
 use Rattle.runs.proofs.LengthLaws.{pairCount, pairs-le-15-of-valid}
@@ -112,7 +112,7 @@ module _ {t : Table} {es : List Entry} (book : Book t es) where
 
   -- its table keeps its entries
   pub carries-of-book : Carries t es
-  carries-of-book = rw (sym (book .table) ∙ book .gave .table ∙ ap tableOf (book .entries)) (carries-of-loading es loading)
+  carries-of-book = rw (sym (book .table) ∙ table-of-entries (book .bytes) (book .loaded) (book .gave) ∙ ap tableOf (book .entries)) (carries-of-loading es loading)
 
   pub plain-of-book : PlainKeys es
   plain-of-book = plain-of-loading es loading

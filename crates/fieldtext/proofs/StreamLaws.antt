@@ -13,8 +13,7 @@ use Rattle.table.specs.Table.{Table}
 use Rattle.book.specs.Entry.{Entry}
 use Rattle.book.specs.Load.{loads}
 use Rattle.load.specs.Step.{Loaded}
-use Rattle.load.specs.Loads.{LoadsAs}
-use Rattle.load.specs.Step.{tableOf}
+use Rattle.load.specs.Loads.{bookTable, LoadsAs}
 use Rattle.frame.specs.Frame.{frameCount}
 use Rattle.verdict.specs.declared.Verdict.{Verdict}
 use Rattle.reader.specs.declared.Reader.{Reader}
@@ -139,7 +138,7 @@ module _ (t : Table) (es : List Entry) (book : Book t es) (n : ℕ) (least : 1 �
 
 module _ (b : List ℕ) (l : Loaded) (loaded : LoadsAs b l) (yes : loads b .number ≡ 0) where
   abbrev table : Table
-  table = tableOf (loads b .entries)
+  table = bookTable b
 
   pub judges-stream : (size : ℕ) (w s : List ℕ) → 96 ≤ length w
       → Shows (judges b size w s .entries) (verdictsOf (judgeOf (loads b .entries) (frameCount (length w))) s)

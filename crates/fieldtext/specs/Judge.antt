@@ -6,7 +6,7 @@ use Prim.Native.Nat.{ℕ}
 use lib.Dec.{eqb}
 use Rattle.table.specs.Table.{Table}
 use Rattle.book.specs.Load.{loads}
-use Rattle.load.specs.Step.{tableOf}
+use Rattle.load.specs.Loads.{bookTable}
 use Rattle.reader.specs.Start.{startOf}
 use Rattle.entries.specs.Entries.{refusalEntry}
 use Rattle.entries.specs.Feeds.{answerEntries, isQuiet, StreamEntries, streamed, Called, inOut}
@@ -19,7 +19,7 @@ started t size w s =
 
 unfoldable pub judges : List ℕ → ℕ → List ℕ → List ℕ → StreamEntries
 judges b size w s =
-    cond (eqb (loads b .number) 0) (started (tableOf (loads b .entries)) size w s)
+    cond (eqb (loads b .number) 0) (started (bookTable b) size w s)
     (record { work = w; entries = refusalEntry (loads b .number) (loads b .line) 0 ∷ [] })
 
 -- a call with a table that is lent

@@ -2,8 +2,7 @@
 ghost use mathlib.Core.Path.{_≡_};
 ghost use Rattle.table.specs.Flat.{tableIn};
 ghost use Rattle.book.specs.Load.{loads};
-ghost use Rattle.load.specs.Step.{tableOf};
-ghost use Rattle.load.specs.Loads.{Blank};
+ghost use Rattle.load.specs.Loads.{bookTable, Blank};
 ghost use Rattle.fieldtext.specs.Judge.{judgeTableOf, judgeOf};
 use entries::entry;
 use entries::feeds;
@@ -14,7 +13,7 @@ use reader::Reader;
 #[no_mangle]
 pub extern "C" fn fieldtext_load(book: &[u8], table: &mut [u8; 7920]) -> u8
     ensures number { λ r. ⌜ r ≡ loads (now (book .entry)) .number ⌝ }
-    ensures table { λ _. ⌜ tableIn (now (table .exit)) ≡ tableOf (loads (now (book .entry)) .entries) ⌝ }
+    ensures table { λ _. ⌜ tableIn (now (table .exit)) ≡ bookTable (now (book .entry)) ⌝ }
     ensures blank { λ _. ⌜ Blank (now (book .entry)) (now (table .exit)) ⌝ }
 {
     let a = load::load(book, table);

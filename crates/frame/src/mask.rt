@@ -1,36 +1,46 @@
 // The kinds that a finished value fits, as one number: bit c is set where the value fits the kind with code c.
 use table::flat;
+use table::kind;
 use table::kind::Finished;
 use table::kind::Scalar;
+use table::kind::ValueKind;
 ghost use mathlib.Core.Bool.{false};
 ghost use mathlib.Core.Path.{_≡_};
 ghost use Prim.Native.Nat.{ℕ, _<_, _≤_};
 ghost use lib.ListN.{getD};
 ghost use Rattle.table.specs.Flat.{tableIn};
 ghost use Rattle.frame.specs.Edges.{fitsCode};
-ghost use Rattle.frame.specs.Mask.{maskHas, scalarMask};
+ghost use Rattle.frame.specs.Mask.{maskHas, bitIfFits, scalarMask};
 
-// The mask of a scalar: its own kind's bit, and the bit of `num` for an `int`.
+// The bit of a plain kind's code, where the scalar fits the kind; else 0.
+fn bit_if_fits(k: Scalar, s: Scalar) -> u64
+    ensures { λ r. ⌜ (r ≡ bitIfFits k s) × (r ≤ 32) ⌝ }
+{
+    if kind::fits(ValueKind::Plain(k), Finished::Scalar(s)) {
+        return 1 << kind::code(ValueKind::Plain(k));
+    }
+    0
+}
+
+// The mask of a scalar: the bits of the plain kinds that it fits.
 fn scalar_mask(s: Scalar) -> u64
     ensures { λ r. ⌜ r ≡ scalarMask s ⌝ }
 {
-    match s {
-        Scalar::Null => 1,
-        Scalar::True => 2,
-        Scalar::False => 4,
-        Scalar::Str => 8,
-        Scalar::Num => 16,
-        Scalar::Int => 48,
-    }
+    bit_if_fits(Scalar::Null, s)
+        + bit_if_fits(Scalar::True, s)
+        + bit_if_fits(Scalar::False, s)
+        + bit_if_fits(Scalar::Str, s)
+        + bit_if_fits(Scalar::Num, s)
+        + bit_if_fits(Scalar::Int, s)
 }
 
-// The mask of a finished value.
+// The mask of a finished value. The codes of rules follow each other from that of rule 0 on, as the bits of the rules do.
 pub fn mask_of(v: Finished) -> u64
     ensures { λ r. ⌜ ((code : ℕ) → maskHas r code ≡ fitsCode v code) ⌝ }
 {
     match v {
         Finished::Scalar(s) => scalar_mask(s),
-        Finished::Rules(rules) => 64 * (rules as u64),
+        Finished::Rules(rules) => (rules as u64) << kind::code(ValueKind::Rule(0)),
     }
 }
 

@@ -11,13 +11,11 @@ use borrow.Author.Tests.{lt-ltb, le-ltb, ltb-true, ltb-false, not-true, not-fals
 use Rattle.laws.specs.Lists.{same}
 use Rattle.table.specs.declared.kind.ValueKind.{ValueKind}
 use Rattle.table.specs.declared.kind.ValueKind.the-variants.{Plain, Rule}
-use Rattle.table.specs.declared.kind.Scalar.the-variants.{Null, True, False, Str, Num, Int}
-use Rattle.table.specs.Kind.{kindOf, codeOf}
-use Rattle.table.proofs.KindLaws.{kindOf-codeOf}
 use Rattle.book.specs.Text.{isNumber, number}
 use Rattle.book.specs.Entry.{obj}
 use Rattle.book.specs.Line.{isForm, formOf, isKey, keyOf, isKind, kindIn, smallKind, formed, small, entryOf, Said, sayFields, sayLine, word-obj, word-end, dash}
-use Rattle.scan.specs.Scan.{capped}
+use Rattle.scan.specs.Scan.{capped, cappedKind}
+use Rattle.line.specs.declared.Sort.the-variants.{Edge}
 use Rattle.line.specs.declared.Line.{Line}
 use Rattle.line.specs.declared.Cuts.{Cuts}
 use Rattle.line.specs.Line.{faulty, endLine, edgeLine, FieldsSay, Says, seg, Cut, sayCut, formedEnd, formedEdge}
@@ -118,20 +116,20 @@ eq-of-capped-lt m v x e h = go (ltb v m) refl e
     go true q f = (q, sym f)
     go false q f = absurd (omega arith)
 
--- a kind is within its limit where its code is below 38
-smallKind-codeOf : (v : ValueKind) → smallKind v ≡ ltb (codeOf v) 38
-unfolding smallKind codeOf
-smallKind-codeOf (Plain Null) = refl
-smallKind-codeOf (Plain True) = refl
-smallKind-codeOf (Plain False) = refl
-smallKind-codeOf (Plain Str) = refl
-smallKind-codeOf (Plain Num) = refl
-smallKind-codeOf (Plain Int) = refl
-smallKind-codeOf (Rule n) = go (ltb n 32) refl
+-- a kind is within its limit where its capped number is, and then it is not capped
+smallKind-capped : (v : ValueKind) → smallKind (cappedKind v) ≡ smallKind v
+unfolding smallKind cappedKind capped
+smallKind-capped (Plain s) = refl
+smallKind-capped (Rule n) = go (ltb n 32) refl
   where
-    go : (b : Bool) → ltb n 32 ≡ b → b ≡ ltb (6 + n) 38
-    go true e = let l = ltb-true n 32 e in sym (lt-ltb (6 + n) 38 (omega arith))
-    go false e = let l = ltb-false n 32 e in sym (le-ltb (6 + n) 38 (omega arith))
+    go : (b : Bool) → ltb n 32 ≡ b → ltb (cond b n 32) 32 ≡ b
+    go true e = e
+    go false e = refl
+
+capped-of-small : (v : ValueKind) → smallKind v ≡ true → cappedKind v ≡ v
+unfolding smallKind cappedKind capped
+capped-of-small (Plain s) h = refl
+capped-of-small (Rule n) h = rw h
 
 -- ---- what six fields say: rule x, form f, state s, key k, value v, next m
 module _ (x f s k v m : List ℕ) (at : ℕ) (a : Bool) (qa : a ≡ formed x f s k v m) where
@@ -166,20 +164,13 @@ module _ (x f s k v m : List ℕ) (at : ℕ) (a : Bool) (qa : a ≡ formed x f s
               len = omega arith;
             })
 
-        module _ (c : ℕ) (he : e ≡ false) (qc : c ≡ capped 38 (codeOf (kindIn v))) where
-          says-kind : (r : Line) → 38 ≤ c → r ≡ faulty 4 at → FieldsSay k at (sayFields x f s k v m) r
+        module _ (he : e ≡ false) where
+          says-kind : (r : Line) → smallKind (kindIn v) ≡ false → r ≡ faulty 4 at → FieldsSay k at (sayFields x f s k v m) r
           unfolding small
           says-kind r h p =
-              over r ea
-              (rw (
-                eq-of-capped-lt 32 (number x) i qi hi .0,
-                eq-of-capped-lt 16 (number s) j qj hj .0,
-                sym qe ∙ he,
-                smallKind-codeOf (kindIn v),
-                ltb-of-capped-ge 38 (codeOf (kindIn v)) c qc h,
-              )) p
+              over r ea (rw (eq-of-capped-lt 32 (number x) i qi hi .0, eq-of-capped-lt 16 (number s) j qj hj .0, sym qe ∙ he, h)) p
 
-          module _ (n : ℕ) (hc : c < 38) (qn : n ≡ capped 16 (number m)) where
+          module _ (n : ℕ) (hc : smallKind (kindIn v) ≡ true) (qn : n ≡ capped 16 (number m)) where
             says-next : (r : Line) → 16 ≤ n → r ≡ faulty 4 at → FieldsSay k at (sayFields x f s k v m) r
             unfolding small
             says-next r h p =
@@ -188,57 +179,53 @@ module _ (x f s k v m : List ℕ) (at : ℕ) (a : Bool) (qa : a ≡ formed x f s
                   eq-of-capped-lt 32 (number x) i qi hi .0,
                   eq-of-capped-lt 16 (number s) j qj hj .0,
                   sym qe ∙ he,
-                  smallKind-codeOf (kindIn v),
-                  eq-of-capped-lt 38 (codeOf (kindIn v)) c qc hc .0,
+                  hc,
                   ltb-of-capped-ge 16 (number m) n qn h,
                 )) p
 
             says-edge : (w : ℕ) → n < 16 → w ≡ length (keyOf k)
-                → FieldsSay k at (sayFields x f s k v m) (record { fault = 0; rule = i; obj = g; state = j; kind = c; next = n; «key_at» = at; «key_len» = w })
+                → FieldsSay k at (sayFields x f s k v m)
+                (record { fault = 0; rule = i; obj = g; state = j; sort = Edge (kindIn v); next = n; «key_at» = at; «key_len» = w })
             unfolding sayFields small entryOf formOf
             says-edge w h qw =
                 let ci = eq-of-capped-lt 32 (number x) i qi hi in
                 let cj = eq-of-capped-lt 16 (number s) j qj hj in
-                let ck = eq-of-capped-lt 38 (codeOf (kindIn v)) c qc hc in
                 let cn = eq-of-capped-lt 16 (number m) n qn h in
-                let kk : kindOf c ≡ kindIn v = ap kindOf (sym (ck .1)) ∙ kindOf-codeOf (kindIn v) in
                 record {
-                  says =
-                      rw (sym qa ∙ not-false a ea, ci .0, cj .0, sym qe ∙ he, smallKind-codeOf (kindIn v), ck .0, cn .0, lt-ltb c 38 hc, qg, qw, take-keyOf k, kk, ci .1, cj .1, cn .1);
+                  says = rw (sym qa ∙ not-false a ea, ci .0, cj .0, sym qe ∙ he, hc, cn .0, qg, qw, take-keyOf k, ci .1, cj .1, cn .1);
                   place = refl;
                   len = omega (arith, keyOf-le k);
                 }
 
         -- an edge, whose line may be faulty yet
-        pub says-last : (r : Line) → e ≡ false → r ≡ edgeLine i g j at (capped 38 (codeOf (kindIn v))) (capped 16 (number m)) (length (keyOf k))
+        pub says-last : (r : Line) → e ≡ false → r ≡ edgeLine i g j at (cappedKind (kindIn v)) (capped 16 (number m)) (length (keyOf k))
             → FieldsSay k at (sayFields x f s k v m) r
-        says-last r he p = rw p (go (ltb c 38) refl (ltb n 16) refl)
+        says-last r he p = rw (p, smallKind-capped (kindIn v)) (go (smallKind (kindIn v)) refl (ltb n 16) refl)
           where
-            c : ℕ
-            c = capped 38 (codeOf (kindIn v))
-
             n : ℕ
             n = capped 16 (number m)
 
-            go : (y : Bool) → ltb c 38 ≡ y → (z : Bool) → ltb n 16 ≡ z
+            go : (y : Bool) → smallKind (kindIn v) ≡ y → (z : Bool) → ltb n 16 ≡ z
                 → FieldsSay k at (sayFields x f s k v m)
-                (cond y (cond z (record { fault = 0; rule = i; obj = g; state = j; kind = c; next = n; «key_at» = at; «key_len» = length (keyOf k) }) (faulty 4 at)) (faulty 4 at))
-            go false y z w = says-kind c he refl (faulty 4 at) (ltb-false c 38 y) refl
-            go true y false w = says-next c he refl n (ltb-true c 38 y) refl (faulty 4 at) (ltb-false n 16 w) refl
-            go true y true w = says-edge c he refl n (ltb-true c 38 y) refl (length (keyOf k)) (ltb-true n 16 w) refl
+                (cond y
+                (cond z (record { fault = 0; rule = i; obj = g; state = j; sort = Edge (cappedKind (kindIn v)); next = n; «key_at» = at; «key_len» = length (keyOf k) }) (faulty 4 at))
+                (faulty 4 at))
+            go false y z w = says-kind he (faulty 4 at) y refl
+            go true y false w = says-next he n y refl (faulty 4 at) (ltb-false n 16 w) refl
+            go true y true w = rw (capped-of-small (kindIn v) y) (says-edge he n y refl (length (keyOf k)) (ltb-true n 16 w) refl)
 
--- ---- an edge: kind, next and the length of the key as they were read
-module _ (r : ℕ) (b : Bool) (q at c c′ m′ n′ : ℕ) (qc : c ≡ c′) where
-  pub edgeLine-kind : (x : Line) → 38 ≤ c → x ≡ faulty 4 at → x ≡ edgeLine r b q at c′ m′ n′
-  edgeLine-kind x h e = rw (← qc, le-ltb c 38 h) e
+-- ---- an edge: kind, next and the length of the key as they were read, and the test a of the kind
+module _ (r : ℕ) (b : Bool) (q at : ℕ) (v v′ : ValueKind) (m′ n′ : ℕ) (qv : v ≡ v′) (a : Bool) (qa : a ≡ smallKind v) where
+  pub edgeLine-kind : (x : Line) → not a ≡ true → x ≡ faulty 4 at → x ≡ edgeLine r b q at v′ m′ n′
+  edgeLine-kind x h e = rw (← qv, sym qa ∙ not-true a h) e
 
-  module _ (h : c < 38) (m : ℕ) (qm : m ≡ m′) where
-    pub edgeLine-next : (x : Line) → 16 ≤ m → x ≡ faulty 4 at → x ≡ edgeLine r b q at c′ m′ n′
-    edgeLine-next x k e = rw (← qc, ← qm, lt-ltb c 38 h, le-ltb m 16 k) e
+  module _ (h : not a ≡ false) (m : ℕ) (qm : m ≡ m′) where
+    pub edgeLine-next : (x : Line) → 16 ≤ m → x ≡ faulty 4 at → x ≡ edgeLine r b q at v′ m′ n′
+    edgeLine-next x k e = rw (← qv, ← qm, sym qa ∙ not-false a h, le-ltb m 16 k) e
 
     pub edgeLine-good : (n : ℕ) → m < 16 → n ≡ n′
-        → record { fault = 0; rule = r; obj = b; state = q; kind = c; next = m; «key_at» = at; «key_len» = n } ≡ edgeLine r b q at c′ m′ n′
-    edgeLine-good n k e = rw (← qc, ← qm, ← e, lt-ltb c 38 h, lt-ltb m 16 k)
+        → record { fault = 0; rule = r; obj = b; state = q; sort = Edge v; next = m; «key_at» = at; «key_len» = n } ≡ edgeLine r b q at v′ m′ n′
+    edgeLine-good n k e = rw (← qv, ← qm, ← e, sym qa ∙ not-false a h, lt-ltb m 16 k)
 
 -- ---- a line
 

@@ -6,11 +6,13 @@ use Prim.Native.Nat.{ℕ, _+_, _-_, _<_, _≤_}
 use lib.Dec.{ltb, eqb}
 use lib.ListN.{length, take, drop}
 use Rattle.laws.specs.Lists.{same}
-use Rattle.table.specs.Kind.{kindOf}
+use Rattle.table.specs.declared.kind.ValueKind.{ValueKind}
 use Rattle.book.specs.Text.{isNumber}
 use Rattle.book.specs.Entry.{Form, obj, arr, Entry, edge, end-state}
-use Rattle.book.specs.Line.{Said, bad, good, sayFields, sayLine, isKind, isKey, word-obj, dash}
+use Rattle.book.specs.Line.{Said, bad, good, sayFields, sayLine, isKind, isKey, smallKind, word-obj, dash}
 use Rattle.line.specs.declared.Cuts.{Cuts}
+use Rattle.line.specs.declared.Sort.{Sort}
+use Rattle.line.specs.declared.Sort.the-variants.{End, Edge}
 use Rattle.line.specs.declared.Line.{Line}
 
 -- the bytes of l from a up to b
@@ -44,12 +46,14 @@ pub record Cut (l : List ℕ) (r : Cuts) : Type 0 where
 abbrev pub formWith : Bool → Form
 formWith b = cond b obj arr
 
+-- the entry of a line by what it is: rule, form, state, key and next
+abbrev pub entryAs : Sort → ℕ → Form → ℕ → List ℕ → ℕ → Entry
+entryAs End r f q k m = end-state r f q
+entryAs (Edge v) r f q k m = edge r f q k v m
+
 -- the entry of a line whose key is k
 abbrev pub entryWith : Line → List ℕ → Entry
-entryWith r k =
-    cond (ltb (r .kind) 38)
-    (edge (r .rule) (formWith (r .obj)) (r .state) k (kindOf (r .kind)) (r .next))
-    (end-state (r .rule) (formWith (r .obj)) (r .state))
+entryWith r k = entryAs (r .sort) (r .rule) (formWith (r .obj)) (r .state) k (r .next)
 
 -- what the code's answer says, where the key's field is k
 abbrev pub saidWith : Line → List ℕ → Said
@@ -61,18 +65,18 @@ said r l = saidWith r (drop (r .«key_at») l)
 
 -- the line of a fault
 abbrev pub faulty : ℕ → ℕ → Line
-faulty n at = record { fault = n; rule = 0; obj = false; state = 0; kind = 0; next = 0; «key_at» = at; «key_len» = 0 }
+faulty n at = record { fault = n; rule = 0; obj = false; state = 0; sort = End; next = 0; «key_at» = at; «key_len» = 0 }
 
 -- an end line
 abbrev pub endLine : ℕ → Bool → ℕ → ℕ → Line
-endLine r b q at = record { fault = 0; rule = r; obj = b; state = q; kind = 38; next = 0; «key_at» = at; «key_len» = 0 }
+endLine r b q at = record { fault = 0; rule = r; obj = b; state = q; sort = End; next = 0; «key_at» = at; «key_len» = 0 }
 
--- the line of an edge with a kind of code c, next m and a key of n bytes, or refusal 4 where kind or next are above their limits
-abbrev pub edgeLine : ℕ → Bool → ℕ → ℕ → ℕ → ℕ → ℕ → Line
-edgeLine r b q at c m n =
-    cond (ltb c 38)
+-- the line of an edge with kind v, next m and a key of n bytes, or refusal 4 where kind or next are above their limits
+abbrev pub edgeLine : ℕ → Bool → ℕ → ℕ → ValueKind → ℕ → ℕ → Line
+edgeLine r b q at v m n =
+    cond (smallKind v)
     (cond (ltb m 16)
-    (record { fault = 0; rule = r; obj = b; state = q; kind = c; next = m; «key_at» = at; «key_len» = n })
+    (record { fault = 0; rule = r; obj = b; state = q; sort = Edge v; next = m; «key_at» = at; «key_len» = n })
     (faulty 4 at))
     (faulty 4 at)
 

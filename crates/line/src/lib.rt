@@ -2,12 +2,12 @@
 ghost use mathlib.Core.Path.{_≡_};
 ghost use Prim.Native.Nat.{_+_, _<_};
 ghost use lib.ListN.{length};
-ghost use Rattle.table.specs.Kind.{codeOf};
 ghost use Rattle.book.specs.Text.{number};
-ghost use Rattle.book.specs.Line.{formed as isFormed, keyOf, kindIn, sayFields, sayLine};
-ghost use Rattle.scan.specs.Scan.{capped};
+ghost use Rattle.book.specs.Line.{formed as isFormed, keyOf, kindIn, smallKind, sayFields, sayLine};
+ghost use Rattle.scan.specs.Scan.{capped, cappedKind};
 ghost use Rattle.line.specs.Line.{noCuts, Cut, sayCut, FieldsSay, Says, faulty, endLine, edgeLine, formedEnd, formedEdge};
 use table::bytes;
+use table::kind::ValueKind;
 
 const OBJ: [u8; 3] = *b"obj";
 
@@ -25,14 +25,20 @@ pub struct Cuts {
     pub p5: usize,
 }
 
-// What a line says, or its fault, 3 or 4; 0 is none. Its form is obj or else arr, its kind is by its code, and kind 38 is an end line. The
-// key is key_len bytes of the line from key_at on.
+// What a line is: an end line, or an edge with the kind of value that it asks for.
+pub enum Sort {
+    End,
+    Edge(ValueKind),
+}
+
+// What a line says, or its fault, 3 or 4; 0 is none. Its form is obj or else arr, and an end line has next 0. The key is key_len bytes of the
+// line from key_at on.
 pub struct Line {
     pub fault: u8,
     pub rule: u8,
     pub obj: bool,
     pub state: u8,
-    pub kind: u8,
+    pub sort: Sort,
     pub next: u8,
     pub key_at: usize,
     pub key_len: usize,
@@ -51,7 +57,7 @@ fn no_cuts() -> Cuts
     }
 }
 
-// Where the spaces of a line are. Each is looked for behind the one before.
+// Where the spaces of a line are. Each is looked for after the one before.
 fn cut(line: &[u8]) -> Cuts
     ensures { λ r. ⌜ Cut (now (line .entry)) r ⌝ }
 {
@@ -141,7 +147,7 @@ fn bad_line(fault: u8, at: usize) -> Line
         rule: 0,
         obj: false,
         state: 0,
-        kind: 0,
+        sort: Sort::End,
         next: 0,
         key_at: at,
         key_len: 0,
@@ -156,7 +162,7 @@ fn end_line(rule: u8, obj: bool, state: u8, at: usize) -> Line
         rule,
         obj,
         state,
-        kind: 38,
+        sort: Sort::End,
         next: 0,
         key_at: at,
         key_len: 0,
@@ -173,12 +179,22 @@ fn key_length(key: &[u8]) -> usize
     key.len()
 }
 
+// A rule that the kind refers to is 0 to 31.
+fn small_kind(v: ValueKind) -> bool
+    ensures { λ r. ⌜ r ≡ smallKind v ⌝ }
+{
+    match v {
+        ValueKind::Plain(_) => true,
+        ValueKind::Rule(n) => n < 32,
+    }
+}
+
 // What the last fields of an edge say, whose rule, form and state are told.
 fn judge_edge(r: u8, obj: bool, q: u8, key: &[u8], value: &[u8], next: &[u8], at: usize) -> Line
-    ensures { λ l. ⌜ l ≡ edgeLine r obj q at (capped 38 (codeOf (kindIn (now (value .entry))))) (capped 16 (number (now (next .entry)))) (length (keyOf (now (key .entry)))) ⌝ }
+    ensures { λ l. ⌜ l ≡ edgeLine r obj q at (cappedKind (kindIn (now (value .entry)))) (capped 16 (number (now (next .entry)))) (length (keyOf (now (key .entry)))) ⌝ }
 {
-    let v = scan::kind_code(value);
-    if 38 <= v {
+    let v = scan::kind_in(value);
+    if !small_kind(v) {
         return bad_line(4, at);
     }
     let m = scan::value(next, 16);
@@ -191,7 +207,7 @@ fn judge_edge(r: u8, obj: bool, q: u8, key: &[u8], value: &[u8], next: &[u8], at
         rule: r,
         obj,
         state: q,
-        kind: v,
+        sort: Sort::Edge(v),
         next: m,
         key_at: at,
         key_len: n,

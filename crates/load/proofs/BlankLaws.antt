@@ -13,7 +13,7 @@ use Rattle.table.proofs.SlotLaws.{emptyTable-parts, lines-zero}
 use Rattle.load.specs.declared.BookAnswer.{BookAnswer}
 use Rattle.load.specs.Step.{loadedAs}
 use Rattle.load.specs.Loads.{LoadsAs, Blank}
-use Rattle.load.proofs.LoadedLaws.{loads-kept, refused-table}
+use Rattle.load.proofs.LoadedLaws.{loads-kept, table-of-entries, refused-table}
 
 -- a byte of a part that is 0
 part-zero : (l : List ℕ) (a n i : ℕ) → part l a n ≡ replicate n 0 → a ≤ i → i < a + n → getD l i 0 ≡ 0
@@ -89,4 +89,4 @@ unfolding tableIn
 loads-blank b l a x = (x, record { refused = λ h. empty-bytes l (refused-table b (loadedAs a (tableIn l)) x h); spare = λ i u v. part-zero l 3 13 i spare u v })
   where
     spare : part l 3 13 ≡ replicate 13 0
-    spare = ap (λ (t : Table). t .spare) (x .table) ∙ loads-kept b .sized .spare
+    spare = ap (λ (t : Table). t .spare) (table-of-entries b (loadedAs a (tableIn l)) x) ∙ loads-kept b .sized .spare

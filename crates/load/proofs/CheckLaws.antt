@@ -9,26 +9,27 @@ use lib.Dec.{eqb, ltb, leb}
 use lib.ListN.{length, getD, List·getD-eq-default}
 use borrow.Author.Tests.{eq-eqb, ne-eqb, lt-ltb, le-ltb, le-leb, lt-leb}
 use Rattle.table.specs.Table.{Table}
+use Rattle.table.specs.Kind.{kindOf}
+use Rattle.table.specs.declared.kind.Scalar.{Scalar}
+use Rattle.table.specs.declared.kind.ValueKind.{ValueKind}
+use Rattle.table.specs.declared.kind.ValueKind.the-variants.{Plain, Rule}
 use Rattle.load.specs.declared.BookAnswer.the-variants.{NoRule, NoRoot, NotAscending}
 use Rattle.load.specs.Step.{Loaded, some, firstAt, loaded, refusal}
-use Rattle.load.specs.Check.{danglesCode, danglesAt, clashCodes, clashAt, clashesAt, lateAt, lineAt, danglingLine, clashLine, checkTable}
+use Rattle.load.specs.Check.{danglesKind, danglesAt, clashCodes, clashAt, clashesAt, lateAt, lineAt, danglingLine, clashLine, checkTable}
 
-module _ (forms : List ℕ) (v : ℕ) where
-  pub dangles-plain : v < 6 → false ≡ danglesCode forms v
-  unfolding danglesCode
-  dangles-plain h = rw (lt-leb 6 v h)
+module _ (forms : List ℕ) (v : ValueKind) where
+  pub dangles-plain : (s : Scalar) → v ≡ Plain s → false ≡ danglesKind forms v
+  unfolding danglesKind
+  dangles-plain s q = rw q
 
-  pub dangles-rule : (x : ℕ) → 6 ≤ v → x ≡ getD forms (v - 6) 0 → eqb x 0 ≡ danglesCode forms v
-  unfolding danglesCode
-  dangles-rule x h e = rw (le-leb 6 v h, e)
+  pub dangles-rule : (n x : ℕ) → v ≡ Rule n → x ≡ getD forms n 0 → eqb x 0 ≡ danglesKind forms v
+  unfolding danglesKind
+  dangles-rule n x q e = rw (q, e)
 
-  pub dangles-past : 6 ≤ v → 0 ≡ getD forms (v - 6) 0 → true ≡ danglesCode forms v
-  unfolding danglesCode
-  dangles-past h e = rw (le-leb 6 v h, ← e)
-
-pub danglesAt-code : (t : Table) (e x : ℕ) (r : Bool) → x ≡ getD (t .«edge_kind») e 0 → r ≡ danglesCode (t .forms) x → r ≡ danglesAt t e
+pub danglesAt-kind : (t : Table) (e x : ℕ) (v : ValueKind) (r : Bool) → x ≡ getD (t .«edge_kind») e 0 → v ≡ kindOf x → r ≡ danglesKind (t .forms) v
+    → r ≡ danglesAt t e
 unfolding danglesAt
-danglesAt-code t e x r p q = q ∙ ap (danglesCode (t .forms)) p
+danglesAt-kind t e x v r p w q = q ∙ ap (danglesKind (t .forms)) (w ∙ ap kindOf p)
 
 -- not below is at least
 leb-not-ltb : (a b : ℕ) → leb b a ≡ not (ltb a b)

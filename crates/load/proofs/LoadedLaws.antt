@@ -1,11 +1,11 @@
 -- What a loaded table is: its numbers in their ranges and within their limits, and holding the entries of the book, of which no two clash. Assumes nothing.
 use mathlib.Core.Bool.{Bool, true, false, not, cond, _||_}
 use mathlib.Core.List.{List, [], _∷_, _++_, append-nil, append-assoc}
-use mathlib.Core.Path.{_≡_, refl, ap, _∙_}
+use mathlib.Core.Path.{_≡_, refl, sym, ap, _∙_}
 use Prim.Native.Nat.{ℕ, suc}
 use native.Mathlib.Omega.{arith}
 use lib.Dec.{eqb}
-use borrow.Author.Tests.{eqb-true}
+use borrow.Author.Tests.{eqb-true, eqb-false, ne-eqb}
 use Rattle.laws.specs.Lists.{all, any}
 use Rattle.table.specs.Limits.{WithinLimits, withinLimits}
 use Rattle.table.proofs.LimitLaws.{withinLimits-complete}
@@ -18,10 +18,11 @@ use Rattle.book.proofs.TruthLaws.{or-parts}
 use Rattle.load.specs.Proper.{Proper}
 use Rattle.load.specs.Ranges.{Ranges}
 use Rattle.load.specs.Step.{Loaded, tableFrom, tableOf, takeBook}
-use Rattle.load.specs.Loads.{LoadsAs}
+use Rattle.load.specs.BookAnswer.{Numbered, number-line, numbered}
+use Rattle.load.specs.Loads.{bookTable, LoadsAs}
 use Rattle.load.proofs.RangeLaws.{withinLimits-of-ranges}
 use Rattle.load.proofs.KeptLaws.{Loading}
-use Rattle.load.proofs.AgreeLaws.{Agree, kept-none, book-agrees}
+use Rattle.load.proofs.AgreeLaws.{Agree, kept-none, book-agrees, loads-numbered}
 
 -- ---- no two entries clash
 module _ (ks : List (List ℕ)) where
@@ -135,20 +136,43 @@ loads-refused b = go (readBook b)
         cases true false z d c l k = refl
         cases false y z d c l k = refl
 
--- ---- the table that load gives
+-- the table of a book is that of its entries: a refused book has none, and their table is the empty one
+pub bookTable-entries : (b : List ℕ) → bookTable b ≡ tableOf (loads b .entries)
+unfolding bookTable tableOf tableFrom
+bookTable-entries b = go (eqb (loads b .number) 0) refl
+  where
+    go : (x : Bool) → eqb (loads b .number) 0 ≡ x → cond x (tableOf (loads b .entries)) emptyTable ≡ tableOf (loads b .entries)
+    go true e = refl
+    go false e = sym (ap tableOf (loads-refused b (eqb-false (loads b .number) 0 e)))
+
+-- ---- what load gives
 module _ (b : List ℕ) (r : Loaded) (l : LoadsAs b r) where
+  -- number and line of the answer are the paper's
+  loaded-numbered : numbered (r .answer) ≡ number-line (loads b .number) (loads b .line)
+  loaded-numbered = ap numbered (l .answer) ∙ loads-numbered b
+
+  pub number-of-book : (n : ℕ) → n ≡ numbered (r .answer) .number → n ≡ loads b .number
+  number-of-book n e = e ∙ ap (λ (y : Numbered). y .number) loaded-numbered
+
+  pub line-of-book : (n : ℕ) → n ≡ numbered (r .answer) .line → n ≡ loads b .line
+  line-of-book n e = e ∙ ap (λ (y : Numbered). y .line) loaded-numbered
+
+  -- the table is that of the entries
+  pub table-of-entries : r .table ≡ tableOf (loads b .entries)
+  table-of-entries = l .table ∙ bookTable-entries b
+
   -- it holds the entries of the book
   pub loaded-holds : Holds (r .table) (loads b .entries)
-  loaded-holds = rw (l .table) (loads-held b)
+  loaded-holds = rw table-of-entries (loads-held b)
 
   -- a refusal has the empty table
   pub refused-table : (loads b .number ≡ 0 → ⊥) → r .table ≡ emptyTable
-  unfolding tableOf tableFrom
-  refused-table h = l .table ∙ ap tableOf (loads-refused b h)
+  unfolding bookTable
+  refused-table h = l .table ∙ rw (ne-eqb (loads b .number) 0 h)
 
   -- its numbers are in their ranges
   pub loaded-ranges : Ranges (r .table)
-  loaded-ranges = rw (l .table) (loads-kept b .ranges)
+  loaded-ranges = rw table-of-entries (loads-kept b .ranges)
 
   -- it is within its limits, and so never meets refusal 23
   pub loaded-within : WithinLimits (r .table)

@@ -13,8 +13,8 @@ use Rattle.laws.specs.Tab.{tab}
 use Rattle.table.specs.Table.{Table}
 use Rattle.table.specs.declared.kind.ValueKind.{ValueKind}
 use Rattle.table.specs.declared.kind.ValueKind.the-variants.{Plain, Rule}
-use Rattle.table.specs.declared.kind.Scalar.the-variants.{Null, True, False, Str, Num, Int}
-use Rattle.table.specs.Kind.{codeOf}
+use Rattle.table.specs.Kind.{kindOf, codeOf}
+use Rattle.table.proofs.KindLaws.{kindOf-codeOf}
 use Rattle.table.specs.Keys.{numberOf}
 use Rattle.book.specs.Entry.{Form, obj, arr, Entry, edge, end-state, keysOf, clash}
 use Rattle.book.specs.Text.{isEmpty}
@@ -24,7 +24,7 @@ use Rattle.book.proofs.HoldLaws.{Each, each-map, each-append, edgesFrom-append,
 use Rattle.book.proofs.TruthLaws.{true-not-false}
 use Rattle.load.specs.Proper.{isArr, Proper}
 use Rattle.load.specs.Step.{firstAt}
-use Rattle.load.specs.Check.{danglesCode, danglesAt, clashCodes, clashAt, clashesAt, lateAt, lineAt, danglingLine, clashLine}
+use Rattle.load.specs.Check.{danglesKind, danglesAt, clashCodes, clashAt, clashesAt, lateAt, lineAt, danglingLine, clashLine}
 use Rattle.load.proofs.TableLaws.{some-tab, tab-one-more}
 use Rattle.load.proofs.KeptLaws.{Loading}
 
@@ -63,29 +63,26 @@ not-not true = refl
 not-not false = refl
 
 module _ (t : Table) (es : List Entry) (kept : Loading t es) where
-  danglesCode-same : (r : ℕ) (f : Form) (q : ℕ) (k : List ℕ) (v : ValueKind) (m : ℕ) → codeOf v < 38 → danglesCode (t .forms) (codeOf v) ≡ dangles es (edge r f q k v m)
-  unfolding danglesCode dangles codeOf
-  danglesCode-same r f q k (Plain Null) m h = refl
-  danglesCode-same r f q k (Plain True) m h = refl
-  danglesCode-same r f q k (Plain False) m h = refl
-  danglesCode-same r f q k (Plain Str) m h = refl
-  danglesCode-same r f q k (Plain Num) m h = refl
-  danglesCode-same r f q k (Plain Int) m h = refl
-  danglesCode-same r f q k (Rule i) m h =
-      let e : 6 + i - 6 ≡ i = omega arith in
-      rw (le-leb 6 (6 + i) (omega arith), e, kept .holds .formed i (omega arith), hasRule-ruleForm es i) (sym (not-not (eqb (ruleForm es i) 0)))
+  danglesKind-same : (r : ℕ) (f : Form) (q : ℕ) (k : List ℕ) (v : ValueKind) (m : ℕ) → codeOf v < 38
+      → danglesKind (t .forms) (kindOf (codeOf v)) ≡ dangles es (edge r f q k v m)
+  unfolding danglesKind dangles codeOf
+  danglesKind-same r f q k v m h = rw (kindOf-codeOf v) (go v h)
+    where
+      go : (u : ValueKind) → codeOf u < 38 → danglesKind (t .forms) u ≡ dangles es (edge r f q k u m)
+      go (Plain s) h = refl
+      go (Rule i) h = rw (kept .holds .formed i (omega arith), hasRule-ruleForm es i) (sym (not-not (eqb (ruleForm es i) 0)))
 
-  dangles-tests : (x : Entry) → Proper x → Tests (keysOf es) (λ y. danglesCode (t .forms) (y .kind)) (dangles es) x
+  dangles-tests : (x : Entry) → Proper x → Tests (keysOf es) (λ y. danglesKind (t .forms) (kindOf (y .kind))) (dangles es) x
   unfolding dangles
-  dangles-tests (edge r f q k v m) p = λ n. danglesCode-same r f q k v m (p .kind)
+  dangles-tests (edge r f q k v m) p = λ n. danglesKind-same r f q k v m (p .kind)
   dangles-tests (end-state r f q) p = refl
 
   pub danglingLine-same : danglingLine t ≡ firstLine (dangles es) 2 es
   unfolding danglingLine danglesAt tableEdges edgesOf
   danglingLine-same =
-      firstAt-tab (danglesAt t) (lineAt t) (λ y. danglesCode (t .forms) (y .kind)) (edgeAt t) 0 (t .edges) (λ k. refl) (λ k. refl)
-      ∙ ap (firstEdge (λ y. danglesCode (t .forms) (y .kind))) (kept .holds .edged)
-      ∙ firstEdge-line (keysOf es) (λ y. danglesCode (t .forms) (y .kind)) (dangles es) 2 es (each-map Proper _ dangles-tests es (kept .proper))
+      firstAt-tab (danglesAt t) (lineAt t) (λ y. danglesKind (t .forms) (kindOf (y .kind))) (edgeAt t) 0 (t .edges) (λ k. refl) (λ k. refl)
+      ∙ ap (firstEdge (λ y. danglesKind (t .forms) (kindOf (y .kind)))) (kept .holds .edged)
+      ∙ firstEdge-line (keysOf es) (λ y. danglesKind (t .forms) (kindOf (y .kind))) (dangles es) 2 es (each-map Proper _ dangles-tests es (kept .proper))
 
 -- ---- refusal 9
 

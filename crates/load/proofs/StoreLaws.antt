@@ -1,23 +1,24 @@
 -- What taking an entry gives, by the tests on the way: each law takes their results and gives the answer there. Assumes nothing.
-use mathlib.Core.Bool.{Bool, true, false, cond}
+use mathlib.Core.Bool.{Bool, true, false}
 use mathlib.Core.List.{List, [], _∷_}
 use mathlib.Core.Path.{_≡_, refl, sym, ap, _∙_}
 use Prim.Native.Nat.{ℕ, _+_, _*_, _<_, _≤_}
 use native.Mathlib.Omega.{arith}
-use lib.Dec.{ltb}
 use lib.ListN.{length, getD}
-use borrow.Author.Tests.{lt-ltb, le-ltb, le-leb, lt-leb}
+use borrow.Author.Tests.{le-leb, lt-leb}
 use Rattle.laws.specs.Bits.{bitAt}
 use Rattle.table.specs.Table.{Table}
-use Rattle.table.specs.Kind.{kindOf}
-use Rattle.table.proofs.KindLaws.{codeOf-kindOf}
+use Rattle.table.specs.Kind.{codeOf}
+use Rattle.table.specs.declared.kind.ValueKind.{ValueKind}
 use Rattle.table.specs.Keys.{tableKeys, numberOf}
-use Rattle.book.specs.Entry.{edge, end-state}
+use Rattle.book.specs.Entry.{edge}
 use Rattle.book.specs.Holds.{keyNumber, formCode}
+use Rattle.line.specs.declared.Sort.{Sort}
+use Rattle.line.specs.declared.Sort.the-variants.{End, Edge}
 use Rattle.line.specs.declared.Line.{Line}
-use Rattle.line.specs.Line.{formWith, entryWith}
+use Rattle.line.specs.Line.{formWith, entryAs, entryWith}
 use Rattle.load.specs.declared.store.Cell.{Cell}
-use Rattle.load.specs.Proper.{Proper}
+use Rattle.load.specs.Proper.{ProperEdge, Proper}
 use Rattle.load.specs.Step.{Taken, hasCell, withEnd, withEdge, withKey, isNew, formChanges, taken, takeEdge, takeEnd, takeEntry}
 
 -- ---- keys
@@ -71,22 +72,13 @@ module _ (n : ℕ) (t : Table) (f : ℕ) (c : Cell) (k : List ℕ) (b : Bool) (p
 
 -- ---- entries
 module _ (l : Line) (k : List ℕ) where
-  -- an edge
-  pub entryWith-edge : l .kind < 38 → entryWith l k ≡ edge (l .rule) (formWith (l .obj)) (l .state) k (kindOf (l .kind)) (l .next)
-  entryWith-edge h = rw (lt-ltb (l .kind) 38 h)
-
-  pub entryWith-end : 38 ≤ l .kind → entryWith l k ≡ end-state (l .rule) (formWith (l .obj)) (l .state)
-  entryWith-end h = rw (le-ltb (l .kind) 38 h)
-
   -- the numbers of an entry within the limits of its fields
   proper-numbers : Proper (entryWith l k) → (l .rule < 32) × (l .state < 16)
-  proper-numbers = go (ltb (l .kind) 38)
+  proper-numbers = go (l .sort)
     where
-      go : (b : Bool)
-          → Proper (cond b (edge (l .rule) (formWith (l .obj)) (l .state) k (kindOf (l .kind)) (l .next)) (end-state (l .rule) (formWith (l .obj)) (l .state)))
-          → (l .rule < 32) × (l .state < 16)
-      go true p = (p .rule, p .state)
-      go false p = p
+      go : (s : Sort) → Proper (entryAs s (l .rule) (formWith (l .obj)) (l .state) k (l .next)) → (l .rule < 32) × (l .state < 16)
+      go End p = p
+      go (Edge v) p = (p .rule, p .state)
 
   pub proper-rule : Proper (entryWith l k) → l .rule < 32
   proper-rule p = proper-numbers p .0
@@ -94,34 +86,40 @@ module _ (l : Line) (k : List ℕ) where
   pub proper-state : Proper (entryWith l k) → l .state < 16
   proper-state p = proper-numbers p .1
 
-  pub proper-len : l .kind < 38 → Proper (entryWith l k) → length k ≤ 32
-  proper-len h p = let q : Proper (edge (l .rule) (formWith (l .obj)) (l .state) k (kindOf (l .kind)) (l .next)) = rw (entryWith-edge h) at p in q .len
+  module _ (v : ValueKind) (is : l .sort ≡ Edge v) where
+    -- an edge
+    entryWith-edge : entryWith l k ≡ edge (l .rule) (formWith (l .obj)) (l .state) k v (l .next)
+    entryWith-edge = rw is
+
+    proper-edge : Proper (entryWith l k) → ProperEdge (l .rule) (formWith (l .obj)) (l .state) k v (l .next)
+    proper-edge p = rw entryWith-edge at p
+
+    pub proper-len : Proper (entryWith l k) → length k ≤ 32
+    proper-len p = proper-edge p .len
+
+    -- the code of its kind is a byte
+    pub proper-code : (c : ℕ) → c ≡ codeOf v → Proper (entryWith l k) → c < 256
+    proper-code c q p = let h = proper-edge p .kind in omega arith
 
 module _ (n : ℕ) (t : Table) (l : Line) (k : List ℕ) (f : ℕ) (qf : f ≡ formCode (formWith (l .obj))) (b : Bool)
     (x : ℕ) (qx : x ≡ getD (t .forms) (l .rule) 0) (qy : b ≡ formChanges x f) where
-  qb : b ≡ formChanges (getD (t .forms) (l .rule) 0) f
-  qb = qy ∙ ap (λ (i : ℕ). formChanges i f) qx
+  test-form : {y : Bool} → b ≡ y → formChanges (getD (t .forms) (l .rule) 0) (formCode (formWith (l .obj))) ≡ y
+  test-form e = sym (ap (formChanges (getD (t .forms) (l .rule) 0)) qf) ∙ sym (qy ∙ ap (λ (i : ℕ). formChanges i f) qx) ∙ e
 
   pub takeEntry-form : b ≡ true → taken 6 t ≡ takeEntry n t (entryWith l k)
   unfolding takeEntry
-  takeEntry-form e = go (ltb (l .kind) 38)
+  takeEntry-form e = go (l .sort)
     where
-      z : formChanges (getD (t .forms) (l .rule) 0) (formCode (formWith (l .obj))) ≡ true
-      z = sym (ap (formChanges (getD (t .forms) (l .rule) 0)) qf) ∙ sym qb ∙ e
-
-      go : (c : Bool) → taken 6 t ≡ takeEntry n t (cond c (edge (l .rule) (formWith (l .obj)) (l .state) k (kindOf (l .kind)) (l .next)) (end-state (l .rule) (formWith (l .obj)) (l .state)))
-      go true = rw z
-      go false = rw z
+      go : (s : Sort) → taken 6 t ≡ takeEntry n t (entryAs s (l .rule) (formWith (l .obj)) (l .state) k (l .next))
+      go End = rw (test-form e)
+      go (Edge v) = rw (test-form e)
 
   module _ (nb : b ≡ false) where
-    same-form : formChanges (getD (t .forms) (l .rule) 0) (formCode (formWith (l .obj))) ≡ false
-    same-form = sym (ap (formChanges (getD (t .forms) (l .rule) 0)) qf) ∙ sym qb ∙ nb
-
-    pub takeEntry-edge : (m : ℕ) (v : Taken) → l .kind < 38 → m ≡ keyNumber (tableKeys t) k
-        → v ≡ takeEdge n t f (record { rule = l .rule; state = l .state; key = m; kind = l .kind; next = l .next }) k → v ≡ takeEntry n t (entryWith l k)
+    pub takeEntry-edge : (v : ValueKind) (m c : ℕ) (w : Taken) → l .sort ≡ Edge v → m ≡ keyNumber (tableKeys t) k → c ≡ codeOf v
+        → w ≡ takeEdge n t f (record { rule = l .rule; state = l .state; key = m; kind = c; next = l .next }) k → w ≡ takeEntry n t (entryWith l k)
     unfolding takeEntry
-    takeEntry-edge m v h qm w = w ∙ rw (entryWith-edge l k h, same-form, codeOf-kindOf (l .kind), sym qm, qf)
+    takeEntry-edge v m c w is qm qc e = e ∙ rw (is, test-form nb, qc, sym qm, qf)
 
-    pub takeEntry-end : (v : Taken) → 38 ≤ l .kind → v ≡ takeEnd t (l .rule) f (l .state) → v ≡ takeEntry n t (entryWith l k)
+    pub takeEntry-end : (w : Taken) → l .sort ≡ End → w ≡ takeEnd t (l .rule) f (l .state) → w ≡ takeEntry n t (entryWith l k)
     unfolding takeEntry
-    takeEntry-end v h w = w ∙ rw (entryWith-end l k h, same-form, qf)
+    takeEntry-end w is e = e ∙ rw (is, test-form nb, qf)

@@ -1,5 +1,8 @@
--- The number and line of 01 for each answer of load: 01, "The stream", Load. Stated. Assumes nothing.
+-- Each answer of load and its number and line: REQUIREMENT.md, section 3, the table of refusals. Stated; `loads-numbered` shows that the two
+-- directions agree on the numbers and lines that a book gets. Assumes nothing.
+use mathlib.Core.Bool.{cond}
 use Prim.Native.Nat.{ℕ}
+use lib.Dec.{eqb}
 use Rattle.load.specs.declared.BookAnswer.{BookAnswer}
 use Rattle.load.specs.declared.BookAnswer.the-variants.{Accepted, Size, Names, Malformed, AboveLimit, TooMany, FormChanged, Repeated, NoRule, NoRoot, NotAscending}
 
@@ -11,7 +14,7 @@ pub record Numbered : Type 0 where
 abbrev pub number-line : ℕ → ℕ → Numbered
 number-line k n = record { number = k; line = n }
 
--- what 01 calls each answer
+-- the number and the line of each answer
 abbrev pub numbered : BookAnswer → Numbered
 numbered Accepted = number-line 0 0
 numbered Size = number-line 1 0
@@ -24,3 +27,17 @@ numbered (Repeated n) = number-line 7 n
 numbered (NoRule n) = number-line 8 n
 numbered NoRoot = number-line 8 0
 numbered (NotAscending n) = number-line 9 n
+
+-- the answer with a number and a line. Number 8 has two: on line 0 the root has no lines, on any other line a rule that it refers to has none.
+-- No other number is a refusal
+unfoldable pub answerFor : ℕ → ℕ → BookAnswer
+answerFor k n =
+    cond (eqb k 1) Size
+    (cond (eqb k 2) Names
+    (cond (eqb k 3) (Malformed n)
+    (cond (eqb k 4) (AboveLimit n)
+    (cond (eqb k 5) (TooMany n)
+    (cond (eqb k 6) (FormChanged n)
+    (cond (eqb k 7) (Repeated n)
+    (cond (eqb k 8) (cond (eqb n 0) NoRoot (NoRule n))
+    (cond (eqb k 9) (NotAscending n) Accepted))))))))

@@ -1,20 +1,24 @@
 -- Refusals 8 and 9 over a table, as the code finds them. Derived: `OrderLaws` joins them to `checkBook` of the book. Assumes nothing.
-use mathlib.Core.Bool.{Bool, not, cond, _&&_, _||_}
+use mathlib.Core.Bool.{Bool, false, not, cond, _&&_, _||_}
 use mathlib.Core.List.{List}
-use Prim.Native.Nat.{ℕ, _+_, _-_}
-use lib.Dec.{leb, ltb, eqb}
+use Prim.Native.Nat.{ℕ, _+_}
+use lib.Dec.{ltb, eqb}
 use lib.ListN.{getD}
 use Rattle.table.specs.Table.{Table}
+use Rattle.table.specs.Kind.{kindOf}
+use Rattle.table.specs.declared.kind.ValueKind.{ValueKind}
+use Rattle.table.specs.declared.kind.ValueKind.the-variants.{Plain, Rule}
 use Rattle.load.specs.declared.BookAnswer.the-variants.{NoRule, NoRoot, NotAscending}
 use Rattle.load.specs.Step.{Loaded, some, firstAt, loaded, refusal}
 
--- a kind with a code refers to a rule without lines
-unfoldable pub danglesCode : List ℕ → ℕ → Bool
-danglesCode forms v = leb 6 v && eqb (getD forms (v - 6) 0) 0
+-- a kind refers to a rule without lines, where the rules have these forms
+unfoldable pub danglesKind : List ℕ → ValueKind → Bool
+danglesKind forms (Plain s) = false
+danglesKind forms (Rule n) = eqb (getD forms n 0) 0
 
--- edge e does
+-- the kind of edge e does
 unfoldable pub danglesAt : Table → ℕ → Bool
-danglesAt t e = danglesCode (t .forms) (getD (t .«edge_kind») e 0)
+danglesAt t e = danglesKind (t .forms) (kindOf (getD (t .«edge_kind») e 0))
 
 -- edge a of an obj rule leads to edge b, and the keys do not rise: from the form, then a's and b's rule, a's next and b's state, the keys
 unfoldable pub clashCodes : ℕ → ℕ → ℕ → ℕ → ℕ → ℕ → ℕ → Bool

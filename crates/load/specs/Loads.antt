@@ -1,16 +1,24 @@
--- What load gives for a book: the paper's number and line, and the table of the paper's entries. Stated. Assumes nothing.
+-- What load gives for a book: REQUIREMENT.md, section 3, Load. The answer with the paper's number and line, and the table. Stated. Assumes nothing.
+use mathlib.Core.Bool.{cond}
 use mathlib.Core.List.{List}
 use mathlib.Core.Path.{_≡_}
 use Prim.Native.Nat.{ℕ, _<_, _≤_}
+use lib.Dec.{eqb}
 use lib.ListN.{getD}
+use Rattle.table.specs.Table.{Table}
+use Rattle.table.specs.Flat.{emptyTable}
 use Rattle.book.specs.Load.{loads}
-use Rattle.load.specs.BookAnswer.{number-line, numbered}
+use Rattle.load.specs.BookAnswer.{answerFor}
 use Rattle.load.specs.Step.{Loaded, tableOf}
 
--- a refusal has no entries, and the table of none is the empty one
+-- the table of a book: that of its entries where it is accepted, the empty table where it is refused
+unfoldable pub bookTable : List ℕ → Table
+bookTable b = cond (eqb (loads b .number) 0) (tableOf (loads b .entries)) emptyTable
+
+-- what is given for a book: its answer, and its table
 pub record LoadsAs (b : List ℕ) (r : Loaded) : Type 0 where
-  pub answer : numbered (r .answer) ≡ number-line (loads b .number) (loads b .line)
-  pub table : r .table ≡ tableOf (loads b .entries)
+  pub answer : r .answer ≡ answerFor (loads b .number) (loads b .line)
+  pub table : r .table ≡ bookTable b
 
 -- the bytes of a table that mean nothing are 0: all of a refused book's, and those between the counts and the first array
 pub record Blank (b l : List ℕ) : Type 0 where

@@ -4,23 +4,32 @@ ghost use Prim.Native.Nat.{_≤_, _<_};
 ghost use lib.ListN.{getD};
 ghost use Rattle.table.specs.Flat.{tableIn};
 ghost use Rattle.load.specs.Step.{loadedAs};
-ghost use Rattle.load.specs.Check.{danglesCode, clashCodes, clashAt, clashesAt, lateAt, danglingLine, clashLine, checkTable};
+ghost use Rattle.load.specs.Check.{danglesKind, clashCodes, clashAt, clashesAt, lateAt, danglingLine, clashLine, checkTable};
 use crate::BookAnswer;
 use crate::read;
 use table::flat;
+use table::kind;
+use table::kind::ValueKind;
 
-// A kind with this code refers to a rule without lines. A rule that is past the forms has none.
-fn dangles(table: &[u8; 7920], kind: u8) -> bool
-    ensures { λ r. ⌜ r ≡ danglesCode (tableIn (now (table .entry)) .forms) kind ⌝ }
+// The form of a rule; 0 past the forms.
+fn form_of(table: &[u8; 7920], rule: u8) -> u8
+    ensures { λ r. ⌜ r ≡ getD (tableIn (now (table .entry)) .forms) rule 0 ⌝ }
 {
-    if kind < 6 {
-        return false;
-    }
-    let r = (kind - 6) as usize;
+    let r = rule as usize;
     if r < 32 {
-        return flat::form(table, r) == 0;
+        return flat::form(table, r);
     }
-    true
+    0
+}
+
+// A kind refers to a rule without lines. A rule that is past the forms has none.
+fn dangles(table: &[u8; 7920], kind: ValueKind) -> bool
+    ensures { λ r. ⌜ r ≡ danglesKind (tableIn (now (table .entry)) .forms) kind ⌝ }
+{
+    match kind {
+        ValueKind::Plain(_) => false,
+        ValueKind::Rule(r) => form_of(table, r) == 0,
+    }
 }
 
 // The line of the first edge that refers to a rule without lines, or 0.
@@ -31,7 +40,7 @@ fn dangling_line(table: &[u8; 7920]) -> usize
     let n = flat::edges(table);
     let mut e = 0;
     while e < n {
-        if dangles(table, flat::kind(table, e)) {
+        if dangles(table, kind::kind_of(flat::kind(table, e))) {
             return flat::line(table, e);
         }
         e += 1;
@@ -51,17 +60,6 @@ fn clash(form: u8, a: u8, b: u8, next: u8, state: u8, k: u8, m: u8) -> bool
         }
     }
     false
-}
-
-// The form of a rule; 0 past the forms.
-fn form_of(table: &[u8; 7920], rule: u8) -> u8
-    ensures { λ r. ⌜ r ≡ getD (tableIn (now (table .entry)) .forms) rule 0 ⌝ }
-{
-    let r = rule as usize;
-    if r < 32 {
-        return flat::form(table, r);
-    }
-    0
 }
 
 // Edge a leads to edge b, and the keys do not rise.

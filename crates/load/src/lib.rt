@@ -1,4 +1,4 @@
-// Load: the table that a rule book says, or the refusal that 01 gives it.
+// Load: the table that a rule book says, or its refusal. REQUIREMENT.md, section 3.
 ghost use mathlib.Core.Path.{_≡_};
 ghost use Rattle.load.specs.BookAnswer.{numbered};
 ghost use Rattle.table.specs.Flat.{tableIn};
@@ -72,9 +72,9 @@ pub fn line_of(a: BookAnswer) -> usize
     }
 }
 
-// Loads a rule book, whose bytes stay as they are. Every byte string has an answer: the number and line that the paper's `loads` gives it, and
-// the table of the entries that it gives; every byte of a refused book's table is 0. Ruled out are, for example, a program that reports the
-// earlier line of a pair of clashing edges, and one that finds a repeated line only where it directly follows.
+// Loads a rule book, whose bytes stay as they are. Every byte string has an answer: the one with the number and line that the paper's `loads`
+// gives it, and the table of the entries that it gives; a refused book's table is the empty one, every byte of which is 0. Ruled out are, for
+// example, a program that answers `NoRule(0)` where the root has no lines, and one that finds a repeated line only where it directly follows.
 pub fn load(book: &[u8], table: &mut [u8; 7920]) -> BookAnswer
     ensures { λ r. ⌜ LoadsAs (now (book .entry)) (loadedAs r (tableIn (now (table .exit)))) ⌝ }
     ensures { λ _. ⌜ Blank (now (book .entry)) (now (table .exit)) ⌝ }

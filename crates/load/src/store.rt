@@ -13,11 +13,13 @@ ghost use Rattle.line.specs.Line.{formWith, entryWith};
 ghost use Rattle.load.specs.Proper.{Proper};
 ghost use Rattle.load.specs.Step.{sameAt, hasCell, withEnd, withEdge, written, withKey, isNew, formChanges, taken, takeEdge, takeEnd, takeEntry};
 use line::Line;
+use line::Sort;
 use table::bits;
 use table::flat;
 use table::keys;
+use table::kind;
 
-// The numbers of an edge, but for its line.
+// The numbers of an edge as a table stores them, but for its line. A kind is stored by its code.
 pub struct Cell {
     pub rule: u8,
     pub state: u8,
@@ -138,7 +140,7 @@ fn with_key(table: &mut [u8; 7920], key: &[u8])
     table[2] = (at + 1) as u8;
 }
 
-// A key of n bytes with number k is new behind m keys.
+// A key of n bytes with number k is new after m keys.
 fn is_new(n: usize, k: usize, m: usize) -> bool
     ensures { λ r. ⌜ r ≡ isNew n k m ⌝ }
 {
@@ -235,16 +237,19 @@ pub fn take_entry(table: &mut [u8; 7920], line: u16, l: Line, key: &[u8]) -> u8
     if form_changes(flat::form(table, at), form) {
         return 6;
     }
-    if l.kind < 38 {
-        let k = key_number(table, key);
-        let c = Cell {
-            rule: l.rule,
-            state: l.state,
-            key: k as u8,
-            kind: l.kind,
-            next: l.next,
-        };
-        return take_edge(table, line, form, c, key);
+    let sort = l.sort;
+    match sort {
+        Sort::End => take_end(table, l.rule, form, l.state),
+        Sort::Edge(v) => {
+            let k = key_number(table, key);
+            let c = Cell {
+                rule: l.rule,
+                state: l.state,
+                key: k as u8,
+                kind: kind::code(v) as u8,
+                next: l.next,
+            };
+            take_edge(table, line, form, c, key)
+        }
     }
-    take_end(table, l.rule, form, l.state)
 }

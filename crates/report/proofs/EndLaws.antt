@@ -11,8 +11,9 @@ use Rattle.table.specs.Table.{Table}
 use Rattle.book.specs.Load.{loads}
 use Rattle.load.specs.Step.{loadedAs}
 use Rattle.load.specs.declared.BookAnswer.{BookAnswer}
-use Rattle.load.specs.BookAnswer as load
+use Rattle.load.specs.BookAnswer.{numbered}
 use Rattle.load.specs.Loads.{LoadsAs}
+use Rattle.load.proofs.LoadedLaws.{number-of-book, line-of-book}
 use Rattle.text.specs.Text.{lineOf, streamNames, bookLines}
 use Rattle.text.specs.Put.{hasRoom, Written, write}
 use Rattle.reader.specs.declared.Reader.{Reader}
@@ -48,10 +49,10 @@ module _ (r : Reader) (t : Table) (w o : List ℕ) where
 
 -- ---- begin
 
-module _ (b o : List ℕ) (a : BookAnswer) (t : Table) (l : LoadsAs b (loadedAs a t)) (number : ℕ) (n : number ≡ load.numbered a .number)
+module _ (b o : List ℕ) (a : BookAnswer) (t : Table) (l : LoadsAs b (loadedAs a t)) (number : ℕ) (n : number ≡ numbered a .number)
     (after : List ℕ) (place : ℕ) where
   number-is : loads b .number ≡ number
-  number-is = sym (n ∙ ap (λ (y : load.Numbered). y .number) (l .answer))
+  number-is = sym (number-of-book b (loadedAs a t) l number n)
 
   pub begin-accepted : number ≡ 0 → record { out = after; at = place } ≡ write o 0 streamNames → Begins b o true t after place
   unfolding beginning
@@ -59,10 +60,10 @@ module _ (b o : List ℕ) (a : BookAnswer) (t : Table) (l : LoadsAs b (loadedAs 
       let e : eqb (loads b .number) 0 ≡ true = eq-eqb (loads b .number) 0 (number-is ∙ z) in
       record { answer = sym e; table-is = l .table; text = rw e h }
 
-  pub begin-refused : (line : ℕ) → (number ≡ 0 → ⊥) → line ≡ load.numbered a .line
+  pub begin-refused : (line : ℕ) → (number ≡ 0 → ⊥) → line ≡ numbered a .line
       → record { out = after; at = place } ≡ write o 0 (bookLines number line) → Begins b o false t after place
   unfolding beginning
   begin-refused line z m h =
       let e : eqb (loads b .number) 0 ≡ false = ne-eqb (loads b .number) 0 (λ y. z (sym number-is ∙ y)) in
-      let k : loads b .line ≡ line = sym (m ∙ ap (λ (y : load.Numbered). y .line) (l .answer)) in
+      let k : loads b .line ≡ line = sym (line-of-book b (loadedAs a t) l line m) in
       record { answer = sym e; table-is = l .table; text = rw (e, number-is, k) h }

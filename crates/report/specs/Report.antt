@@ -9,7 +9,7 @@ use lib.ListN.{length, drop}
 use lib.Seq.{sets}
 use Rattle.table.specs.Table.{Table}
 use Rattle.book.specs.Load.{loads}
-use Rattle.load.specs.Step.{tableOf}
+use Rattle.load.specs.Loads.{bookTable}
 use Rattle.verdict.specs.declared.Verdict.{Verdict}
 use Rattle.text.specs.Text.{lineOf, streamNames, bookLines}
 use Rattle.text.specs.Put.{room, hasRoom, Written, write}
@@ -110,5 +110,5 @@ beginning b = cond (eqb (loads b .number) 0) streamNames (bookLines (loads b .nu
 -- whether the book is accepted, its table, and its text in the output where there is room for it
 pub record Begins (b o : List ℕ) (accepted : Bool) (table : Table) (out : List ℕ) (used : ℕ) : Type 0 where
   pub answer : accepted ≡ eqb (loads b .number) 0
-  pub table-is : table ≡ tableOf (loads b .entries)
+  pub table-is : table ≡ bookTable b
   pub text : record { out = out; at = used } ≡ write o 0 (beginning b)

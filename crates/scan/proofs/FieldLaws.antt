@@ -9,66 +9,75 @@ use lib.ListN.{length, getD, drop, take}
 use lib.Seq.{take-all}
 use borrow.Author.Tests.{eq-eqb, ne-eqb, lt-ltb, le-ltb, le-leb, lt-leb, ltb-true, ltb-false, not-true, not-false}
 use Rattle.laws.specs.Lists.{same, all}
+use Rattle.table.specs.declared.kind.Scalar.{Scalar}
 use Rattle.table.specs.declared.kind.Scalar.the-variants.{Null, True, False, Str, Num, Int}
 use Rattle.table.specs.declared.kind.ValueKind.{ValueKind}
 use Rattle.table.specs.declared.kind.ValueKind.the-variants.{Plain, Rule}
-use Rattle.table.specs.Kind.{codeOf}
 use Rattle.book.specs.Text.{isEmpty, isDigit, isNumber, numberFrom, number}
 use Rattle.book.specs.Line.{isVisible, isKey, isPlain, behindR, isKind, kindIn, isForm, word-null, word-true, word-false, word-str, word-num, word-int, word-obj, word-arr, dash}
-use Rattle.scan.specs.Scan.{capped, plainCode}
-use Rattle.scan.proofs.ScanLaws.{capped-of-lt}
+use Rattle.scan.specs.declared.Word.{Word}
+use Rattle.scan.specs.declared.Word.the-variants.{Kind, Other}
+use Rattle.scan.specs.Scan.{capped, cappedKind, wordOf}
 
 -- ---- plain kinds: the words are tried in turn
 module _ (s : List ℕ) (a : Bool) (qa : a ≡ same s word-null) where
-  pub plainCode-null : a ≡ true → 0 ≡ plainCode s
-  unfolding plainCode
-  plainCode-null h = rw (sym qa ∙ h)
+  pub word-null-named : a ≡ true → Kind Null ≡ wordOf s
+  unfolding wordOf
+  word-null-named h = rw (sym qa ∙ h)
 
   module _ (na : a ≡ false) (b : Bool) (qb : b ≡ same s word-true) where
-    pub plainCode-true : b ≡ true → 1 ≡ plainCode s
-    unfolding plainCode
-    plainCode-true h = rw (sym qa ∙ na, sym qb ∙ h)
+    pub word-true-named : b ≡ true → Kind True ≡ wordOf s
+    unfolding wordOf
+    word-true-named h = rw (sym qa ∙ na, sym qb ∙ h)
 
     module _ (nb : b ≡ false) (c : Bool) (qc : c ≡ same s word-false) where
-      pub plainCode-false : c ≡ true → 2 ≡ plainCode s
-      unfolding plainCode
-      plainCode-false h = rw (sym qa ∙ na, sym qb ∙ nb, sym qc ∙ h)
+      pub word-false-named : c ≡ true → Kind False ≡ wordOf s
+      unfolding wordOf
+      word-false-named h = rw (sym qa ∙ na, sym qb ∙ nb, sym qc ∙ h)
 
       module _ (nc : c ≡ false) (d : Bool) (qd : d ≡ same s word-str) where
-        pub plainCode-str : d ≡ true → 3 ≡ plainCode s
-        unfolding plainCode
-        plainCode-str h = rw (sym qa ∙ na, sym qb ∙ nb, sym qc ∙ nc, sym qd ∙ h)
+        pub word-str-named : d ≡ true → Kind Str ≡ wordOf s
+        unfolding wordOf
+        word-str-named h = rw (sym qa ∙ na, sym qb ∙ nb, sym qc ∙ nc, sym qd ∙ h)
 
         module _ (nd : d ≡ false) (e : Bool) (qe : e ≡ same s word-num) where
-          pub plainCode-num : e ≡ true → 4 ≡ plainCode s
-          unfolding plainCode
-          plainCode-num h = rw (sym qa ∙ na, sym qb ∙ nb, sym qc ∙ nc, sym qd ∙ nd, sym qe ∙ h)
+          pub word-num-named : e ≡ true → Kind Num ≡ wordOf s
+          unfolding wordOf
+          word-num-named h = rw (sym qa ∙ na, sym qb ∙ nb, sym qc ∙ nc, sym qd ∙ nd, sym qe ∙ h)
 
           module _ (ne : e ≡ false) (f : Bool) (qf : f ≡ same s word-int) where
-            pub plainCode-int : f ≡ true → 5 ≡ plainCode s
-            unfolding plainCode
-            plainCode-int h = rw (sym qa ∙ na, sym qb ∙ nb, sym qc ∙ nc, sym qd ∙ nd, sym qe ∙ ne, sym qf ∙ h)
+            pub word-int-named : f ≡ true → Kind Int ≡ wordOf s
+            unfolding wordOf
+            word-int-named h = rw (sym qa ∙ na, sym qb ∙ nb, sym qc ∙ nc, sym qd ∙ nd, sym qe ∙ ne, sym qf ∙ h)
 
-            pub plainCode-none : f ≡ false → 6 ≡ plainCode s
-            unfolding plainCode
-            plainCode-none h = rw (sym qa ∙ na, sym qb ∙ nb, sym qc ∙ nc, sym qd ∙ nd, sym qe ∙ ne, sym qf ∙ h)
+            pub word-other : f ≡ false → Other ≡ wordOf s
+            unfolding wordOf
+            word-other h = rw (sym qa ∙ na, sym qb ∙ nb, sym qc ∙ nc, sym qd ∙ nd, sym qe ∙ ne, sym qf ∙ h)
 
--- a plain kind is one whose code is below 6, and what code the kind has that a field names
-plain-codes : (s : List ℕ)
-    → (isPlain s ≡ ltb (plainCode s) 6) × (codeOf (kindIn s) ≡ cond (ltb (plainCode s) 6) (plainCode s) (6 + number (behindR s)))
-unfolding isPlain kindIn plainCode codeOf
-plain-codes s = go (same s word-null) (same s word-true) (same s word-false) (same s word-str) (same s word-num) (same s word-int)
+-- a word names a plain kind
+isNamed : Word → Bool
+isNamed (Kind k) = true
+isNamed Other = false
+
+-- the kind of a field by its word, and by the number of a rule where the word names none
+kindWith : Word → ℕ → ValueKind
+kindWith (Kind k) n = Plain k
+kindWith Other n = Rule n
+
+-- a field names a plain kind exactly where its word does, and else a rule
+kind-of-word : (s : List ℕ) → (isPlain s ≡ isNamed (wordOf s)) × (kindIn s ≡ kindWith (wordOf s) (number (behindR s)))
+unfolding isPlain kindIn wordOf isNamed kindWith
+kind-of-word s = go (same s word-null) (same s word-true) (same s word-false) (same s word-str) (same s word-num) (same s word-int)
   where
-    code : Bool → Bool → Bool → Bool → Bool → Bool → ℕ
-    code a b c d e f = cond a 0 (cond b 1 (cond c 2 (cond d 3 (cond e 4 (cond f 5 6)))))
+    word : Bool → Bool → Bool → Bool → Bool → Bool → Word
+    word a b c d e f = cond a (Kind Null) (cond b (Kind True) (cond c (Kind False) (cond d (Kind Str) (cond e (Kind Num) (cond f (Kind Int) Other)))))
 
     kind : Bool → Bool → Bool → Bool → Bool → Bool → ValueKind
     kind a b c d e f =
         cond a (Plain Null) (cond b (Plain True) (cond c (Plain False) (cond d (Plain Str) (cond e (Plain Num) (cond f (Plain Int) (Rule (number (behindR s))))))))
 
     go : (a b c d e f : Bool)
-        → ((a || (b || (c || (d || (e || f))))) ≡ ltb (code a b c d e f) 6)
-        × (codeOf (kind a b c d e f) ≡ cond (ltb (code a b c d e f) 6) (code a b c d e f) (6 + number (behindR s)))
+        → ((a || (b || (c || (d || (e || f))))) ≡ isNamed (word a b c d e f)) × (kind a b c d e f ≡ kindWith (word a b c d e f) (number (behindR s)))
     go true b c d e f = (refl, refl)
     go false true c d e f = (refl, refl)
     go false false true d e f = (refl, refl)
@@ -126,7 +135,7 @@ module _ (s : List ℕ) (some : length s ≡ 0 → ⊥) (v : Bool) (qv : v ≡ i
     pub isNumber-zero : not u ≡ false → getD s 0 0 ≡ 48 → eqb (length s) 1 ≡ isNumber s
     isNumber-zero n g = rw (parts s some qv qu, not-false u n, eq-eqb (getD s 0 0) 48 g)
 
--- ---- kinds: a plain code p below 6 is the answer, else a number behind `r`
+-- ---- references: a number after `r`
 behindR-none : (s : List ℕ) → (getD s 0 0 ≡ 114 → ⊥) → behindR s ≡ []
 unfolding behindR
 behindR-none [] g = refl
@@ -141,45 +150,45 @@ first-of-none : (s : List ℕ) → length s ≡ 0 → getD s 0 0 ≡ 114 → ⊥
 first-of-none [] e g = omega arith
 first-of-none (d ∷ s) e g = omega arith
 
--- 6 and a number that stops at 32 is the sum that stops at 38
-capped-add : (v : ℕ) → 6 + capped 32 v ≡ capped 38 (6 + v)
-unfolding capped
-capped-add v = go (ltb v 32) refl
-  where
-    go : (b : Bool) → ltb v 32 ≡ b → 6 + cond b v 32 ≡ cond (ltb (6 + v) 38) (6 + v) 38
-    go true e = let l = ltb-true v 32 e in rw (lt-ltb (6 + v) 38 (omega arith))
-    go false e = let l = ltb-false v 32 e in rw (le-ltb (6 + v) 38 (omega arith))
+module _ (s : List ℕ) where
+  pub reference-odd : (getD s 0 0 ≡ 114 → ⊥) → false ≡ isNumber (behindR s)
+  unfolding isNumber
+  reference-odd g = rw (behindR-none s g)
 
-module _ (s : List ℕ) (p : ℕ) (qp : p ≡ plainCode s) where
-  pub isKind-plain : p < 6 → true ≡ isKind s
-  unfolding isKind
-  isKind-plain h = rw (plain-codes s .0, sym qp, lt-ltb p 6 h)
+  pub reference-none : length s ≡ 0 → false ≡ isNumber (behindR s)
+  reference-none e = reference-odd (first-of-none s e)
 
-  pub codeOf-plain : p < 6 → p ≡ capped 38 (codeOf (kindIn s))
-  codeOf-plain h = rw (plain-codes s .1, sym qp, lt-ltb p 6 h) (sym (capped-of-lt 38 p (omega arith)))
+  pub rule-odd : (getD s 0 0 ≡ 114 → ⊥) → 0 ≡ capped 32 (number (behindR s))
+  unfolding number numberFrom capped
+  rule-odd g = rw (behindR-none s g)
 
-  module _ (np : 6 ≤ p) where
-    pub isKind-odd : (getD s 0 0 ≡ 114 → ⊥) → false ≡ isKind s
-    unfolding isKind isNumber
-    isKind-odd g = rw (plain-codes s .0, sym qp, le-ltb p 6 np, behindR-none s g)
+  pub rule-none : length s ≡ 0 → 0 ≡ capped 32 (number (behindR s))
+  rule-none e = rule-odd (first-of-none s e)
 
-    pub codeOf-odd : (getD s 0 0 ≡ 114 → ⊥) → 6 ≡ capped 38 (codeOf (kindIn s))
-    unfolding number numberFrom capped
-    codeOf-odd g = rw (plain-codes s .1, sym qp, le-ltb p 6 np, behindR-none s g)
+  module _ (some : length s ≡ 0 → ⊥) (g : getD s 0 0 ≡ 114) where
+    pub reference-some : (r : Bool) → r ≡ isNumber (take (length s - 1) (drop 1 s)) → r ≡ isNumber (behindR s)
+    reference-some r w = rw (behindR-some s some g) w
 
-    pub isKind-none : length s ≡ 0 → false ≡ isKind s
-    isKind-none e = isKind-odd (first-of-none s e)
+    pub rule-some : (r : ℕ) → r ≡ capped 32 (number (take (length s - 1) (drop 1 s))) → r ≡ capped 32 (number (behindR s))
+    rule-some r w = rw (behindR-some s some g) w
 
-    pub codeOf-none : length s ≡ 0 → 6 ≡ capped 38 (codeOf (kindIn s))
-    codeOf-none e = codeOf-odd (first-of-none s e)
+-- ---- kinds: the word w of a field, and where it names none, a reference
+module _ (s : List ℕ) (w : Word) (qw : w ≡ wordOf s) where
+  pub isKind-plain : (k : Scalar) → w ≡ Kind k → true ≡ isKind s
+  unfolding isKind isNamed
+  isKind-plain k e = rw (kind-of-word s .0, sym qw ∙ e)
 
-    module _ (some : length s ≡ 0 → ⊥) (g : getD s 0 0 ≡ 114) where
-      pub isKind-rule : (r : Bool) → r ≡ isNumber (take (length s - 1) (drop 1 s)) → r ≡ isKind s
-      unfolding isKind
-      isKind-rule r w = rw (plain-codes s .0, sym qp, le-ltb p 6 np, behindR-some s some g) w
+  pub isKind-reference : (r : Bool) → w ≡ Other → r ≡ isNumber (behindR s) → r ≡ isKind s
+  unfolding isKind isNamed
+  isKind-reference r e p = rw (kind-of-word s .0, sym qw ∙ e) p
 
-      pub codeOf-rule : (r : ℕ) → r ≡ capped 32 (number (take (length s - 1) (drop 1 s))) → 6 + r ≡ capped 38 (codeOf (kindIn s))
-      codeOf-rule r w = rw (plain-codes s .1, sym qp, le-ltb p 6 np, behindR-some s some g, w) (capped-add (number (take (length s - 1) (drop 1 s))))
+  pub kindIn-plain : (k : Scalar) → w ≡ Kind k → Plain k ≡ cappedKind (kindIn s)
+  unfolding kindWith cappedKind
+  kindIn-plain k e = rw (kind-of-word s .1, sym qw ∙ e)
+
+  pub kindIn-rule : (r : ℕ) → w ≡ Other → r ≡ capped 32 (number (behindR s)) → Rule r ≡ cappedKind (kindIn s)
+  unfolding kindWith cappedKind
+  kindIn-rule r e p = rw (kind-of-word s .1, sym qw ∙ e, p)
 
 -- ---- forms
 module _ (s : List ℕ) (r : Bool) (q : r ≡ same s word-obj) where
@@ -190,12 +199,3 @@ module _ (s : List ℕ) (r : Bool) (q : r ≡ same s word-obj) where
   pub isForm-arr : (t : Bool) → r ≡ false → t ≡ same s word-arr → t ≡ isForm s
   unfolding isForm
   isForm-arr t e w = rw (sym q ∙ e) w
-
--- ---- a capped number is at most its limit
-pub capped-le : (m v r : ℕ) → r ≡ capped m v → r ≤ m
-unfolding capped
-capped-le m v r e = go (ltb v m) refl e
-  where
-    go : (b : Bool) → ltb v m ≡ b → r ≡ cond b v m → r ≤ m
-    go true q f = omega (arith, ltb-true v m q)
-    go false q f = omega arith

@@ -4,7 +4,12 @@ use mathlib.Core.List.{List, [], _∷_}
 use Prim.Native.Nat.{ℕ, suc}
 use lib.Dec.{ltb, eqb}
 use Rattle.laws.specs.Lists.{same}
+use Rattle.table.specs.declared.kind.Scalar.the-variants.{Null, True, False, Str, Num, Int}
+use Rattle.table.specs.declared.kind.ValueKind.{ValueKind}
+use Rattle.table.specs.declared.kind.ValueKind.the-variants.{Plain, Rule}
 use Rattle.book.specs.Line.{word-null, word-true, word-false, word-str, word-num, word-int}
+use Rattle.scan.specs.declared.Word.{Word}
+use Rattle.scan.specs.declared.Word.the-variants.{Kind, Other}
 
 -- how many bytes stand before the first c; all of them, where there is none
 unfoldable pub until : ℕ → List ℕ → ℕ
@@ -15,12 +20,17 @@ until c (b ∷ s) = cond (eqb b c) 0 (suc (until c s))
 unfoldable pub capped : ℕ → ℕ → ℕ
 capped m v = cond (ltb v m) v m
 
--- the code of the plain kind that a field names; 6 where it names none
-unfoldable pub plainCode : List ℕ → ℕ
-plainCode s =
-    cond (same s word-null) 0
-    (cond (same s word-true) 1
-    (cond (same s word-false) 2
-    (cond (same s word-str) 3
-    (cond (same s word-num) 4
-    (cond (same s word-int) 5 6)))))
+-- a kind with the number of a rule below 32, and 32 for all others
+unfoldable pub cappedKind : ValueKind → ValueKind
+cappedKind (Plain s) = Plain s
+cappedKind (Rule n) = Rule (capped 32 n)
+
+-- the plain kind that a field names
+unfoldable pub wordOf : List ℕ → Word
+wordOf s =
+    cond (same s word-null) (Kind Null)
+    (cond (same s word-true) (Kind True)
+    (cond (same s word-false) (Kind False)
+    (cond (same s word-str) (Kind Str)
+    (cond (same s word-num) (Kind Num)
+    (cond (same s word-int) (Kind Int) Other)))))

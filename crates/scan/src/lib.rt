@@ -5,11 +5,12 @@ ghost use Prim.Native.Nat.{_+_, _*_, _-_, _≤_};
 ghost use lib.Dec.{ltb};
 ghost use lib.ListN.{drop};
 ghost use Rattle.laws.specs.Lists.{all};
-ghost use Rattle.table.specs.Kind.{codeOf};
 ghost use Rattle.book.specs.Text.{between, isNumber, number};
-ghost use Rattle.book.specs.Line.{isKey, isKind, isForm, kindIn};
-ghost use Rattle.scan.specs.Scan.{until, capped, plainCode};
+ghost use Rattle.book.specs.Line.{isKey, behindR, isKind, isForm, kindIn};
+ghost use Rattle.scan.specs.Scan.{until, capped, cappedKind, wordOf};
 use table::bytes;
+use table::kind::Scalar;
+use table::kind::ValueKind;
 
 const OBJ: [u8; 3] = *b"obj";
 
@@ -28,6 +29,12 @@ const NUM: [u8; 3] = *b"num";
 const INT: [u8; 3] = *b"int";
 
 const DASH: [u8; 1] = *b"-";
+
+// The plain kind that a word names, or that it names none.
+pub enum Word {
+    Kind(Scalar),
+    Other,
+}
 
 // The place of the first byte c from `from` on, or the end.
 pub fn find(s: &[u8], from: usize, c: u8) -> usize
@@ -133,38 +140,35 @@ pub fn is_key(s: &[u8]) -> bool
     !bytes::equal(s, &DASH)
 }
 
-// The code of the plain kind, or 6.
-fn plain_code(s: &[u8]) -> u8
-    ensures { λ r. ⌜ r ≡ plainCode (now (s .entry)) ⌝ }
+// The plain kind that a field names, or that it names none.
+fn plain_word(s: &[u8]) -> Word
+    ensures { λ r. ⌜ r ≡ wordOf (now (s .entry)) ⌝ }
 {
     if bytes::equal(s, &NULL) {
-        return 0;
+        return Word::Kind(Scalar::Null);
     }
     if bytes::equal(s, &TRUE) {
-        return 1;
+        return Word::Kind(Scalar::True);
     }
     if bytes::equal(s, &FALSE) {
-        return 2;
+        return Word::Kind(Scalar::False);
     }
     if bytes::equal(s, &STR) {
-        return 3;
+        return Word::Kind(Scalar::Str);
     }
     if bytes::equal(s, &NUM) {
-        return 4;
+        return Word::Kind(Scalar::Num);
     }
     if bytes::equal(s, &INT) {
-        return 5;
+        return Word::Kind(Scalar::Int);
     }
-    6
+    Word::Other
 }
 
-// The field is the word of a plain kind, or `r` and a number.
-pub fn is_kind(s: &[u8]) -> bool
-    ensures { λ r. ⌜ r ≡ isKind (now (s .entry)) ⌝ }
+// The field is `r` and a number.
+fn is_reference(s: &[u8]) -> bool
+    ensures { λ r. ⌜ r ≡ isNumber (behindR (now (s .entry))) ⌝ }
 {
-    if plain_code(s) < 6 {
-        return true;
-    }
     if s.len() == 0 {
         return false;
     }
@@ -174,21 +178,39 @@ pub fn is_kind(s: &[u8]) -> bool
     is_number(&s[1..])
 }
 
-// The code of a kind, or 38 where it refers to a rule above 31.
-pub fn kind_code(s: &[u8]) -> u8
-    ensures { λ r. ⌜ r ≡ capped 38 (codeOf (kindIn (now (s .entry)))) ⌝ }
+// The number of the rule after an `r`, or 32 where that is not below it.
+fn rule_in(s: &[u8]) -> u8
+    ensures { λ r. ⌜ r ≡ capped 32 (number (behindR (now (s .entry)))) ⌝ }
 {
-    let p = plain_code(s);
-    if p < 6 {
-        return p;
-    }
     if s.len() == 0 {
-        return 6;
+        return 0;
     }
     if s[0] != 114 {
-        return 6;
+        return 0;
     }
-    6 + value(&s[1..], 32)
+    value(&s[1..], 32)
+}
+
+// The field is the word of a plain kind, or `r` and a number.
+pub fn is_kind(s: &[u8]) -> bool
+    ensures { λ r. ⌜ r ≡ isKind (now (s .entry)) ⌝ }
+{
+    let w = plain_word(s);
+    match w {
+        Word::Kind(_) => true,
+        Word::Other => is_reference(s),
+    }
+}
+
+// The value kind that a field names. A rule above 31 is given as rule 32.
+pub fn kind_in(s: &[u8]) -> ValueKind
+    ensures { λ r. ⌜ r ≡ cappedKind (kindIn (now (s .entry))) ⌝ }
+{
+    let w = plain_word(s);
+    match w {
+        Word::Kind(k) => ValueKind::Plain(k),
+        Word::Other => ValueKind::Rule(rule_in(s)),
+    }
 }
 
 // The field is `obj` or `arr`.

@@ -1,6 +1,6 @@
-// Value kinds: 01, "Rule books" and "Runs".
+// Value kinds: REQUIREMENT.md, sections 3 and 4. A table stores each by its code.
 ghost use mathlib.Core.Path.{_≡_};
-ghost use Rattle.table.specs.Kind.{kindOf, scalarFits, ruleFits, fitsKind};
+ghost use Rattle.table.specs.Kind.{kindOf, scalarCode, codeOf, scalarFits, ruleFits, fitsKind};
 
 // A plain kind of value. Of a finished number, Int says that it was written without fraction and exponent part.
 pub enum Scalar {
@@ -24,7 +24,31 @@ pub enum Finished {
     Rules(u32),
 }
 
-// The value kind with the given code: plain kinds are 0 to 5, rule N is 6 + N.
+// The code of a plain kind.
+fn scalar_code(s: Scalar) -> u16
+    ensures { λ r. ⌜ r ≡ scalarCode s ⌝ }
+{
+    match s {
+        Scalar::Null => 0,
+        Scalar::True => 1,
+        Scalar::False => 2,
+        Scalar::Str => 3,
+        Scalar::Num => 4,
+        Scalar::Int => 5,
+    }
+}
+
+// The code of a value kind: plain kinds are 0 to 5, rule N is 6 + N.
+pub fn code(kind: ValueKind) -> u16
+    ensures { λ r. ⌜ r ≡ codeOf kind ⌝ }
+{
+    match kind {
+        ValueKind::Plain(s) => scalar_code(s),
+        ValueKind::Rule(n) => 6 + n as u16,
+    }
+}
+
+// The value kind with the given code: `code` read backwards.
 pub fn kind_of(code: u8) -> ValueKind
     ensures { λ r. ⌜ r ≡ kindOf code ⌝ }
 {

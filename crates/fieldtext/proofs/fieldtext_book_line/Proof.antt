@@ -1,5 +1,5 @@
 -- `fieldtext_book_line` meets its contract. Assumes nothing.
-use Rattle.fieldtext.proofs.JudgeLaws.{line-of-book}
+use Rattle.load.proofs.LoadedLaws.{line-of-book}
 use borrow.Author.Needs.{needs}
 use Rattle.fieldtext.proofs.fieldtext_book_line.Statement.{statement}
 use Rattle.fieldtext.proofs.fieldtext_book_line.Tie as tie

@@ -1,5 +1,5 @@
 -- `fieldtext_load` meets its contract. Assumes nothing.
-use Rattle.fieldtext.proofs.JudgeLaws.{number-of-book}
+use Rattle.load.proofs.LoadedLaws.{number-of-book}
 use borrow.Author.Needs.{needs}
 use Rattle.fieldtext.proofs.fieldtext_load.Statement.{statement}
 use Rattle.fieldtext.proofs.fieldtext_load.Tie as tie

@@ -16,5 +16,5 @@ returns-3 c = search (needs, edgeLine-good)
 pub judge-edge-spec : {M : Type 1} → statement M
 judge-edge-spec =
     tie.close
-    (tie.spec (λ c κs. search needs) (λ c κs. search needs) returns (λ c κs. search needs) (λ c κs. search needs) returns-2 (λ c κs. search needs)
+    (tie.spec (λ c κs. search needs) (λ c κs. search needs) (λ c κs. search needs) returns (λ c κs. search needs) (λ c κs. search needs) returns-2 (λ c κs. search needs)
     returns-3)

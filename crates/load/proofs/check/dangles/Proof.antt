@@ -1,6 +1,5 @@
 -- `check::dangles` meets its contract. Assumes nothing.
-use Rattle.load.proofs.CheckLaws.{dangles-plain, dangles-rule, dangles-past}
-use Rattle.load.proofs.PlaceLaws.{forms-past}
+use Rattle.load.proofs.CheckLaws.{dangles-plain, dangles-rule}
 use borrow.Author.Needs.{needs}
 use Rattle.load.proofs.check.dangles.Statement.{statement}
 use Rattle.load.proofs.check.dangles.Tie as tie
@@ -11,8 +10,5 @@ returns c = search (needs, dangles-plain)
 returns-2 : tie.Need-returns-2
 returns-2 c = search (needs, dangles-rule)
 
-returns-3 : tie.Need-returns-3
-returns-3 c = search (needs, dangles-past, forms-past)
-
 pub dangles-spec : {M : Type 1} → statement M
-dangles-spec = tie.close (tie.spec returns (λ c. search needs) (λ c κs. search needs) returns-2 returns-3)
+dangles-spec = tie.close (tie.spec (λ c. search needs) (λ c. search needs) (λ c κs. search needs) returns returns-2)

@@ -115,7 +115,7 @@ private:
     std::ofstream markdown_, results_;
 };
 
-// A number with so many digits behind the point; a whole number with commas.
+// A number with so many digits after the point; a whole number with commas.
 std::string digits(double number, int behind);
 std::string grouped(size_t number);
 

@@ -26,7 +26,7 @@ const char *const FIELD_SCHEMA = R"({
 
 namespace {
 
-// Room behind the last text: simdjson reads up to 64 bytes past the end.
+// Room after the last text: simdjson reads up to 64 bytes past the end.
 constexpr size_t ROOM = 64;
 
 // Numbers from a seed, the same on every machine.

@@ -150,7 +150,7 @@ void scale_levels(Report &report, const Options &options) {
     report.table({"level", "numbers: ns per byte", "brackets: ns per record", "ns per level", "work bytes"}, rows);
 }
 
-// Small fields in one stream: those at the beginning, in the middle and behind a million cost the same.
+// Small fields in one stream: those at the beginning, in the middle and after a million cost the same.
 void scale_records(Report &report, const Options &options) {
     const size_t unit = options.quick ? 10'000 : 100'000;
     const std::string stream = small_records(options.seed, 11 * unit);

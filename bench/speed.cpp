@@ -35,7 +35,7 @@ std::vector<size_t> braces(const std::string &text) {
     return places;
 }
 
-// The first text with a pair too many behind an opening brace.
+// The first text with a pair too many after an opening brace.
 Input with_pair(const Input &input, size_t brace) {
     Input other;
     other.name = input.name + ", a pair too many";

@@ -290,7 +290,7 @@ printf '\036\n\036' >lf
 direct <lf
 prints 'a record of one LF' 0 'verdict number place' 'refused 14 1'
 
-# ---- the examples of document 01, alone behind an RS
+# ---- the examples of the requirement, alone after an RS
 
 # record VERDICT BYTES: as printf writes them
 record() {
@@ -337,7 +337,7 @@ lines 'the GeoJSON book' geojson/book.txt geojson/more.jsons 'valid valid invali
 # ---- cut in pieces, and hostile bytes
 
 cat >"$work/pieces.py" <<'END'
-"""pieces.py SIZE FILE: writes the file in pieces of that many bytes, or of 1 to 50 where it is 0, with a pause behind each"""
+"""pieces.py SIZE FILE: writes the file in pieces of that many bytes, or of 1 to 50 where it is 0, with a pause after each"""
 import os, random, sys, time
 size, text = int(sys.argv[1]), open(sys.argv[2], 'rb').read()
 rng, i = random.Random(5), 0
@@ -399,7 +399,7 @@ same 'the example day in single bytes, through the wrapper' "$work/whole" "$work
 # ---- the limit of length
 
 cp "$day/book.txt" "$work/run/book.txt"
-# padded BYTES: a sound text with blanks behind it
+# padded BYTES: a sound text with blanks after it
 padded() { python3 -c 'import sys; sys.stdout.write("\x1e" + "{\"corners\":[],\"name\":\"\"}".ljust(int(sys.argv[1])))' "$1" >long; }
 padded 16777216
 direct <long

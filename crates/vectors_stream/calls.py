@@ -1,5 +1,5 @@
 #!/usr/bin/env python3
-"""The calls of data/calls, and what document 01 answers to them.
+"""The calls of data/calls, and what the requirement answers to them.
 
 calls.py write   makes data/calls
 calls.py answer  prints what each call must answer, by the paper alone: no frames, no tables, no states

@@ -1,5 +1,5 @@
 #!/usr/bin/env python3
-"""What document 01 says to each file of data/, judged behind an RS under book.txt with 64 frames.
+"""What the requirement says to each file of data/, judged behind an RS under book.txt with 64 frames.
 
 files.py names   writes data/names, one file name to a line
 files.py answer  prints what the program must write: a line for each verdict of each file, then the summary

@@ -1,5 +1,5 @@
 #!/usr/bin/env python3
-"""limits.py prints what document 01 says to the records that the program makes, in its order.
+"""limits.py prints what the requirement says to the records that the program makes, in its order.
 
 Records of many levels are judged by the paper, calls.py of vectors_stream. A record of many bytes is a few bytes, a unit over and over, and a few
 bytes more: the paper judges it with most of the units left out, and a fault behind them moves by as many bytes. Where no fault stands before

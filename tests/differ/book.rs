@@ -1,4 +1,4 @@
-//! The paper, part one: load of a rule book (01, "Rule books" and "Load").
+//! The paper, part one: load of a rule book (docs/REQUIREMENT.md, section 3).
 
 use crate::plant::{on, Plant};
 use std::collections::HashSet;
@@ -66,7 +66,7 @@ impl Book {
     }
 }
 
-/// 01, "Load": refusals 1 and 2, then line by line 3, 4, 6, 7, 5, then 8 and 9.
+/// Load: refusals 1 and 2, then line by line 3, 4, 6, 7, 5, then 8 and 9.
 pub fn load(bytes: &[u8]) -> Result<Book, Refusal> {
     let most = if on(Plant::BookSize) { 65_535 } else { 65_536 };
     if bytes.is_empty() || bytes.len() > most {

@@ -1,4 +1,4 @@
-//! The examples of 01, "An example day", held against the paper before it is held against the program.
+//! The examples of docs/REQUIREMENT.md, section 8, held against the paper before it is held against the program.
 
 use crate::book::load;
 use crate::stream::{judge, lines};
@@ -16,7 +16,7 @@ const BOOK: &str = "rule form state key value next
 
 const TITLE: &str = "verdict number place";
 
-/// Streams under the book, with the verdict lines that 01 gives them.
+/// Streams under the book, with the verdict lines that they have there.
 const EXAMPLES: &[(&[u8], &str)] = &[
     (
         b"\x1E{\"name\":\"N\",\"corners\":[[1,2]]}\n\x1E{\"name\":\"N\"}\n\x1E{\"name\":\x1E\x1E[1,]\n",

@@ -1,4 +1,4 @@
-//! The paper, part five: the work buffer after a stream (01, "Frames").
+//! The paper, part five: the work buffer after a stream (docs/REQUIREMENT.md, section 5).
 //! Opening a value writes its frame whole, and all that is written there later is about that value. So in the end a frame tells of the last
 //! value that opened on its level: those of its keys and values that were finished before the record's first fault. The bytes before
 //! the fault are read a second time, and each frame is drawn at once, from what the value has.
@@ -121,7 +121,7 @@ impl<R: Rules> Sound<'_, R> {
         (self.at + usize::from(on(Plant::WordLater)) <= self.bytes.len()).then_some((value, 0))
     }
 
-    /// Finished by the byte behind it, so never by the end of the bytes.
+    /// Finished by the byte after it, so never by the end of the bytes.
     fn number(&mut self) -> Option<(Value, u32)> {
         let rest = &self.bytes[self.at..];
         let behind = rest.iter().position(|byte| !b"+-.0123456789eE".contains(byte));

@@ -1,4 +1,4 @@
-//! A differential test: the library and the judging program against a paper of its own, written from the words of 01.
+//! A differential test: the library and the judging program against a paper of its own, written from the words of the requirement (docs/REQUIREMENT.md).
 //! Usage: differ JUDGE [--cases N] [--seed S] [--only TRIAL] [--plants] [--say]. See README.md beside this file.
 
 mod book;
@@ -56,7 +56,7 @@ fn main() {
         Err(error) => fail(&format!("{}: {error}", options.judge.display())),
     };
     if let Some(words) = examples::wrong() {
-        fail(&format!("the paper is wrong about an example of 01: {words}"));
+        fail(&format!("the paper is wrong about an example of the requirement: {words}"));
     }
     let folder = program::folder().unwrap_or_else(|error| fail(&format!("no folder to work in: {error}")));
     let program = Program { path, folder };

@@ -49,7 +49,7 @@ pub fn book_lines(rng: &mut Rng) -> Lines {
     }
 }
 
-/// Books for deep nesting, and the book of 01.
+/// Books for deep nesting, and book B of the examples.
 fn fixed(rng: &mut Rng) -> Lines {
     let texts: [&[&str]; 4] = [
         &["0 arr 0 - r0 0", "0 arr 0 - end -", "0 arr 0 - num 0"],

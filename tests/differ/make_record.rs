@@ -457,7 +457,7 @@ const BEGINNINGS: &[&[u8]] = &[
     b"{\"\xF4", b"\xEF", b"\xEF\xBB",
 ];
 
-/// Every byte behind each beginning of a text, at the root or inside an array.
+/// Every byte after each beginning of a text, at the root or inside an array.
 pub fn every_byte(inside: &[u8]) -> Vec<Vec<u8>> {
     let all = |start: &&[u8]| {
         let start = [inside, start].concat();

@@ -1,4 +1,4 @@
-//! The paper, part three: runs (01, "Runs"). An object is accepted in *some* order of its pairs, so orders are tried.
+//! The paper, part three: runs (docs/REQUIREMENT.md, section 4). An object is accepted in *some* order of its pairs, so orders are tried.
 
 use crate::book::{Book, Edge, Form, Kind, RULES};
 use crate::frames::Rules;

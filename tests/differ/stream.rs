@@ -1,4 +1,4 @@
-//! The paper, part four: parts of a stream, their verdicts, and what the judging program prints (01, "The stream").
+//! The paper, part four: parts of a stream, their verdicts, and what the judging program prints (docs/REQUIREMENT.md, sections 6 and 7).
 
 use crate::book::{Book, Refusal};
 use crate::flat::Flat;
@@ -114,7 +114,7 @@ fn record<R: Rules>(rules: &R, part: &Part, work: &mut [u8]) -> Verdict {
     verdict
 }
 
-/// The lines that the judging program prints (01, "An example day"); it lends 64 frames, so its start is not refused.
+/// The lines that the judging program prints (docs/REQUIREMENT.md, section 8); it lends 64 frames, so its start is not refused.
 pub fn lines(found: &Found) -> Vec<String> {
     match found {
         Found::Book(number, line) => vec!["number line".to_string(), format!("{number} {line}")],

@@ -1,4 +1,4 @@
-//! The paper, part two: one JSON text by recursive descent (01, "Bytes and grammar"; RFC 8259, RFC 3629).
+//! The paper, part two: one JSON text by recursive descent (docs/REQUIREMENT.md, section 2; RFC 8259, RFC 3629).
 //! A fault lies at the first byte that no text can have there: the descent stops at exactly that byte.
 
 use crate::plant::{on, Plant};
@@ -27,7 +27,7 @@ struct Text<'a> {
     levels: usize,
 }
 
-/// The string that begins at `at`, and the place behind it; none where it does not end.
+/// The string that begins at `at`, and the place after it; none where it does not end.
 pub fn string_at(bytes: &[u8], at: usize) -> Option<(Vec<u8>, usize)> {
     let mut text = Text { bytes, at, level: 0, levels: 0 };
     text.string().ok().map(|string| (string, text.at))
@@ -149,7 +149,7 @@ impl Text<'_> {
         }
     }
 
-    /// A string's bytes after its escapes are resolved (01: keys are compared after that).
+    /// A string's bytes after its escapes are resolved (keys are compared after that).
     fn string(&mut self) -> Step<Vec<u8>> {
         let mut text = Vec::new();
         self.at += 1;
@@ -219,7 +219,7 @@ impl Text<'_> {
         Ok(())
     }
 
-    /// 01: an escaped surrogate only as a high one followed by an escaped low one.
+    /// An escaped surrogate stands only as a high one followed by an escaped low one.
     fn unicode(&mut self, text: &mut Vec<u8>) -> Step<()> {
         self.at += 1;
         let first = self.hex(0, 15)?;

@@ -130,7 +130,7 @@ pub fn trial(seed: u64, number: u64) -> Trial {
     Trial { book, streams, program, books, tables }
 }
 
-/// Long parts, and every byte in every place: each record by itself, behind one stream with all of them.
+/// Long parts, and every byte in every place: each record by itself, after one stream with all of them.
 fn fixed(rng: &mut Rng, number: u64) -> Trial {
     let streams = if number < LONG {
         let (bytes, work) = (long_stream(number), 6144 + rng.below(96));

@@ -29,7 +29,7 @@ numbered NoRoot = number-line 8 0
 numbered (NotAscending n) = number-line 9 n
 
 -- the answer with a number and a line. Number 8 has two: with line 0 it is rule 0 that has no lines, with any other line a rule that this line
--- refers to. A number above 9 is none of a refusal
+-- refers to. No refusal has a number above 9
 unfoldable pub answerFor : ℕ → ℕ → BookAnswer
 answerFor k n =
     cond (eqb k 1) Size

@@ -38,9 +38,11 @@ plain-code-lt Str c e = omega arith
 plain-code-lt Num c e = omega arith
 plain-code-lt Int c e = omega arith
 
+-- their bits are at most 32
 pub plain-bit-le : (k : Scalar) (c : ℕ) → c ≡ codeOf (Plain k) → (1 * 2 ^ c) % 2 ^ 64 ≤ 32
 plain-bit-le k c p = let l = plain-code-lt k c p in rw (one-shl 64 c (omega arith)) (pow-mono {i = c} {j = 5} (omega arith))
 
+-- the bit of a kind that the scalar fits, and of one that it does not
 module _ (k s : Scalar) (b : Bool) (q : b ≡ fitsKind (Plain k) (Done.Scalar s)) where
   pub bit-of-fit : (c : ℕ) → b ≡ true → c ≡ codeOf (Plain k) → (1 * 2 ^ c) % 2 ^ 64 ≡ bitIfFits k s
   unfolding bitIfFits

@@ -1,5 +1,5 @@
 -- The kinds that a finished value fits, as the bits of one number: bit c for the kind with code c.
--- Derived: `maskHas-scalarMask` and `maskHas-rules` of `MaskLaws` join it to `fitsCode`. Assumes nothing.
+-- Derived: `maskHas-scalarMask` and `maskHas-rules-shl` of `MaskLaws` join it to `fitsCode`. Assumes nothing.
 use mathlib.Core.Bool.{Bool, false, cond}
 use Prim.Native.Nat.{ℕ, _+_, _/_, _%_, _^_}
 use lib.Dec.{eqb, ltb}

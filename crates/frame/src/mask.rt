@@ -34,7 +34,8 @@ fn scalar_mask(s: Scalar) -> u64
         + bit_if_fits(Scalar::Int, s)
 }
 
-// The mask of a finished value. The codes of rules follow each other from that of rule 0 on, as the bits of the rules do.
+// The mask of a finished value: it has a code exactly where the value fits the kind with that code. The codes of rules follow each other from
+// that of rule 0 on, as the bits of a set of rules do from bit 0 on.
 pub fn mask_of(v: Finished) -> u64
     ensures { λ r. ⌜ ((code : ℕ) → maskHas r code ≡ fitsCode v code) ⌝ }
 {

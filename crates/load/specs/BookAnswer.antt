@@ -28,8 +28,8 @@ numbered (NoRule n) = number-line 8 n
 numbered NoRoot = number-line 8 0
 numbered (NotAscending n) = number-line 9 n
 
--- the answer with a number and a line. Number 8 has two: on line 0 the root has no lines, on any other line a rule that it refers to has none.
--- No other number is a refusal
+-- the answer with a number and a line. Number 8 has two: with line 0 it is rule 0 that has no lines, with any other line a rule that this line
+-- refers to. No refusal has a number above 9
 unfoldable pub answerFor : ℕ → ℕ → BookAnswer
 answerFor k n =
     cond (eqb k 1) Size

@@ -1,4 +1,5 @@
--- What load gives for a book: REQUIREMENT.md, section 3, Load. The answer with the paper's number and line, and the table. Stated. Assumes nothing.
+-- What load gives for a book: REQUIREMENT.md, section 3, Load. The answer with the paper's number and line, and the table. Stated, but for `tableOf`:
+-- `loaded-holds` of `LoadedLaws` shows that this table holds the book's entries. Assumes nothing.
 use mathlib.Core.Bool.{cond}
 use mathlib.Core.List.{List}
 use mathlib.Core.Path.{_≡_}

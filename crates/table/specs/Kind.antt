@@ -1,4 +1,5 @@
--- Value kinds and what fits them: 01, "Rule books" (value) and "Runs". Stated; the codes are this table's own. Assumes nothing.
+-- Value kinds and what fits them: REQUIREMENT.md, sections 3 (value) and 4. Stated. The codes are only how a table stores kinds: `kindOf-codeOf` and
+-- `codeOf-kindOf` of `KindLaws` show that code and kind tell each other. Assumes nothing.
 use mathlib.Core.Bool.{Bool, true, false, cond}
 use Prim.Native.Nat.{ℕ, _+_, _-_, _/_, _%_, _^_}
 use lib.Dec.{eqb, ltb}

@@ -158,7 +158,7 @@ fn is_int(s: Scalar) -> bool
 }
 
 // A scalar fits a plain kind.
-pub fn scalar_fits(kind: Scalar, s: Scalar) -> bool
+fn scalar_fits(kind: Scalar, s: Scalar) -> bool
     ensures { λ r. ⌜ r ≡ scalarFits kind s ⌝ }
 {
     match kind {
@@ -172,7 +172,7 @@ pub fn scalar_fits(kind: Scalar, s: Scalar) -> bool
 }
 
 // Rule n is among the rules; none above 31 is.
-pub fn rule_fits(rules: u32, n: u8) -> bool
+fn rule_fits(rules: u32, n: u8) -> bool
     ensures { λ r. ⌜ r ≡ ruleFits rules n ⌝ }
 {
     if n < 32 {

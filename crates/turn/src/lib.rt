@@ -15,6 +15,7 @@ use table::bytes;
 use table::keys;
 use table::kind;
 use table::kind::Finished;
+use table::kind::ValueKind;
 
 // What is known of the record after the byte, and whether its root fits rule 0.
 pub struct Turned {
@@ -42,7 +43,7 @@ fn close_value(work: &mut [u8], level: usize, root: bool, table: &[u8; 7920]) ->
     let set = frame::close_level(work, level, table);
     frame::value_level(work, act::down(level), table, Finished::Rules(set));
     if level == 1 {
-        return kind::rule_fits(set, 0);
+        return kind::fits(ValueKind::Rule(0), Finished::Rules(set));
     }
     root
 }

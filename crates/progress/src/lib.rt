@@ -41,7 +41,7 @@ pub struct Progress {
     pub len: u8,
 }
 
-// What is to be done to the key and the frames at a byte.
+// What is to be done to root, key and frames at a byte.
 pub enum Task {
     Idle,
     // a record begins: its root and its key are fresh
@@ -188,8 +188,8 @@ fn sound(x: Progress, frames: usize, b: u8, st: Step) -> Advanced
     faulted(x, Fault::TooLong)
 }
 
-// A byte that ends no record, of which the lexer makes a step: the record after it, and what is to be done to its key and frames. Ruled out: an RS
-// that keeps levels of the record before it, and one that keeps a fault.
+// A byte that ends no record, of which the lexer makes a step: the record after it, and what is to be done to its root, key and frames.
+// Ruled out: an RS that keeps levels of the record before it, and one that keeps a fault.
 pub fn advance(x: Progress, frames: usize, b: u8, st: Step) -> Advanced
     ensures { λ r. ⌜ r ≡ advanced x frames b st ⌝ }
 {

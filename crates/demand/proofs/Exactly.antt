@@ -11,17 +11,22 @@ use Prim.Native.Nat.{ℕ, _≤_, _<_}
 use lib.ListN.{length, getElem?}
 use Rattle.json.specs.Tree.{Json, object, Pairs}
 use Rattle.json.specs.Grammar.{Text, FaultAt}
+use Rattle.table.specs.Table.{Table}
 use Rattle.book.specs.Entry.{Entry}
 use Rattle.json.proofs.TreeLaws.{text-unique}
 use Rattle.runs.specs.Runs.{Within, Valid}
 use Rattle.runs.proofs.LengthLaws.{pairCount}
+use Rattle.frame.specs.Frame.{frameCount}
 use Rattle.verdict.specs.declared.Verdict.{Verdict}
 use Rattle.verdict.specs.declared.Verdict.the-variants as Is
 use Rattle.verdict.specs.Verdict.{longest, DeepAt, Earliest, Faultless, Judged}
 use Rattle.verdict.proofs.JudgedLaws.{valid-iff, invalid-iff, tooLong-iff, malformed-iff, tooDeep-iff, unfinished-iff, not-judged-head}
 use Rattle.reader.specs.declared.Reader.{Reader}
+use Rattle.reader.specs.declared.Answer.the-variants as Says
+use Rattle.reader.specs.Machine.{startOf}
 use Rattle.reader.specs.Paper.{Call, Judge}
 use Rattle.stream.specs.Records.{cutAtRS, nonempties, recordsOf, verdictsOf, verdictsBehind, StreamOf}
+use Rattle.stream.proofs.CallLaws.{begun-of-start}
 use Rattle.stream.proofs.JudgeLaws.{judgeOf}
 use Rattle.stream.proofs.RecordLaws.{verdictsOf-append, verdictsOf-of-head, length-verdictsOf}
 use Rattle.demand.specs.Book.{Book}
@@ -105,3 +110,10 @@ module _ (es : List Entry) (n : ℕ) (least : 1 ≤ n) (most : n ≤ 64) {r : Re
       let (f, (u, k, v)) = valid-exactly-when .0 g in
       let e : u ≡ t = text-unique k h in
       pairs-le-15-of-book (book-of-stream es n least most x .1) (rw e at v) i
+
+-- demand 3 in its own words: after an accepted start with the buffer w, a record is given 12 exactly when its own first fault is to open more levels
+-- than w has frames
+pub tooDeep-after-start : (t : Table) (w : List ℕ) → startOf t w .answer ≡ Says.Quiet → (es : List Entry) {r : Reader} {cs : List Call} {a p s : List ℕ}
+    → RecordAfter a p s → StreamOf Book es (frameCount (length w)) r cs s → (i : ℕ)
+    → GivenAfter a r cs (Is.TooDeep i) ↔ (DeepAt (frameCount (length w)) p i × Earliest (frameCount (length w)) p (Is.TooDeep i) i)
+tooDeep-after-start t w e es at x i = let b = begun-of-start t w e in tooDeep-exactly-when es (frameCount (length w)) (b .least) (b .most) at x i

@@ -11,17 +11,26 @@ use Prim.Native.Nat.{ℕ, _≤_, _<_}
 use lib.ListN.{length, getElem?}
 use Rattle.json.specs.Tree.{Json, object, Pairs}
 use Rattle.json.specs.Grammar.{Text, FaultAt}
+use Rattle.table.specs.Table.{Table}
 use Rattle.book.specs.Entry.{Entry}
 use Rattle.json.proofs.TreeLaws.{text-unique}
 use Rattle.runs.specs.Runs.{Within, Valid}
 use Rattle.runs.proofs.LengthLaws.{pairCount}
+use Rattle.frame.specs.Frame.{frameCount}
 use Rattle.verdict.specs.declared.Verdict.{Verdict}
 use Rattle.verdict.specs.declared.Verdict.the-variants as Is
 use Rattle.verdict.specs.Verdict.{longest, DeepAt, Earliest, Faultless, Judged}
 use Rattle.verdict.proofs.JudgedLaws.{valid-iff, invalid-iff, tooLong-iff, malformed-iff, tooDeep-iff, unfinished-iff, not-judged-head}
 use Rattle.reader.specs.declared.Reader.{Reader}
+<<<<<<< HEAD
 use Rattle.stream.specs.Paper.{Call, Judge}
+=======
+use Rattle.reader.specs.declared.Answer.the-variants as Says
+use Rattle.reader.specs.Start.{startOf}
+use Rattle.stream.specs.Paper.{Call, Judge}
+>>>>>>> h4
 use Rattle.stream.specs.Records.{cutAtRS, nonempties, recordsOf, verdictsOf, verdictsBehind, StreamOf}
+use Rattle.stream.proofs.CallLaws.{begun-of-start}
 use Rattle.stream.proofs.JudgeLaws.{judgeOf}
 use Rattle.stream.proofs.RecordLaws.{verdictsOf-append, verdictsOf-of-head, length-verdictsOf}
 use Rattle.demand.specs.Book.{Book}
@@ -29,7 +38,7 @@ use Rattle.demand.specs.Given.{RecordAfter, until-RS, until-close, Recor
 use Rattle.demand.proofs.BookLaws.{pairs-le-15-of-book}
 use Rattle.demand.proofs.Corollaries.{book-of-stream, verdicts-of-stream, judge-of-stream, record-alone, last-record-alone}
 
--- the place after the first list has the element that stands there
+-- after the first list stands the first element of the second
 getElem-append : {A : Type 0} (us : List A) (v : A) (ws : List A) → getElem? (us ++ (v ∷ ws)) (length us) ≡ some v
 getElem-append [] v ws = refl
 getElem-append (u ∷ us) v ws = getElem-append us v ws
@@ -71,31 +80,31 @@ module _ (es : List Entry) (n : ℕ) (least : 1 ≤ n) (most : n ≤ 64) {r : Re
 
   -- ---- each verdict, exactly when
 
-  -- valid: the record is a text within the limits, and valid by the book
+  -- valid: the record is a text within the limits that is valid by the book
   pub valid-exactly-when : GivenAfter a r cs Is.Valid ↔ (Faultless n p × ((t : Json) × Text p t × Valid es t))
   valid-exactly-when = Iff·trans (given-iff-judged Is.Valid) valid-iff
 
-  -- invalid: it is a text within the limits, and not valid by the book
+  -- invalid: the record is a text within the limits that is not valid by the book
   pub invalid-exactly-when : GivenAfter a r cs Is.Invalid ↔ (Faultless n p × ((t : Json) × Text p t × (Valid es t → ⊥)))
   invalid-exactly-when = Iff·trans (given-iff-judged Is.Invalid) invalid-iff
 
-  -- 12 at byte i: its own first fault is that byte i opens more levels than there are frames
+  -- 12 at byte i: the record's own first fault is that byte i opens more levels than there are frames
   pub tooDeep-exactly-when : (i : ℕ) → GivenAfter a r cs (Is.TooDeep i) ↔ (DeepAt n p i × Earliest n p (Is.TooDeep i) i)
   tooDeep-exactly-when i = Iff·trans (given-iff-judged (Is.TooDeep i)) (tooDeep-iff i)
 
-  -- 11 at byte i: its own first fault is that no text begins with its bytes up to byte i
+  -- 11 at byte i: the record's own first fault is that no text begins with the bytes up to byte i
   pub malformed-exactly-when : (i : ℕ) → GivenAfter a r cs (Is.Malformed i) ↔ (FaultAt p i × Earliest n p (Is.Malformed i) i)
   malformed-exactly-when i = Iff·trans (given-iff-judged (Is.Malformed i)) (malformed-iff i)
 
-  -- 13: its own first fault is a byte too many
+  -- 13: the record's own first fault is a byte too many
   pub tooLong-exactly-when : GivenAfter a r cs Is.TooLong ↔ ((longest < length p) × Earliest n p Is.TooLong longest)
   tooLong-exactly-when = Iff·trans (given-iff-judged Is.TooLong) tooLong-iff
 
-  -- 14 with place i: it has none of these faults and is no whole text, and i is its length
+  -- 14 with place i: the record has none of these three faults and is no whole text, and its length is i
   pub unfinished-exactly-when : (i : ℕ) → GivenAfter a r cs (Is.Unfinished i) ↔ ((i ≡ length p) × Faultless n p × ((t : Json) → Text p t → ⊥))
   unfinished-exactly-when i = Iff·trans (given-iff-judged (Is.Unfinished i)) (unfinished-iff i)
 
-  -- 15: never
+  -- a record after an RS is never given 15
   pub never-head : GivenAfter a r cs Is.Head → ⊥
   never-head g = not-judged-head (given-iff-judged Is.Head .0 g)
 
@@ -105,3 +114,10 @@ module _ (es : List Entry) (n : ℕ) (least : 1 ≤ n) (most : n ≤ 64) {r : Re
       let (f, (u, k, v)) = valid-exactly-when .0 g in
       let e : u ≡ t = text-unique k h in
       pairs-le-15-of-book (book-of-stream es n least most x .1) (rw e at v) i
+
+-- demand 3 in its own words: after an accepted start with the buffer w, a record is given 12 exactly when its own first fault is to open more levels
+-- than w has frames
+pub tooDeep-after-start : (t : Table) (w : List ℕ) → startOf t w .answer ≡ Says.Quiet → (es : List Entry) {r : Reader} {cs : List Call} {a p s : List ℕ}
+    → RecordAfter a p s → StreamOf Book es (frameCount (length w)) r cs s → (i : ℕ)
+    → GivenAfter a r cs (Is.TooDeep i) ↔ (DeepAt (frameCount (length w)) p i × Earliest (frameCount (length w)) p (Is.TooDeep i) i)
+tooDeep-after-start t w e es at x i = let b = begun-of-start t w e in tooDeep-exactly-when es (frameCount (length w)) (b .least) (b .most) at x i

@@ -21,7 +21,7 @@ pub data RecordAfter (a p : List ℕ) : List ℕ → Type 0 where
   until-RS : IsRecord p → (z : List ℕ) → RecordAfter a p (a ++ (0x1E ∷ (p ++ (0x1E ∷ z))))
   until-close : IsRecord p → RecordAfter a p (a ++ (0x1E ∷ p))
 
--- they begin with the record p: it is the head
+-- the bytes of a stream begin with the record p, which is the head; an RS ends it, or the close
 pub data RecordInHead (p : List ℕ) : List ℕ → Type 0 where
   head-until-RS : IsRecord p → (z : List ℕ) → RecordInHead p (p ++ (0x1E ∷ z))
   head-until-close : IsRecord p → RecordInHead p p

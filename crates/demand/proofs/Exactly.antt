@@ -22,13 +22,9 @@ use Rattle.verdict.specs.declared.Verdict.the-variants as Is
 use Rattle.verdict.specs.Verdict.{longest, DeepAt, Earliest, Faultless, Judged}
 use Rattle.verdict.proofs.JudgedLaws.{valid-iff, invalid-iff, tooLong-iff, malformed-iff, tooDeep-iff, unfinished-iff, not-judged-head}
 use Rattle.reader.specs.declared.Reader.{Reader}
-<<<<<<< HEAD
-use Rattle.stream.specs.Paper.{Call, Judge}
-=======
 use Rattle.reader.specs.declared.Answer.the-variants as Says
 use Rattle.reader.specs.Start.{startOf}
 use Rattle.stream.specs.Paper.{Call, Judge}
->>>>>>> h4
 use Rattle.stream.specs.Records.{cutAtRS, nonempties, recordsOf, verdictsOf, verdictsBehind, StreamOf}
 use Rattle.stream.proofs.CallLaws.{begun-of-start}
 use Rattle.stream.proofs.JudgeLaws.{judgeOf}

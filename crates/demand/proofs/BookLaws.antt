@@ -19,8 +19,8 @@ use Rattle.book.specs.Load.{ruleOf, formIn}
 use Rattle.book.specs.Holds.{ruleForm}
 use Rattle.book.proofs.HoldLaws.{Each, FormKept, form-of-code}
 use Rattle.book.proofs.TruthLaws.{and-true, true-not-false}
-use Rattle.load.specs.Proper.{isArr, Proper}
-use Rattle.load.specs.Step.{tableOf}
+use Rattle.store.specs.Proper.{isArr, Proper}
+use Rattle.store.specs.Store.{tableOf}
 use Rattle.load.proofs.KeptLaws.{Loading}
 use Rattle.load.proofs.LoadedLaws.{loads-kept, loads-apart, table-of-entries}
 use Rattle.runs.specs.Runs.{_∈_, Within, Valid}

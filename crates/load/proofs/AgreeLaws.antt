@@ -19,9 +19,10 @@ use Rattle.book.proofs.HoldLaws.{hasRule-ruleForm}
 use Rattle.load.specs.declared.BookAnswer.{BookAnswer}
 use Rattle.load.specs.declared.BookAnswer.the-variants.{Size, Names, Malformed, NoRule, NoRoot, NotAscending}
 use Rattle.load.specs.BookAnswer.{Numbered, number-line, numbered, answerFor}
-use Rattle.load.specs.Proper.{ProperSaid}
+use Rattle.store.specs.Proper.{ProperSaid}
 use Rattle.load.specs.Ranges.{Ranges}
-use Rattle.load.specs.Step.{Loaded, takeEntry, tableFrom, tableOf, takeSaid, lineRefusal, loaded, refusal, takeOn, takeLines, takeBook}
+use Rattle.store.specs.Store.{takeEntry, tableFrom, tableOf}
+use Rattle.load.specs.Step.{Loaded, takeSaid, lineRefusal, loaded, refusal, takeOn, takeLines, takeBook}
 use Rattle.load.specs.Check.{checkTable}
 use Rattle.load.specs.Loads.{bookTable, LoadsAs}
 use Rattle.load.proofs.ProperLaws.{sayLine-proper}

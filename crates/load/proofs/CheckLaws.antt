@@ -14,7 +14,8 @@ use Rattle.table.specs.declared.kind.Scalar.{Scalar}
 use Rattle.table.specs.declared.kind.ValueKind.{ValueKind}
 use Rattle.table.specs.declared.kind.ValueKind.the-variants.{Plain, Rule}
 use Rattle.load.specs.declared.BookAnswer.the-variants.{NoRule, NoRoot, NotAscending}
-use Rattle.load.specs.Step.{Loaded, some, firstAt, loaded, refusal}
+use Rattle.store.specs.Store.{some, firstAt}
+use Rattle.load.specs.Step.{Loaded, loaded, refusal}
 use Rattle.load.specs.Check.{danglesKind, danglesAt, clashCodes, clashAt, clashesAt, lateAt, lineAt, danglingLine, clashLine, checkTable}
 
 module _ (forms : List ℕ) (v : ValueKind) where

@@ -25,10 +25,10 @@ use Rattle.book.specs.Holds.{tableEdges, keyNumber, edgesFrom, edgesOf, formCod
 use Rattle.book.proofs.KeyLaws.{any-last, numberOf-new, numberOf-eqb, keyNumber-withKey, key-in-withKey, addKey-append, keysOf-last}
 use Rattle.book.proofs.HoldLaws.{Each, each-map, each-append, KeyAmong, KeyIn, keyIn-append, edgesOf-last, formCode-some, sameForm-codes, form-of-code, ruleForm-last, FormKept, changesForm-ruleForm}
 use Rattle.book.proofs.TruthLaws.{true-not-false, or-false, or-true, eqb-sym}
-use Rattle.load.specs.declared.store.Cell.{Cell}
-use Rattle.load.specs.Proper.{isArr, ProperEdge, Proper}
+use Rattle.store.specs.declared.Cell.{Cell}
+use Rattle.store.specs.Proper.{isArr, ProperEdge, Proper}
 use Rattle.load.specs.Ranges.{Ranges}
-use Rattle.load.specs.Step.{Taken, hasCell, withEnd, withEdge, withKey, isNew, formChanges, taken, cellFor, takeEdge, takeEnd, takeEntry}
+use Rattle.store.specs.Store.{Taken, hasCell, withEnd, withEdge, withKey, isNew, formChanges, taken, cellFor, takeEdge, takeEnd, takeEntry}
 use Rattle.load.proofs.RangeLaws.{ranges-empty, ranges-takeEntry}
 use Rattle.load.proofs.TableLaws.{Sized, sized-empty, sized-withEnd, sized-withEdge, sized-withKey, tableEdges-withEdge, length-tableEdges, sameCell, hasCell-tableEdges, tableKeys-withKey, tableKeys-withEdge, tableEdges-withKey, tableKeys-withEnd, tableEdges-withEnd}
 

@@ -1,5 +1,3 @@
-pub mod LoopLaws
-pub mod StoreLaws
 pub mod ProperLaws
 pub mod RangeLaws
 pub mod ReadLaws
@@ -10,4 +8,3 @@ pub mod OrderLaws
 pub mod AgreeLaws
 pub mod BlankLaws
 pub mod LoadedLaws
-pub mod PlaceLaws

@@ -15,9 +15,10 @@ use Rattle.book.specs.Load.{Read, refused, entries, readBook, hasRule, dangles,
 use Rattle.book.specs.Holds.{Holds}
 use Rattle.book.proofs.HoldLaws.{Each, each-map, each-append}
 use Rattle.book.proofs.TruthLaws.{or-parts}
-use Rattle.load.specs.Proper.{Proper}
+use Rattle.store.specs.Proper.{Proper}
 use Rattle.load.specs.Ranges.{Ranges}
-use Rattle.load.specs.Step.{Loaded, tableFrom, tableOf, takeBook}
+use Rattle.store.specs.Store.{tableFrom, tableOf}
+use Rattle.load.specs.Step.{Loaded, takeBook}
 use Rattle.load.specs.BookAnswer.{Numbered, number-line, numbered}
 use Rattle.load.specs.Loads.{bookTable, LoadsAs}
 use Rattle.load.proofs.RangeLaws.{withinLimits-of-ranges}

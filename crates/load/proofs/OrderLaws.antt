@@ -22,8 +22,8 @@ use Rattle.book.specs.Load.{ruleOf, formIn, dangles, firstLine, clashes, firstC
 use Rattle.book.specs.Holds.{Edge, edgeAt, tableEdges, keyNumber, edgesFrom, edgesOf, formCode, ruleForm}
 use Rattle.book.proofs.HoldLaws.{Each, each-map, each-append, edgesFrom-append, FormKept, hasRule-ruleForm, form-of-code}
 use Rattle.book.proofs.TruthLaws.{true-not-false}
-use Rattle.load.specs.Proper.{isArr, Proper}
-use Rattle.load.specs.Step.{firstAt}
+use Rattle.store.specs.Proper.{isArr, Proper}
+use Rattle.store.specs.Store.{firstAt}
 use Rattle.load.specs.Check.{danglesKind, danglesAt, clashCodes, clashAt, clashesAt, lateAt, lineAt, danglingLine, clashLine}
 use Rattle.load.proofs.TableLaws.{some-tab, tab-one-more}
 use Rattle.load.proofs.KeptLaws.{Loading}

@@ -16,7 +16,7 @@ use Rattle.book.specs.Entry.{obj, arr, edge, end-state}
 use Rattle.book.specs.Text.{isEmpty, isNumber, number, split}
 use Rattle.book.specs.Line.{isForm, formOf, isVisible, isKey, keyOf, isKind, kindIn, smallKind, formed, small, entryOf, bad, good, sayFields, sayParts, sayLine, word-obj, word-end, dash}
 use Rattle.book.proofs.TruthLaws.{true-not-false, and-true}
-use Rattle.load.specs.Proper.{isArr, ProperEdge, ProperSaid}
+use Rattle.store.specs.Proper.{isArr, ProperEdge, ProperSaid}
 
 codeOf-lt : (v : ValueKind) → smallKind v ≡ true → codeOf v < 38
 unfolding smallKind codeOf

@@ -18,10 +18,11 @@ use Rattle.table.proofs.SlotLaws.{emptyTable-parts}
 use Rattle.book.specs.Entry.{Form, obj, arr, Entry, edge, end-state}
 use Rattle.book.specs.Line.{Said, bad, good, sayLine}
 use Rattle.book.specs.Holds.{keyNumber, formCode}
-use Rattle.load.specs.declared.store.Cell.{Cell}
-use Rattle.load.specs.Proper.{Proper, ProperSaid}
+use Rattle.store.specs.declared.Cell.{Cell}
+use Rattle.store.specs.Proper.{Proper, ProperSaid}
 use Rattle.load.specs.Ranges.{Ranges}
-use Rattle.load.specs.Step.{Taken, hasCell, withEnd, withEdge, withKey, isNew, formChanges, taken, cellFor, takeEdge, takeEnd, takeEntry, takeSaid}
+use Rattle.store.specs.Store.{Taken, hasCell, withEnd, withEdge, withKey, isNew, formChanges, taken, cellFor, takeEdge, takeEnd, takeEntry}
+use Rattle.load.specs.Step.{takeSaid}
 use Rattle.load.proofs.ProperLaws.{sayLine-proper}
 
 -- the ranges of the counts are their limits

@@ -22,8 +22,9 @@ use Rattle.line.specs.Line.{seg, entryWith, Says}
 use Rattle.line.proofs.SplitLaws.{split-more, split-last, split-some}
 use Rattle.load.specs.declared.BookAnswer.{BookAnswer}
 use Rattle.load.specs.declared.BookAnswer.the-variants.{Size, Names, Malformed}
-use Rattle.load.specs.Proper.{Proper, ProperSaid}
-use Rattle.load.specs.Step.{Loaded, Taken, taken, takeEntry, takeSaid, lineRefusal, loaded, refusal, takeOn, takeLines, takeBook}
+use Rattle.store.specs.Proper.{Proper, ProperSaid}
+use Rattle.store.specs.Store.{Taken, taken, takeEntry}
+use Rattle.load.specs.Step.{Loaded, takeSaid, lineRefusal, loaded, refusal, takeOn, takeLines, takeBook}
 use Rattle.load.proofs.ProperLaws.{sayLine-proper}
 
 -- ---- a line

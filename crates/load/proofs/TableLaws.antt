@@ -18,9 +18,9 @@ use Rattle.table.specs.Flat.{emptyTable}
 use Rattle.table.specs.Keys.{keyAt, tableKeys}
 use Rattle.table.proofs.SlotLaws.{emptyTable-parts, lines-zero}
 use Rattle.book.specs.Holds.{Edge, edgeAt, tableEdges}
-use Rattle.load.specs.declared.store.Cell.{Cell}
+use Rattle.store.specs.declared.Cell.{Cell}
 use Rattle.load.specs.Ranges.{Ranges}
-use Rattle.load.specs.Step.{some, sameAt, hasCell, withEnd, withEdge, withKey, written}
+use Rattle.store.specs.Store.{some, sameAt, hasCell, withEnd, withEdge, withKey, written}
 
 -- ---- computed lists
 

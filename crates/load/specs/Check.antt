@@ -9,7 +9,8 @@ use Rattle.table.specs.Kind.{kindOf}
 use Rattle.table.specs.declared.kind.ValueKind.{ValueKind}
 use Rattle.table.specs.declared.kind.ValueKind.the-variants.{Plain, Rule}
 use Rattle.load.specs.declared.BookAnswer.the-variants.{NoRule, NoRoot, NotAscending}
-use Rattle.load.specs.Step.{Loaded, some, firstAt, loaded, refusal}
+use Rattle.store.specs.Store.{some, firstAt}
+use Rattle.load.specs.Step.{Loaded, loaded, refusal}
 
 -- a kind refers to a rule without lines, where the rules have these forms
 unfoldable pub danglesKind : List ℕ → ValueKind → Bool

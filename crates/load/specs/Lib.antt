@@ -1,6 +1,5 @@
 pub mod BookAnswer
 pub mod Step
 pub mod Check
-pub mod Proper
 pub mod Loads
 pub mod Ranges

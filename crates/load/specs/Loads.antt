@@ -10,7 +10,8 @@ use Rattle.table.specs.Table.{Table}
 use Rattle.table.specs.Flat.{emptyTable}
 use Rattle.book.specs.Load.{loads}
 use Rattle.load.specs.BookAnswer.{answerFor}
-use Rattle.load.specs.Step.{Loaded, tableOf}
+use Rattle.store.specs.Store.{tableOf}
+use Rattle.load.specs.Step.{Loaded}
 
 -- the table of a book: that of its entries where it is accepted, the empty table where it is refused
 unfoldable pub bookTable : List ℕ → Table

@@ -5,7 +5,6 @@ ghost use Rattle.table.specs.Flat.{tableIn};
 ghost use Rattle.load.specs.Loads.{LoadsAs, Blank};
 ghost use Rattle.load.specs.Step.{loadedAs};
 
-pub mod store; // store.rt: the table of a book, one entry after the other
 mod read; // read.rt: a book line by line, refusals 1 to 7
 mod check; // check.rt: the checks after all lines, refusals 8 and 9
 

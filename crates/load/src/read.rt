@@ -6,9 +6,9 @@ ghost use Rattle.book.specs.Text.{split};
 ghost use Rattle.table.specs.Flat.{tableIn, emptyTable};
 ghost use Rattle.table.specs.Limits.{WithinLimits};
 ghost use Rattle.book.specs.Line.{sayLine};
-ghost use Rattle.load.specs.Step.{taken, loadedAs, refusal as refusalOf, lineRefusal, takeSaid, takeLines, takeBook};
+ghost use Rattle.store.specs.Store.{taken};
+ghost use Rattle.load.specs.Step.{loadedAs, refusal as refusalOf, lineRefusal, takeSaid, takeLines, takeBook};
 use crate::BookAnswer;
-use crate::store;
 use table::bytes;
 
 const NAMES: [u8; 31] = *b"rule form state key value next\n";

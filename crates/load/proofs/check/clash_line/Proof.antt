@@ -1,9 +1,9 @@
 -- `check::clash_line` meets its contract: what is left gives the line that all give. Assumes nothing.
 use mathlib.Core.Path.{_≡_}
 use Prim.Native.Nat.{_≤_, _-_}
-use Rattle.load.specs.Step.{firstAt}
+use Rattle.store.specs.Store.{firstAt}
 use Rattle.load.specs.Check.{lateAt, lineAt, clashLine}
-use Rattle.load.proofs.LoopLaws.{firstAt-hit, firstAt-more, firstAt-end}
+use Rattle.store.proofs.LoopLaws.{firstAt-hit, firstAt-more, firstAt-end}
 use Rattle.load.proofs.CheckLaws.{clashLine-start}
 use Rattle.table.specs.Flat.{tableIn}
 use borrow.Author.Needs.{needs}

@@ -1,9 +1,9 @@
 -- `check::dangling_line` meets its contract: what is left gives the line that all give. Assumes nothing.
 use mathlib.Core.Path.{_≡_}
 use Prim.Native.Nat.{_≤_, _-_}
-use Rattle.load.specs.Step.{firstAt}
+use Rattle.store.specs.Store.{firstAt}
 use Rattle.load.specs.Check.{danglesAt, lineAt, danglingLine}
-use Rattle.load.proofs.LoopLaws.{firstAt-hit, firstAt-more, firstAt-end}
+use Rattle.store.proofs.LoopLaws.{firstAt-hit, firstAt-more, firstAt-end}
 use Rattle.load.proofs.CheckLaws.{danglesAt-kind, danglingLine-start}
 use Rattle.table.specs.Flat.{tableIn}
 use borrow.Author.Needs.{needs}

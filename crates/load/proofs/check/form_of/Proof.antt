@@ -1,5 +1,5 @@
 -- `check::form_of` meets its contract. Assumes nothing.
-use Rattle.load.proofs.PlaceLaws.{forms-past}
+use Rattle.store.proofs.PlaceLaws.{forms-past}
 use borrow.Author.Needs.{needs}
 use Rattle.load.proofs.check.form_of.Statement.{statement}
 use Rattle.load.proofs.check.form_of.Tie as tie

@@ -1,9 +1,9 @@
 -- `check::late_at` meets its contract: what is left holds a clash as the whole. Assumes nothing.
 use mathlib.Core.Path.{_≡_}
 use Prim.Native.Nat.{_≤_, _+_, _-_}
-use Rattle.load.specs.Step.{some}
+use Rattle.store.specs.Store.{some}
 use Rattle.load.specs.Check.{clashesAt, lateAt}
-use Rattle.load.proofs.LoopLaws.{some-hit, some-more, some-end}
+use Rattle.store.proofs.LoopLaws.{some-hit, some-more, some-end}
 use Rattle.load.proofs.CheckLaws.{lateAt-start}
 use Rattle.table.specs.Flat.{tableIn}
 use borrow.Author.Needs.{needs}

@@ -8,8 +8,8 @@
 #   ```output         what the commands before it print; a line ... stands for any lines
 #   ```text file=F    the file F
 #
-# It also tries that each link to a file leads to one, that the picture of a rule has the rule's lines, and that the picture of the crates is that of
-# README.md and crates.txt.
+# It also tries that each link to a file leads to one, that the picture of a rule has the rule's lines, that the picture of the crates is that of
+# README.md and crates.txt, and that the list of stated files, their heads and the claims agree.
 # The last line is a count; exit status 1 where anything failed. Needs coreutils, awk and git.
 set -u
 unset CDPATH
@@ -102,6 +102,14 @@ elif python3 docs/architecture.py >"$work/drawn" && cmp -s -- "$work/drawn" docs
     passed=$((passed + 1))
 else
     bad 'docs/architecture.svg: not what docs/architecture.py draws of README.md and crates.txt'
+fi
+if ! command -v python3 >/dev/null 2>&1; then
+    echo 'skipped docs/STATED.md: python3 is not installed'
+    skipped=$((skipped + 1))
+elif python3 docs/stated.py; then
+    passed=$((passed + 1))
+else
+    bad 'docs/STATED.md: the list, the heads of specs/ and docs/CLAIMS.md do not agree'
 fi
 for stray in "$work"/blocks/*.stray; do
     [ ! -e "$stray" ] || bad "$(cat -- "$stray")"

@@ -16,13 +16,12 @@ use Rattle.verdict.specs.Verdict.{longest}
 use Rattle.progress.specs.declared.Fault.{Fault}
 use Rattle.progress.specs.declared.Fault.the-variants as F
 use Rattle.progress.specs.declared.Progress.{Progress}
-use Rattle.progress.specs.declared.Task.{Task}
-use Rattle.progress.specs.declared.Task.the-variants as To
 use Rattle.progress.specs.declared.Advanced.{Advanced}
 use Rattle.progress.specs.Act.{firstFault}
 use Rattle.progress.proofs.ActLaws.{levelAfter-le, lenAfter-le}
 use Rattle.progress.specs.Progress.{bump, counted, faulted, actedBy, sound, afterHead, byFault, advanced}
-use Rattle.progress.specs.Memory.{Mem, mem, topAt, closeAt, perform, advancedAt, stepMem, endsRecord, Ran, runMem}
+use Rattle.progress.specs.Memory.{Mem, mem, topAt, advancedAt, stepMem, endsRecord, Ran, runMem}
+use Rattle.progress.proofs.MemoryLaws.{progress-perform}
 use Rattle.laws.proofs.TestLaws.{cond-elim}
 
 -- no more open levels than n, and at most 33 characters of a key
@@ -83,23 +82,12 @@ module _ (n : ℕ) (x : Progress) where
 
 -- ---- the memory
 
--- what is to be done does not change what is known of the record
-progress-of-perform : (k : Task) (t : Table) (m : Mem) (x : Progress) → perform k t m x .progress ≡ x
-unfolding closeAt
-progress-of-perform To.Idle t m x = refl
-progress-of-perform (To.Put c) t m x = refl
-progress-of-perform To.Named t m x = refl
-progress-of-perform (To.Open o) t m x = refl
-progress-of-perform (To.Finish s) t m x = refl
-progress-of-perform To.Close t m x = refl
-progress-of-perform (To.FinishClose s) t m x = refl
-
 module _ (t : Table) (n : ℕ) (m : Mem) where
   -- a byte other than RS
   pub moves-of-byte : (b : ℕ) → eqb b 0x1E ≡ false → Moves n (m .progress) (stepMem t n m b .progress)
   unfolding stepMem
   moves-of-byte b e =
-      rw (progress-of-perform (advancedAt n m b .task) t m (advancedAt n m b .progress))
+      rw (progress-perform (advancedAt n m b .task) t m (advancedAt n m b .progress))
       (moves-advanced n (m .progress) b (stepOf (m .progress .mode) (topAt (m .work) (m .progress .level)) b) e)
 
   -- in the head it is counted, and no more

@@ -7,4 +7,10 @@ pub mod JudgeLaws
 pub mod RecordLaws
 pub mod Corollaries
 pub mod TallyLaws
+pub mod LexerLaws
+pub mod FedLaws
+pub mod SpareLaws
+pub mod TaskLaws
+pub mod NumberLaws
+pub mod LentLaws
 pub mod Examples

@@ -1,0 +1,276 @@
+-- What feed and close write in the lent buffer, sentence by sentence: `lent` proves all of `Lent`. A byte leaves the frames or is sound
+-- (`ways-of-byte`), and a sound byte's task tells how the level moves and where it writes. Assumes nothing.
+use mathlib.Core.Bool.{Bool, true, false, cond}
+use mathlib.Core.List.{List, [], _∷_, _++_}
+use mathlib.Core.Logic.{_⊎_, inl, inr, ⊎-elim}
+use mathlib.Core.Path.{_≡_, refl, sym, ap, subst, _∙_}
+use Prim.Native.Nat.{ℕ, _+_, _*_, _-_, _<_, _≤_}
+use native.Mathlib.Omega.{arith}
+use lib.Dec.{eqb, ltb}
+use lib.ListN.{length}
+use borrow.Author.Tests.{eq-eqb, lt-ltb, ltb-true}
+use Rattle.laws.proofs.TestLaws.{true-neq-false, cond-elim}
+use Rattle.json.specs.Lexer.{mayEnd}
+use Rattle.json.specs.declared.number.NumberMode.{NumberMode}
+use Rattle.json.specs.declared.number.NumberMode.the-variants as N
+use Rattle.json.specs.declared.lexer.Awaited.{Awaited}
+use Rattle.json.specs.declared.lexer.Awaited.the-variants as P
+use Rattle.json.specs.declared.lexer.Mode.{Mode}
+use Rattle.json.specs.declared.lexer.Mode.the-variants as M
+use Rattle.json.specs.declared.lexer.Act.{Act}
+use Rattle.json.specs.declared.lexer.Act.the-variants as A
+use Rattle.json.specs.declared.lexer.Step.{Step}
+use Rattle.table.specs.Table.{Table}
+use Rattle.table.specs.declared.kind.Finished.{Finished}
+use Rattle.table.specs.declared.kind.Finished.the-variants as Done
+use Rattle.frame.specs.Frame.{hasFrame, frameStart, frameAt, putFrame}
+use Rattle.frame.specs.Ops.{opened}
+use Rattle.frame.proofs.LevelLaws.{hasFrame-of-le, putFrame-none, frameAt-putFrame}
+use Rattle.frame.proofs.OpenLaws.{length-opened}
+use Rattle.verdict.specs.declared.Verdict.{Verdict}
+use Rattle.verdict.specs.declared.Verdict.the-variants as Is
+use Rattle.progress.specs.declared.Fault.{Fault}
+use Rattle.progress.specs.declared.Fault.the-variants as F
+use Rattle.progress.specs.declared.Progress.{Progress}
+use Rattle.progress.specs.declared.Task.{Task}
+use Rattle.progress.specs.declared.Task.the-variants as To
+use Rattle.progress.specs.Act.{openFault, openLevel, firstFault, levelAfter, keyTask, taskOf}
+use Rattle.progress.specs.Progress.{wholeNumber, wholeIn, whole, verdictBy, judged}
+use Rattle.progress.specs.Memory.{topAt, perform, runMem}
+use Rattle.progress.proofs.ActLaws.{levelAfter-le}
+use Rattle.progress.proofs.MemoryLaws.{progress-perform}
+use Rattle.reader.specs.declared.Reader.{Reader}
+use Rattle.reader.specs.declared.Refusal.{Refusal}
+use Rattle.reader.specs.declared.Answer.{Answer}
+use Rattle.reader.specs.declared.Answer.the-variants as Says
+use Rattle.reader.specs.Machine.{Outcome, memoryOf, feeding, feedOf, closing, closeOf}
+use Rattle.reader.specs.Refusals.{withinReader}
+use Rattle.reader.specs.Paper.{feed}
+use Rattle.reader.proofs.RefusalLaws.{room-of-call, through-elim}
+use Rattle.stream.specs.Lent.{Outside, Spares, withValue, rulesOf, levelOf, modeOf, inNumber, kindSoFar, inMode, isFaulty, saysFaulty, faultyIn, byteFed, ByteWrites, thenFed, Lent}
+use Rattle.stream.proofs.CallLaws.{unchanged-of-refused}
+use Rattle.stream.proofs.LexerLaws.{tells-stepOf, ends-stepOf}
+use Rattle.stream.proofs.FedLaws.{gateOf, bounds-of-open, stepAt, movedBy, taskBy, IsSound, progress-fed, work-fed, Idles, ways-of-byte, fed-none, fed-in-two}
+use Rattle.stream.proofs.NumberLaws.{fed-of-number-end}
+use Rattle.stream.proofs.TaskLaws.{Told, told-of-act, opens-of-task, closes-of-task, beyond-of-stay}
+use Rattle.stream.proofs.SpareLaws.{spares-all, spares-after, spares-fewer, spares-put, spares-withValue, Beyond, spares-perform, beyond-of-three, frameAt-of-spares}
+
+-- ---- a record without a fault that is not the head
+
+-- ends without a verdict for a fault
+whole-not-faulty : (x : Progress) (root : Bool) → isFaulty (whole x root) ≡ false
+unfolding whole wholeNumber
+whole-not-faulty x root = cond-elim (λ (v : Verdict). isFaulty v ≡ false) (eqb (x .level) 0) (λ _. go (x .mode)) (λ _. refl)
+  where
+    go : (m : Mode) → isFaulty (wholeIn m (x .pos) root) ≡ false
+    go (M.At P.Value) = refl
+    go (M.At P.First) = refl
+    go (M.At P.Key) = refl
+    go (M.At P.Colon) = refl
+    go (M.At P.After) = cond-elim (λ (v : Verdict). isFaulty v ≡ false) root (λ _. refl) (λ _. refl)
+    go (M.Key s) = refl
+    go (M.Text s) = refl
+    go (M.Number n) = cond-elim (λ (v : Verdict). isFaulty v ≡ false) (mayEnd n) (λ _. refl) (λ _. refl)
+    go (M.Word v i) = refl
+
+judged-not-faulty : (x : Progress) (root : Bool) → x .head ≡ false → x .fault ≡ F.Sound → isFaulty (judged x root) ≡ false
+unfolding judged
+judged-not-faulty x root h f =
+    subst (λ (v : Bool). isFaulty (cond v Is.Head (verdictBy (x .fault) x root)) ≡ false) (sym h)
+    (subst (λ (v : Fault). isFaulty (verdictBy v x root) ≡ false) (sym f) (whole-not-faulty x root))
+
+not-faulty : (r : Reader) (t : Table) (w : List ℕ) → r .progress .head ≡ false → r .progress .fault ≡ F.Sound → faultyIn r t w ≡ false
+unfolding closeOf closing
+not-faulty r t w h f =
+    through-elim (λ (o : Outcome). saysFaulty (o .answer) ≡ false) (gateOf r t w) (λ k _. refl)
+    (λ _. cond-elim (λ (o : Outcome). saysFaulty (o .answer) ≡ false) (ltb 0 (r .progress .pos)) (λ _. judged-not-faulty (r .progress) (r .root) h f) (λ _. refl))
+
+-- ---- a sound byte
+
+module _ (r : Reader) (t : Table) (w : List ℕ) (b : ℕ) (s : IsSound r t w b) where
+  abbrev o : Outcome
+  o = byteFed r t w b
+
+  abbrev step : Step
+  step = stepAt r w b
+
+  abbrev next : Progress
+  next = movedBy r b step
+
+  abbrev level-fed : levelOf (o .reader) ≡ next .level
+  level-fed = ap (λ (x : Progress). x .level) (progress-fed r t w b s)
+
+  told : Told (taskBy r b step) b (levelOf r) (next .level) (step .ends)
+  told = told-of-act b (levelOf r) (r .frames) (modeOf r) (r .progress .len) _ (step .act) (step .ends) (s .first) (tells-stepOf b (modeOf r) (topAt w (levelOf r)) .opens)
+
+  -- there is a frame for each level that it leaves open
+  pub level-le : levelOf (o .reader) ≤ r .frames
+  level-le = rw level-fed (levelAfter-le (step .act) (levelOf r) (r .frames) (bounds-of-open r t w (s .gate) .2))
+
+  sound-opens : levelOf (o .reader) ≡ levelOf r + 1
+      → (frameAt (o .work) (levelOf r + 1) ≡ opened (t .forms) (eqb b 0x7B)) × Spares (Outside (levelOf r + 1)) w (o .work)
+  sound-opens q =
+      let f : List ℕ = opened (t .forms) (eqb b 0x7B) in
+      let e : o .work ≡ putFrame w (levelOf r + 1) f = work-fed r t w b s ∙ opens-of-task t (memoryOf r w) next b (step .ends) (taskBy r b step) told (sym level-fed ∙ q) in
+      let long : length f ≡ 96 = length-opened (t .forms) (eqb b 0x7B) in
+      let g = bounds-of-open r t w (s .gate) in
+      let has : hasFrame (length w) (levelOf r + 1) ≡ true
+          = hasFrame-of-le (r .frames) (length w) (levelOf r + 1) (g .1) (room-of-call (withinReader r) (r .frames) t (length w) (s .gate)) (omega arith) (rw q at level-le) in
+      rw e (frameAt-putFrame w f (levelOf r + 1) long has, spares-put w f (levelOf r + 1) long)
+
+  sound-closes : inNumber (modeOf r) ≡ false → levelOf r ≡ levelOf (o .reader) + 1
+      → (o .work ≡ withValue t w (levelOf r - 1) (Done.Rules (rulesOf t w (levelOf r)))) × Spares (Outside (levelOf r - 1)) w (o .work)
+  sound-closes m q =
+      let v : Finished = Done.Rules (rulesOf t w (levelOf r)) in
+      let f : step .ends ≡ false = ends-stepOf b (modeOf r) (topAt w (levelOf r)) m in
+      let e : o .work ≡ withValue t w (levelOf r - 1) v
+          = work-fed r t w b s ∙ closes-of-task t (memoryOf r w) next b (step .ends) (taskBy r b step) told f (q ∙ ap (λ (x : ℕ). x + 1) level-fed) in
+      (e, rw e (spares-withValue t w (levelOf r - 1) v))
+
+  sound-in-number : inNumber (modeOf (o .reader)) ≡ true → o .work ≡ w
+  sound-in-number e =
+      let i : inNumber (step .mode) ≡ true = ap (λ (x : Progress). inNumber (x .mode)) (sym (progress-fed r t w b s)) ∙ e in
+      let k = rw i at (tells-stepOf b (modeOf r) (topAt w (levelOf r)) .quiet) in
+      work-fed r t w b s ∙ ap (λ (x : Task). perform x t (memoryOf r w) next .work) (k (step .ends) (modeOf r) (r .progress .len) _)
+
+  sound-not-faulty : faultyIn (o .reader) t (o .work) ≡ false
+  sound-not-faulty =
+      not-faulty (o .reader) t (o .work) (ap (λ (x : Progress). x .head) (progress-fed r t w b s) ∙ s .head) (ap (λ (x : Progress). x .fault) (progress-fed r t w b s) ∙ s .fault)
+
+  sound-stays : levelOf (o .reader) ≡ levelOf r → Spares (Outside (levelOf r)) w (o .work)
+  sound-stays q =
+      rw (work-fed r t w b s)
+      (spares-fewer (λ i p. beyond-of-stay (taskBy r b step) b (levelOf r) (next .level) i (step .ends) told (sym level-fed ∙ q) p)
+      (spares-perform (taskBy r b step) t (memoryOf r w) next))
+
+  sound-reaches : Spares (λ i. Outside (levelOf r) i × Outside (levelOf r - 1) i × Outside (levelOf (o .reader)) i) w (o .work)
+  sound-reaches =
+      rw (work-fed r t w b s, level-fed)
+      (spares-fewer (λ i p. beyond-of-three (taskBy r b step) (levelOf r) (next .level) i p) (spares-perform (taskBy r b step) t (memoryOf r w) next))
+
+-- ---- any byte
+
+-- at level 0 no value is finished
+withValue-none : (t : Table) (w : List ℕ) (l : ℕ) (v : Finished) → l ≡ 0 → withValue t w l v ≡ w
+unfolding hasFrame
+withValue-none t w l v e = sym (putFrame-none w _ l (rw e))
+
+module _ (r : Reader) (t : Table) (w : List ℕ) (b : ℕ) where
+  byte-of-idle : Idles r w b (byteFed r t w b) → ByteWrites r t w b (byteFed r t w b)
+  byte-of-idle i =
+      record {
+        opens = λ q. absurd (omega (arith, i .level));
+        closes = λ m e q. let (a, _) = i .stays e in absurd (omega arith);
+        closes-root = λ m q p. i .work;
+        ends-number = λ n m e f. let (_, a) = i .stays e in true-neq-false (sym (ap inNumber (a ∙ m)) ∙ f);
+        in-number = λ _. i .work;
+        faulty = λ _. i .work;
+        after-fault = λ _. i .work;
+        separator = λ _. i .work;
+        stays = λ _. spares-all _ w _ (i .work);
+        reaches = spares-all _ w _ (i .work);
+      }
+
+  sound-ends-number : IsSound r t w b → (n : NumberMode) → modeOf r ≡ M.Number n → inNumber (modeOf (byteFed r t w b .reader)) ≡ false
+      → byteFed r t w b ≡ byteFed (inMode (M.At P.After) r) t (withValue t w (levelOf r) (Done.Scalar (kindSoFar n))) b
+  sound-ends-number s n m f =
+      let q : r ≡ inMode (M.Number n) r = ap (λ (x : Mode). inMode x r) m in
+      ap (λ (x : Reader). byteFed x t w b) q
+      ∙ fed-of-number-end r t w b n (subst (λ (x : Reader). IsSound x t w b) q s) (subst (λ (x : Reader). inNumber (modeOf (byteFed x t w b .reader)) ≡ false) q f)
+
+  byte-of-sound : IsSound r t w b → ByteWrites r t w b (byteFed r t w b)
+  byte-of-sound s =
+      record {
+        opens = sound-opens r t w b s;
+        closes = λ m _ q. sound-closes r t w b s m q;
+        closes-root = λ m q p. sound-closes r t w b s m (omega arith) .0 ∙ withValue-none t w (levelOf r - 1) _ (omega arith);
+        ends-number = λ n m _ f. sound-ends-number s n m f;
+        in-number = sound-in-number r t w b s;
+        faulty = λ f. true-neq-false (sym f ∙ sound-not-faulty r t w b s);
+        after-fault = λ f. true-neq-false (sym f ∙ not-faulty r t w (s .head) (s .fault));
+        separator = λ q. true-neq-false (sym (eq-eqb b 0x1E q) ∙ s .byte);
+        stays = sound-stays r t w b s;
+        reaches = sound-reaches r t w b s;
+      }
+
+  -- what a byte writes
+  pub byte-writes : ByteWrites r t w b (byteFed r t w b)
+  byte-writes = ⊎-elim byte-of-idle byte-of-sound (ways-of-byte r t w b)
+
+  -- nothing past the frames
+  byte-past : Spares (λ i. 96 * r .frames ≤ i) w (byteFed r t w b .work)
+  byte-past =
+      ⊎-elim (λ i. spares-all _ w _ (i .work))
+      (λ s.
+      let l : levelOf r ≤ r .frames = bounds-of-open r t w (s .gate) .2 in
+      let k : levelOf (byteFed r t w b .reader) ≤ r .frames = level-le r t w b s in
+      spares-fewer (λ i h. (inr (omega arith), inr (omega arith), inr (omega arith))) (byte-writes .reaches))
+      (ways-of-byte r t w b)
+
+  -- nothing in the frame of a level that is open neither before it nor after it
+  byte-unopened : (l : ℕ) → levelOf r < l → levelOf (byteFed r t w b .reader) < l → frameAt (byteFed r t w b .work) l ≡ frameAt w l
+  byte-unopened l h k =
+      frameAt-of-spares _ w (byteFed r t w b .work) l (λ i g. (inr (omega arith), inr (omega arith), inr (omega arith))) (byte-writes .reaches)
+
+-- ---- pieces
+
+-- a feed keeps the number of frames
+frames-fed : (r : Reader) (t : Table) (w s : List ℕ) → feedOf r t w s .reader .frames ≡ r .frames
+unfolding feedOf feeding
+frames-fed r t w s =
+    through-elim (λ (o : Outcome). o .reader .frames ≡ r .frames) (gateOf r t w) (λ k _. refl)
+    (λ _. cond-elim (λ (o : Outcome). o .reader .frames ≡ r .frames) (runMem t (r .frames) (memoryOf r w) 0 s .ended) (λ _. refl) (λ _. refl))
+
+spares-of-two : (P : ℕ → Type 0) (w : List ℕ) (a : Answer) (o q : Outcome) → Spares P w (o .work) → Spares P (o .work) (q .work)
+    → Spares P w (thenFed a o q .work)
+spares-of-two P w Says.Quiet o q x y = spares-after x y
+spares-of-two P w (Says.Judged v) o q x y = x
+spares-of-two P w (Says.Refused k) o q x y = x
+
+piece-past : (t : Table) (n : ℕ) (s : List ℕ) (r : Reader) (w : List ℕ) → r .frames ≡ n → Spares (λ i. 96 * n ≤ i) w (feedOf r t w s .work)
+piece-past t n [] r w e = spares-all _ w _ (fed-none r t w .1)
+piece-past t n (b ∷ s) r w e =
+    let o : Outcome = byteFed r t w b in
+    rw (fed-in-two r t w b s)
+    (spares-of-two _ w (o .answer) o (feedOf (o .reader) t (o .work) s) (spares-fewer (λ i h. omega arith) (byte-past r t w b))
+    (piece-past t n s (o .reader) (o .work) (frames-fed r t w (b ∷ []) ∙ e)))
+
+piece-unopened : (t : Table) (l : ℕ) (s : List ℕ) (r : Reader) (w : List ℕ) → ((p q : List ℕ) → p ++ q ≡ s → levelOf (feedOf r t w p .reader) < l)
+    → frameAt (feedOf r t w s .work) l ≡ frameAt w l
+piece-unopened t l [] r w all = ap (λ (v : List ℕ). frameAt v l) (fed-none r t w .1)
+piece-unopened t l (b ∷ s) r w all =
+    rw (fed-in-two r t w b s) (go (o .answer) refl (λ a. piece-unopened t l s (o .reader) (o .work) a))
+  where
+    o : Outcome
+    o = byteFed r t w b
+
+    first : frameAt (o .work) l ≡ frameAt w l
+    first = byte-unopened r t w b l (rw (fed-none r t w .0) at (all [] (b ∷ s) refl)) (all (b ∷ []) s refl)
+
+    go : (a : Answer) → o .answer ≡ a
+        → (((p q : List ℕ) → p ++ q ≡ s → levelOf (feedOf (o .reader) t (o .work) p .reader) < l) → frameAt (feedOf (o .reader) t (o .work) s .work) l ≡ frameAt (o .work) l)
+        → frameAt (thenFed a o (feedOf (o .reader) t (o .work) s) .work) l ≡ frameAt w l
+    go Says.Quiet e rest =
+        rest (λ p q h. rw (fed-in-two r t w b p, e) at (all (b ∷ p) q (ap (λ (x : List ℕ). b ∷ x) h))) ∙ first
+    go (Says.Judged v) e rest = first
+    go (Says.Refused k) e rest = first
+
+close-leaves : (r : Reader) (t : Table) (w : List ℕ) → closeOf r t w .work ≡ w
+unfolding closeOf closing
+close-leaves r t w =
+    through-elim (λ (o : Outcome). o .work ≡ w) (gateOf r t w) (λ k _. refl)
+    (λ _. cond-elim (λ (o : Outcome). o .work ≡ w) (ltb 0 (r .progress .pos)) (λ _. refl) (λ _. refl))
+
+-- ---- all of it
+
+pub lent : Lent
+lent =
+    record {
+      empty = fed-none;
+      piece = fed-in-two;
+      byte = byte-writes;
+      past = λ r t w s. piece-past t (r .frames) s r w refl;
+      unopened = λ r t w s l all. piece-unopened t l s r w all;
+      close = close-leaves;
+      refused = λ r t w s k e. unchanged-of-refused r (feed t w s) k e .work;
+    }

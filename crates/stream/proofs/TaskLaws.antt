@@ -1,0 +1,131 @@
+-- A task tells which byte it is, how the level moves and where it writes. Assumes nothing.
+use mathlib.Core.Bool.{Bool, true, false, cond}
+use mathlib.Core.Path.{_≡_, refl, sym, subst, _∙_}
+use Prim.Native.Nat.{ℕ, _+_, _-_}
+use native.Mathlib.Omega.{arith}
+use lib.Dec.{eqb, ltb}
+use Rattle.laws.proofs.TestLaws.{true-neq-false, cond-elim}
+use Rattle.json.specs.declared.lexer.Mode.{Mode}
+use Rattle.json.specs.declared.lexer.Act.{Act}
+use Rattle.json.specs.declared.lexer.Act.the-variants as A
+use Rattle.table.specs.Table.{Table}
+use Rattle.table.specs.declared.kind.Finished.the-variants as Done
+use Rattle.frame.specs.Frame.{putFrame}
+use Rattle.frame.specs.Ops.{opened}
+use Rattle.progress.specs.declared.Fault.the-variants as F
+use Rattle.progress.specs.declared.Progress.{Progress}
+use Rattle.progress.specs.declared.Task.{Task}
+use Rattle.progress.specs.declared.Task.the-variants as To
+use Rattle.progress.specs.Act.{openFault, openLevel, firstFault, levelAfter, keyTask, taskOf}
+use Rattle.progress.specs.Memory.{Mem, valueAt, rulesAt, closeAt, perform}
+use Rattle.stream.specs.Lent.{Outside, withValue, rulesOf}
+use Rattle.stream.proofs.LexerLaws.{OpensBy}
+use Rattle.stream.proofs.SpareLaws.{Beyond}
+
+-- ---- what a task tells of the byte and of the levels
+
+-- how the level moves from l to k
+abbrev pub LevelBy : Task → ℕ → ℕ → Type 0
+LevelBy To.Idle l k = k ≡ l
+LevelBy (To.Put c) l k = k ≡ l
+LevelBy To.Named l k = k ≡ l
+LevelBy (To.Open o) l k = k ≡ l + 1
+LevelBy (To.Finish s) l k = k ≡ l
+LevelBy To.Close l k = k ≡ l - 1
+LevelBy (To.FinishClose s) l k = k ≡ l - 1
+
+-- what is opened
+abbrev pub ObjectBy : Task → ℕ → Type 0
+ObjectBy To.Idle b = Unit {0}
+ObjectBy (To.Put c) b = Unit {0}
+ObjectBy To.Named b = Unit {0}
+ObjectBy (To.Open o) b = o ≡ eqb b 0x7B
+ObjectBy (To.Finish s) b = Unit {0}
+ObjectBy To.Close b = Unit {0}
+ObjectBy (To.FinishClose s) b = Unit {0}
+
+-- a number and its value are finished at once only where the byte ends a number
+abbrev pub EndsBy : Task → Bool → Type 0
+EndsBy To.Idle e = Unit {0}
+EndsBy (To.Put c) e = Unit {0}
+EndsBy To.Named e = Unit {0}
+EndsBy (To.Open o) e = Unit {0}
+EndsBy (To.Finish s) e = Unit {0}
+EndsBy To.Close e = Unit {0}
+EndsBy (To.FinishClose s) e = e ≡ true
+
+-- what it tells at level l, where the level is `next` after it and e says whether the byte b ends a number
+pub record Told (k : Task) (b l next : ℕ) (e : Bool) : Type 0 where
+  pub level : LevelBy k l next
+  pub object : ObjectBy k b
+  pub ends : EndsBy k e
+
+-- a byte without a fault opens a level where there is a frame for it
+openLevel-of-sound : (l n : ℕ) → openFault l n ≡ F.Sound → openLevel l n ≡ l + 1
+unfolding openFault openLevel
+openLevel-of-sound l n = go (ltb l n)
+  where
+    go : (v : Bool) → cond v F.Sound F.TooDeep ≡ F.Sound → cond v (l + 1) l ≡ l + 1
+    go true e = refl
+    go false e = let z : _≡_ {A = ℕ} 0 1 = cc in absurd (omega arith)
+
+module _ (b l n : ℕ) (m : Mode) (len c : ℕ) where
+  pub told-of-act : (a : Act) (e : Bool) → firstFault a l n ≡ F.Sound → OpensBy a b → Told (taskOf a e m len c) b l (levelAfter a l n) e
+  unfolding keyTask
+  told-of-act A.Fault e f o = record { level = refl; object = tt; ends = tt }
+  told-of-act A.Pass true f o = record { level = refl; object = tt; ends = tt }
+  told-of-act A.Pass false f o = record { level = refl; object = tt; ends = tt }
+  told-of-act A.OpenArray e f o = record { level = openLevel-of-sound l n f; object = sym o; ends = tt }
+  told-of-act A.OpenObject e f o = record { level = openLevel-of-sound l n f; object = sym o; ends = tt }
+  told-of-act A.Close true f o = record { level = refl; object = tt; ends = refl }
+  told-of-act A.Close false f o = record { level = refl; object = tt; ends = tt }
+  told-of-act A.KeyStart e f o = record { level = refl; object = tt; ends = tt }
+  told-of-act A.KeyChar e f o =
+      cond-elim (λ (k : Task). Told k b l l e) (ltb len 32)
+      (λ _. cond-elim (λ (k : Task). Told k b l l e) (ltb c 128) (λ _. record { level = refl; object = tt; ends = tt }) (λ _. record { level = refl; object = tt; ends = tt }))
+      (λ _. record { level = refl; object = tt; ends = tt })
+  told-of-act A.KeyEnd e f o = record { level = refl; object = tt; ends = tt }
+  told-of-act A.TextStart e f o = record { level = refl; object = tt; ends = tt }
+  told-of-act A.TextChar e f o = record { level = refl; object = tt; ends = tt }
+  told-of-act A.TextEnd e f o = record { level = refl; object = tt; ends = tt }
+  told-of-act A.NumberStart e f o = record { level = refl; object = tt; ends = tt }
+  told-of-act A.NumberByte e f o = record { level = refl; object = tt; ends = tt }
+  told-of-act (A.WordEnd v) e f o = record { level = refl; object = tt; ends = tt }
+
+-- ---- what a task writes, by how the level moves
+
+module _ (t : Table) (m : Mem) (y : Progress) (b : ℕ) (e : Bool) where
+  abbrev pub l : ℕ
+  l = m .progress .level
+
+  -- a level more
+  pub opens-of-task : (k : Task) → Told k b l (y .level) e → y .level ≡ l + 1 → perform k t m y .work ≡ putFrame (m .work) (l + 1) (opened (t .forms) (eqb b 0x7B))
+  opens-of-task To.Idle i q = absurd (omega (arith, i .level))
+  opens-of-task (To.Put c) i q = absurd (omega (arith, i .level))
+  opens-of-task To.Named i q = absurd (omega (arith, i .level))
+  opens-of-task (To.Open o) i q = rw (q, i .object)
+  opens-of-task (To.Finish s) i q = absurd (omega (arith, i .level))
+  opens-of-task To.Close i q = absurd (omega (arith, i .level))
+  opens-of-task (To.FinishClose s) i q = absurd (omega (arith, i .level))
+
+  -- a level less, and no number ends
+  pub closes-of-task : (k : Task) → Told k b l (y .level) e → e ≡ false → l ≡ y .level + 1
+      → perform k t m y .work ≡ withValue t (m .work) (l - 1) (Done.Rules (rulesOf t (m .work) l))
+  unfolding closeAt valueAt rulesAt
+  closes-of-task To.Idle i f q = absurd (omega (arith, i .level))
+  closes-of-task (To.Put c) i f q = absurd (omega (arith, i .level))
+  closes-of-task To.Named i f q = absurd (omega (arith, i .level))
+  closes-of-task (To.Open o) i f q = absurd (omega (arith, i .level))
+  closes-of-task (To.Finish s) i f q = absurd (omega (arith, i .level))
+  closes-of-task To.Close i f q = refl
+  closes-of-task (To.FinishClose s) i f q = true-neq-false (sym (i .ends) ∙ f)
+
+-- the level stays: the places outside its frame are not written
+pub beyond-of-stay : (x : Task) (b l k i : ℕ) (e : Bool) → Told x b l k e → k ≡ l → Outside l i → Beyond x l k i
+beyond-of-stay To.Idle b l k i e j q o = tt
+beyond-of-stay (To.Put c) b l k i e j q o = tt
+beyond-of-stay To.Named b l k i e j q o = o
+beyond-of-stay (To.Open v) b l k i e j q o = absurd (omega (arith, j .level))
+beyond-of-stay (To.Finish s) b l k i e j q o = o
+beyond-of-stay To.Close b l k i e j q o = subst (λ (x : ℕ). Outside x i) (sym q ∙ j .level) o
+beyond-of-stay (To.FinishClose s) b l k i e j q o = (o, subst (λ (x : ℕ). Outside x i) (sym q ∙ j .level) o)

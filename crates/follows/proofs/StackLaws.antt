@@ -7,7 +7,7 @@ use Prim.Native.Nat.{ℕ, suc, _*_, _≤_, _<_}
 use native.Mathlib.Omega.{arith}
 use lib.Dec.{eqb, lit<}
 use lib.ListN.{length}
-use borrow.Author.Tests.{lt-ltb, le-leb, ne-eqb}
+use borrow.Author.Tests.{ne-eqb}
 use Rattle.json.specs.Machine.{Stack, bare, whole, in-array, in-object, topOf, depth, finish}
 use Rattle.table.specs.Kind.{codeOf, ruleFits}
 use Rattle.table.specs.Table.{Table}
@@ -17,7 +17,7 @@ use Rattle.table.specs.declared.kind.ValueKind.{ValueKind}
 use Rattle.table.specs.declared.kind.ValueKind.the-variants.{Rule}
 use Rattle.book.specs.Entry.{arr, Entry}
 use Rattle.runs.specs.Walk.{judging, States, OpenObject, startOf, atOpening, afterKey}
-use Rattle.frame.specs.Frame.{frameCount, hasFrame, frameAt, putFrame}
+use Rattle.frame.specs.Frame.{frameAt, putFrame}
 use Rattle.frame.specs.Ops.{opened, keyed}
 use Rattle.frame.proofs.LevelLaws.{hasFrame-of-le, frameAt-putFrame, frameAt-putFrame-other}
 use Rattle.meaning.specs.Shows.{Carries, ShowsValue, ShowsArray, ShowsObject, ShowsKey}

@@ -3,15 +3,13 @@ use mathlib.Core.Bool.{Bool, true, false, cond}
 use mathlib.Core.List.{List, [], _∷_}
 use mathlib.Core.Logic.{_⊎_, inl, inr}
 use mathlib.Core.Path.{_≡_, refl, sym, ap, _∙_}
-use Prim.Native.Nat.{ℕ, _+_, _*_, _≤_}
+use Prim.Native.Nat.{ℕ, _+_, _≤_}
 use native.Mathlib.Omega.{arith}
 use lib.Dec.{eqb, ltb}
 use lib.ListN.{length}
 use borrow.Author.Tests.{le-leb}
 use Rattle.laws.proofs.TestLaws.{true-neq-false}
 use Rattle.json.specs.Lexer.{stepOf}
-use Rattle.json.specs.declared.lexer.Mode.{Mode}
-use Rattle.json.specs.declared.lexer.Act.{Act}
 use Rattle.json.specs.declared.lexer.Step.{Step}
 use Rattle.table.specs.Table.{Table}
 use Rattle.verdict.specs.Verdict.{longest}
@@ -20,7 +18,6 @@ use Rattle.progress.specs.declared.Fault.the-variants as F
 use Rattle.progress.specs.declared.Progress.{Progress}
 use Rattle.progress.specs.declared.Task.{Task}
 use Rattle.progress.specs.declared.Task.the-variants as To
-use Rattle.progress.specs.declared.Advanced.{Advanced}
 use Rattle.progress.specs.Act.{firstFault, levelAfter, lenAfter, taskOf}
 use Rattle.progress.specs.Progress.{counted, faulted, charIn, moved, sound, advanced}
 use Rattle.progress.specs.Memory.{Mem, topAt, perform, advancedAt, stepMem, endsRecord, Ran, runMem}
@@ -30,7 +27,7 @@ use Rattle.reader.specs.declared.Refusal.{Refusal}
 use Rattle.reader.specs.declared.Answer.the-variants as Says
 use Rattle.reader.specs.declared.Gate.{Gate}
 use Rattle.reader.specs.declared.Gate.the-variants as Is
-use Rattle.reader.specs.Refusals.{fitReader, withinReader, callGate, through}
+use Rattle.reader.specs.Refusals.{withinReader, callGate}
 use Rattle.reader.specs.Machine.{Outcome, refusing, memoryOf, ending, going, outcome, feeding, feedOf}
 use Rattle.reader.proofs.RefusalLaws.{through-elim, reader-of-call, bounds-of-fit, fit-all}
 use Rattle.stream.specs.Lent.{levelOf, modeOf, byteFed, thenFed, inTwo}

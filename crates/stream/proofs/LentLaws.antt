@@ -2,28 +2,24 @@
 -- (`ways-of-byte`), and a sound byte's task tells how the level moves and where it writes. Assumes nothing.
 use mathlib.Core.Bool.{Bool, true, false, cond}
 use mathlib.Core.List.{List, [], _∷_, _++_}
-use mathlib.Core.Logic.{_⊎_, inl, inr, ⊎-elim}
+use mathlib.Core.Logic.{inr, ⊎-elim}
 use mathlib.Core.Path.{_≡_, refl, sym, ap, subst, _∙_}
 use Prim.Native.Nat.{ℕ, _+_, _*_, _-_, _<_, _≤_}
 use native.Mathlib.Omega.{arith}
 use lib.Dec.{eqb, ltb}
 use lib.ListN.{length}
-use borrow.Author.Tests.{eq-eqb, lt-ltb, ltb-true}
+use borrow.Author.Tests.{eq-eqb}
 use Rattle.laws.proofs.TestLaws.{true-neq-false, cond-elim}
 use Rattle.json.specs.Lexer.{mayEnd}
 use Rattle.json.specs.declared.number.NumberMode.{NumberMode}
-use Rattle.json.specs.declared.number.NumberMode.the-variants as N
-use Rattle.json.specs.declared.lexer.Awaited.{Awaited}
 use Rattle.json.specs.declared.lexer.Awaited.the-variants as P
 use Rattle.json.specs.declared.lexer.Mode.{Mode}
 use Rattle.json.specs.declared.lexer.Mode.the-variants as M
-use Rattle.json.specs.declared.lexer.Act.{Act}
-use Rattle.json.specs.declared.lexer.Act.the-variants as A
 use Rattle.json.specs.declared.lexer.Step.{Step}
 use Rattle.table.specs.Table.{Table}
 use Rattle.table.specs.declared.kind.Finished.{Finished}
 use Rattle.table.specs.declared.kind.Finished.the-variants as Done
-use Rattle.frame.specs.Frame.{hasFrame, frameStart, frameAt, putFrame}
+use Rattle.frame.specs.Frame.{hasFrame, frameAt, putFrame}
 use Rattle.frame.specs.Ops.{opened}
 use Rattle.frame.proofs.LevelLaws.{hasFrame-of-le, putFrame-none, frameAt-putFrame}
 use Rattle.frame.proofs.OpenLaws.{length-opened}
@@ -33,14 +29,10 @@ use Rattle.progress.specs.declared.Fault.{Fault}
 use Rattle.progress.specs.declared.Fault.the-variants as F
 use Rattle.progress.specs.declared.Progress.{Progress}
 use Rattle.progress.specs.declared.Task.{Task}
-use Rattle.progress.specs.declared.Task.the-variants as To
-use Rattle.progress.specs.Act.{openFault, openLevel, firstFault, levelAfter, keyTask, taskOf}
 use Rattle.progress.specs.Progress.{wholeNumber, wholeIn, whole, verdictBy, judged}
 use Rattle.progress.specs.Memory.{topAt, perform, runMem}
 use Rattle.progress.proofs.ActLaws.{levelAfter-le}
-use Rattle.progress.proofs.MemoryLaws.{progress-perform}
 use Rattle.reader.specs.declared.Reader.{Reader}
-use Rattle.reader.specs.declared.Refusal.{Refusal}
 use Rattle.reader.specs.declared.Answer.{Answer}
 use Rattle.reader.specs.declared.Answer.the-variants as Says
 use Rattle.reader.specs.Machine.{Outcome, memoryOf, feeding, feedOf, closing, closeOf}
@@ -53,7 +45,7 @@ use Rattle.stream.proofs.LexerLaws.{tells-stepOf, ends-stepOf}
 use Rattle.stream.proofs.FedLaws.{gateOf, bounds-of-open, stepAt, movedBy, taskBy, IsSound, progress-fed, work-fed, Idles, ways-of-byte, fed-none, fed-in-two}
 use Rattle.stream.proofs.NumberLaws.{fed-of-number-end}
 use Rattle.stream.proofs.TaskLaws.{Told, told-of-act, opens-of-task, closes-of-task, beyond-of-stay}
-use Rattle.stream.proofs.SpareLaws.{spares-all, spares-after, spares-fewer, spares-put, spares-withValue, Beyond, spares-perform, beyond-of-three, frameAt-of-spares}
+use Rattle.stream.proofs.SpareLaws.{spares-all, spares-after, spares-fewer, spares-put, spares-withValue, spares-perform, beyond-of-three, frameAt-of-spares}
 
 -- ---- a record without a fault that is not the head
 
@@ -119,13 +111,15 @@ module _ (r : Reader) (t : Table) (w : List ℕ) (b : ℕ) (s : IsSound r t w b)
       rw e (frameAt-putFrame w f (levelOf r + 1) long has, spares-put w f (levelOf r + 1) long)
 
   sound-closes : inNumber (modeOf r) ≡ false → levelOf r ≡ levelOf (o .reader) + 1
-      → (o .work ≡ withValue t w (levelOf r - 1) (Done.Rules (rulesOf t w (levelOf r)))) × Spares (Outside (levelOf r - 1)) w (o .work)
+      → (o .work ≡ withValue t w (levelOf (o .reader)) (Done.Rules (rulesOf t w (levelOf r)))) × Spares (Outside (levelOf (o .reader))) w (o .work)
   sound-closes m q =
       let v : Finished = Done.Rules (rulesOf t w (levelOf r)) in
+      let below : levelOf r - 1 ≡ levelOf (o .reader) = omega arith in
       let f : step .ends ≡ false = ends-stepOf b (modeOf r) (topAt w (levelOf r)) m in
-      let e : o .work ≡ withValue t w (levelOf r - 1) v
-          = work-fed r t w b s ∙ closes-of-task t (memoryOf r w) next b (step .ends) (taskBy r b step) told f (q ∙ ap (λ (x : ℕ). x + 1) level-fed) in
-      (e, rw e (spares-withValue t w (levelOf r - 1) v))
+      let e : o .work ≡ withValue t w (levelOf (o .reader)) v
+          = work-fed r t w b s ∙ closes-of-task t (memoryOf r w) next b (step .ends) (taskBy r b step) told f (q ∙ ap (λ (x : ℕ). x + 1) level-fed)
+          ∙ ap (λ (x : ℕ). withValue t w x v) below in
+      (e, subst (λ (x : List ℕ). Spares (Outside (levelOf (o .reader))) w x) (sym e) (spares-withValue t w (levelOf (o .reader)) v))
 
   sound-in-number : inNumber (modeOf (o .reader)) ≡ true → o .work ≡ w
   sound-in-number e =
@@ -183,7 +177,7 @@ module _ (r : Reader) (t : Table) (w : List ℕ) (b : ℕ) where
       record {
         opens = sound-opens r t w b s;
         closes = λ m _ q. sound-closes r t w b s m q;
-        closes-root = λ m q p. sound-closes r t w b s m (omega arith) .0 ∙ withValue-none t w (levelOf r - 1) _ (omega arith);
+        closes-root = λ m q p. sound-closes r t w b s m (omega arith) .0 ∙ withValue-none t w (levelOf (byteFed r t w b .reader)) _ p;
         ends-number = λ n m _ f. sound-ends-number s n m f;
         in-number = sound-in-number r t w b s;
         faulty = λ f. true-neq-false (sym f ∙ sound-not-faulty r t w b s);

@@ -1,11 +1,9 @@
 -- A byte that ends a number does what it does after a value, in the buffer where the number is finished: `fed-of-number-end`. Assumes nothing.
-use mathlib.Core.Bool.{Bool, true, false}
+use mathlib.Core.Bool.{false}
 use mathlib.Core.List.{List}
 use mathlib.Core.Path.{_≡_, refl, sym, ap, _∙_}
 use Prim.Native.Nat.{ℕ}
 use native.Mathlib.Omega.{arith}
-use lib.Dec.{eqb}
-use lib.ListN.{length}
 use Rattle.laws.proofs.TestLaws.{true-neq-false}
 use Rattle.json.specs.Lexer.{numberMove, numberStep, endedBefore, afterValue}
 use Rattle.json.specs.declared.number.NumberMode.{NumberMode}
@@ -19,7 +17,7 @@ use Rattle.json.specs.declared.lexer.Step.{Step}
 use Rattle.table.specs.Table.{Table}
 use Rattle.table.specs.declared.kind.Finished.{Finished}
 use Rattle.table.specs.declared.kind.Finished.the-variants as Done
-use Rattle.frame.specs.Frame.{hasFrame, isObject, frameAt, putFrame}
+use Rattle.frame.specs.Frame.{frameAt}
 use Rattle.frame.specs.Edges.{edgesIn}
 use Rattle.frame.specs.Ops.{valued}
 use Rattle.frame.proofs.LevelLaws.{length-frameAt, frameAt-putFrame}
@@ -30,8 +28,6 @@ use Rattle.progress.specs.Act.{firstFault, numberKind}
 use Rattle.progress.specs.Memory.{topAt, valueAt, closeAt}
 use Rattle.progress.proofs.MemoryLaws.{worked-elim, keeps-valued}
 use Rattle.reader.specs.declared.Reader.{Reader}
-use Rattle.reader.specs.declared.Gate.the-variants as Is
-use Rattle.reader.specs.Refusals.{withinReader, callGate}
 use Rattle.stream.specs.Lent.{withValue, levelOf, modeOf, inNumber, kindSoFar, inMode, byteFed}
 use Rattle.stream.proofs.LexerLaws.{afterValue-elim}
 use Rattle.stream.proofs.FedLaws.{stepAt, done, IsSound, fed-of-sound, progress-fed}

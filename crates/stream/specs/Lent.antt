@@ -1,6 +1,6 @@
--- What feed and close write in the lent buffer: REQUIREMENT.md, section 5, in its sentences on opening, closing, numbers, faults, RS and close, and
--- 01, "Frames". Each sentence is about `feedOf` and `closeOf`, for every reader, table, buffer and byte, made-up readers and refused calls too; that a
--- piece is its bytes carries them over to pieces. Stated; `lent` of `LentLaws` proves the whole record `Lent`. Assumes nothing.
+-- What feed and close write in the lent buffer: REQUIREMENT.md, section 5, its sentences on opening, closing, numbers, faulty bytes, RS and close; and
+-- that nothing is written past the frames or in the frame of a level that is not open. Each sentence is about `feedOf` and `closeOf`, for every reader,
+-- table, buffer and byte, made-up readers and refused calls too. Stated; `lent` of `LentLaws` proves all of `Lent`. Assumes nothing.
 use mathlib.Core.Bool.{Bool, true, false}
 use mathlib.Core.List.{List, [], _∷_, _++_}
 use mathlib.Core.Logic.{_⊎_}
@@ -35,7 +35,7 @@ use Rattle.reader.specs.Machine.{Outcome, feedOf, closeOf}
 abbrev pub Outside : ℕ → ℕ → Type 0
 Outside l i = (i < frameStart l) ⊎ (96 * l ≤ i)
 
--- a call leaves v of the buffer w: it is as long, and no byte at a place of P was written
+-- the buffer was w before a call and is v after it: it is as long, and no byte at a place of P was written
 pub record Spares (P : ℕ → Type 0) (w v : List ℕ) : Type 0 where
   pub long : length v ≡ length w
   pub byte : (i : ℕ) → P i → getD v i 0 ≡ getD w i 0
@@ -118,34 +118,35 @@ pub record ByteWrites (r : Reader) (t : Table) (w : List ℕ) (b : ℕ) (o : Out
   pub opens : levelOf (o .reader) ≡ levelOf r + 1
       → (frameAt (o .work) (levelOf r + 1) ≡ opened (t .forms) (eqb b 0x7B)) × Spares (Outside (levelOf r + 1)) w (o .work)
 
-  -- closing finishes the closed value in its parent; it writes only there, and for the root nowhere
+  -- closing finishes the closed value in its parent, whose level is the open one then; it writes only there, and for the root nowhere
   pub closes : inNumber (modeOf r) ≡ false → eqb b 0x1E ≡ false → levelOf r ≡ levelOf (o .reader) + 1
-      → (o .work ≡ withValue t w (levelOf r - 1) (Done.Rules (rulesOf t w (levelOf r)))) × Spares (Outside (levelOf r - 1)) w (o .work)
+      → (o .work ≡ withValue t w (levelOf (o .reader)) (Done.Rules (rulesOf t w (levelOf r)))) × Spares (Outside (levelOf (o .reader))) w (o .work)
   pub closes-root : inNumber (modeOf r) ≡ false → levelOf r ≡ 1 → levelOf (o .reader) ≡ 0 → o .work ≡ w
 
-  -- a byte that ends a number finishes it and then has its own effect: it does what it does after a value, in the buffer where the number is finished
+  -- a byte other than RS that ends a number finishes it before its own effect: its outcome is that of the byte after a finished value, in the buffer where
+  -- the number is finished
   pub ends-number : (n : NumberMode) → modeOf r ≡ M.Number n → eqb b 0x1E ≡ false → inNumber (modeOf (o .reader)) ≡ false
       → o ≡ byteFed (inMode (M.At P.After) r) t (withValue t w (levelOf r) (Done.Scalar (kindSoFar n))) b
 
   -- while a number is open nothing is written
   pub in-number : inNumber (modeOf (o .reader)) ≡ true → o .work ≡ w
 
-  -- a faulty byte writes nothing, even where it ends a number; nor does any byte after it, or of the head
+  -- a faulty byte writes nothing, even where it ends a number; nor do the bytes of the record after it, nor those of the head
   pub faulty : faultyIn (o .reader) t (o .work) ≡ true → o .work ≡ w
   pub after-fault : faultyIn r t w ≡ true → o .work ≡ w
 
   -- an RS writes nothing, even where it ends a number
   pub separator : b ≡ 0x1E → o .work ≡ w
 
-  -- a byte that neither opens nor closes writes only in the frame of the innermost open value
+  -- a byte that neither opens nor closes a value writes only in the frame of the innermost open one
   pub stays : levelOf (o .reader) ≡ levelOf r → Spares (Outside (levelOf r)) w (o .work)
 
-  -- no byte writes outside the frames of the innermost open value, of its parent and of the value that it opens
+  -- no byte writes outside the frames of the innermost open value, of its parent and of a value that it opens
   pub reaches : Spares (λ i. Outside (levelOf r) i × Outside (levelOf r - 1) i × Outside (levelOf (o .reader)) i) w (o .work)
 
 -- ---- pieces
 
--- the outcome o, and then what was fed after it has the outcome q: a verdict or a refusal ends the feed, else the counts add up
+-- a first feed answers a and has the outcome o, and a second the outcome q: after a verdict or a refusal there is no second, else the counts add up
 abbrev pub thenFed : Answer → Outcome → Outcome → Outcome
 thenFed Says.Quiet o q = record { reader = q .reader; count = o .count + q .count; answer = q .answer; work = q .work }
 thenFed (Says.Judged v) o q = o
@@ -157,17 +158,17 @@ inTwo t o s = thenFed (o .answer) o (feedOf (o .reader) t (o .work) s)
 
 -- all that is said of the lent bytes
 pub record Lent : Type 0 where
-  -- a piece is its bytes: it does what they do when they are fed one by one
+  -- a piece does what its bytes do when they are fed one by one
   pub empty : (r : Reader) (t : Table) (w : List ℕ) → (feedOf r t w [] .reader ≡ r) × (feedOf r t w [] .work ≡ w)
   pub piece : (r : Reader) (t : Table) (w : List ℕ) (b : ℕ) (s : List ℕ) → feedOf r t w (b ∷ s) ≡ inTwo t (byteFed r t w b) s
 
-  -- so this holds of each byte
+  -- and this is what each byte writes
   pub byte : (r : Reader) (t : Table) (w : List ℕ) (b : ℕ) → ByteWrites r t w b (byteFed r t w b)
 
   -- bytes past the frames that were counted at start are never written
   pub past : (r : Reader) (t : Table) (w s : List ℕ) → Spares (λ i. 96 * r .frames ≤ i) w (feedOf r t w s .work)
 
-  -- the frame of a level that the record has not open before the piece or after any of its bytes is not written
+  -- the frame of a level that is open neither before the piece nor after any of its bytes is not written
   pub unopened : (r : Reader) (t : Table) (w s : List ℕ) (l : ℕ) → ((p q : List ℕ) → p ++ q ≡ s → levelOf (feedOf r t w p .reader) < l)
       → frameAt (feedOf r t w s .work) l ≡ frameAt w l
 

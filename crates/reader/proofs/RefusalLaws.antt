@@ -142,9 +142,12 @@ module _ (f l k : ℕ) where
   bounds-of-fit e =
       let a = T-of-true (leb 1 f && (leb f 64 && (leb l f && leb k 33))) e in
       let b = T-and-right (leb 1 f) (leb f 64 && (leb l f && leb k 33)) a in
-      let c = T-and-right (leb f 64) (leb l f && leb k 33) b in
-      (leb→le 1 f (T-and-left (leb 1 f) _ a), leb→le f 64 (T-and-left (leb f 64) _ b), leb→le l f (T-and-left (leb l f) (leb k 33) c),
-      leb→le k 33 (T-and-right (leb l f) (leb k 33) c))
+      let c = T-and-right (leb f 64) (leb l f && leb k 33) b in (
+        leb→le 1 f (T-and-left (leb 1 f) _ a),
+        leb→le f 64 (T-and-left (leb f 64) _ b),
+        leb→le l f (T-and-left (leb l f) (leb k 33) c),
+        leb→le k 33 (T-and-right (leb l f) (leb k 33) c),
+      )
 
   -- so it has at most 64 frames
   pub frames-le : (v : Bool) → v ≡ fitReader f l k → v ≡ true → f ≤ 64

@@ -207,7 +207,7 @@ module _ (r : Reader) (t : Table) (w : List ℕ) where
     open-again g =
         let f = bounds-of-open r t w g in
         let i : Within (r .frames) (stepMem t (r .frames) (memoryOf r w) b .progress)
-            = within-of-byte t (r .frames) (memoryOf r w) b (record { level = f .2; len = f .3 }) in
+        = within-of-byte t (r .frames) (memoryOf r w) b (record { level = f .2; len = f .3 }) in
         let l : ℕ = levelOf (reached .reader) in
         let k : ℕ = reached .reader .progress .len in
         rw (length-stepMem t (r .frames) (memoryOf r w) b, sym (fit-all (r .frames) l k (f .0) (f .1) (i .level)) ∙ le-leb k 33 (i .len))

@@ -1,146 +1,36 @@
--- What feed and close write in the lent buffer, sentence by sentence: `lent` proves all of `Lent`. A byte leaves the frames or is sound
--- (`ways-of-byte`), and a sound byte's task tells how the level moves and where it writes. Assumes nothing.
-use mathlib.Core.Bool.{Bool, true, false, cond}
+-- What feed and close write in the lent buffer, sentence by sentence: `lent` proves all of `Lent`. A byte leaves the frames as they are, or is sound:
+-- `ways-of-byte`. Assumes nothing.
+use mathlib.Core.Bool.{false}
 use mathlib.Core.List.{List, [], _∷_, _++_}
 use mathlib.Core.Logic.{inr, ⊎-elim}
 use mathlib.Core.Path.{_≡_, refl, sym, ap, subst, _∙_}
-use Prim.Native.Nat.{ℕ, _+_, _*_, _-_, _<_, _≤_}
+use Prim.Native.Nat.{ℕ, _*_, _<_, _≤_}
 use native.Mathlib.Omega.{arith}
-use lib.Dec.{eqb, ltb}
-use lib.ListN.{length}
+use lib.Dec.{ltb}
 use borrow.Author.Tests.{eq-eqb}
 use Rattle.laws.proofs.TestLaws.{true-neq-false, cond-elim}
-use Rattle.json.specs.Lexer.{mayEnd}
 use Rattle.json.specs.declared.number.NumberMode.{NumberMode}
 use Rattle.json.specs.declared.lexer.Awaited.the-variants as P
 use Rattle.json.specs.declared.lexer.Mode.{Mode}
 use Rattle.json.specs.declared.lexer.Mode.the-variants as M
-use Rattle.json.specs.declared.lexer.Step.{Step}
 use Rattle.table.specs.Table.{Table}
 use Rattle.table.specs.declared.kind.Finished.{Finished}
 use Rattle.table.specs.declared.kind.Finished.the-variants as Done
-use Rattle.frame.specs.Frame.{hasFrame, frameAt, putFrame}
-use Rattle.frame.specs.Ops.{opened}
-use Rattle.frame.proofs.LevelLaws.{hasFrame-of-le, putFrame-none, frameAt-putFrame}
-use Rattle.frame.proofs.OpenLaws.{length-opened}
-use Rattle.verdict.specs.declared.Verdict.{Verdict}
-use Rattle.verdict.specs.declared.Verdict.the-variants as Is
-use Rattle.progress.specs.declared.Fault.{Fault}
-use Rattle.progress.specs.declared.Fault.the-variants as F
-use Rattle.progress.specs.declared.Progress.{Progress}
-use Rattle.progress.specs.declared.Task.{Task}
-use Rattle.progress.specs.Progress.{wholeNumber, wholeIn, whole, verdictBy, judged}
-use Rattle.progress.specs.Memory.{topAt, perform, runMem}
-use Rattle.progress.proofs.ActLaws.{levelAfter-le}
+use Rattle.frame.specs.Frame.{hasFrame, frameAt}
+use Rattle.frame.proofs.LevelLaws.{putFrame-none}
+use Rattle.progress.specs.Memory.{runMem}
 use Rattle.reader.specs.declared.Reader.{Reader}
 use Rattle.reader.specs.declared.Answer.{Answer}
 use Rattle.reader.specs.declared.Answer.the-variants as Says
 use Rattle.reader.specs.Machine.{Outcome, memoryOf, feeding, feedOf, closing, closeOf}
-use Rattle.reader.specs.Refusals.{withinReader}
 use Rattle.reader.specs.Paper.{feed}
-use Rattle.reader.proofs.RefusalLaws.{room-of-call, through-elim}
-use Rattle.stream.specs.Lent.{Outside, Spares, withValue, rulesOf, levelOf, modeOf, inNumber, kindSoFar, inMode, isFaulty, saysFaulty, faultyIn, byteFed, ByteWrites, thenFed, Lent}
+use Rattle.reader.proofs.RefusalLaws.{through-elim}
+use Rattle.stream.specs.Lent.{Spares, withValue, levelOf, modeOf, inNumber, kindSoFar, inMode, byteFed, ByteWrites, thenFed, Lent}
 use Rattle.stream.proofs.CallLaws.{unchanged-of-refused}
-use Rattle.stream.proofs.LexerLaws.{tells-stepOf, ends-stepOf}
-use Rattle.stream.proofs.FedLaws.{gateOf, bounds-of-open, stepAt, movedBy, taskBy, IsSound, progress-fed, work-fed, Idles, ways-of-byte, fed-none, fed-in-two}
+use Rattle.stream.proofs.FedLaws.{gateOf, bounds-of-open, IsSound, Idles, ways-of-byte, fed-none, fed-in-two}
 use Rattle.stream.proofs.NumberLaws.{fed-of-number-end}
-use Rattle.stream.proofs.TaskLaws.{Told, told-of-act, opens-of-task, closes-of-task, beyond-of-stay}
-use Rattle.stream.proofs.SpareLaws.{spares-all, spares-after, spares-fewer, spares-put, spares-withValue, spares-perform, beyond-of-three, frameAt-of-spares}
-
--- ---- a record without a fault that is not the head
-
--- ends without a verdict for a fault
-whole-not-faulty : (x : Progress) (root : Bool) → isFaulty (whole x root) ≡ false
-unfolding whole wholeNumber
-whole-not-faulty x root = cond-elim (λ (v : Verdict). isFaulty v ≡ false) (eqb (x .level) 0) (λ _. go (x .mode)) (λ _. refl)
-  where
-    go : (m : Mode) → isFaulty (wholeIn m (x .pos) root) ≡ false
-    go (M.At P.Value) = refl
-    go (M.At P.First) = refl
-    go (M.At P.Key) = refl
-    go (M.At P.Colon) = refl
-    go (M.At P.After) = cond-elim (λ (v : Verdict). isFaulty v ≡ false) root (λ _. refl) (λ _. refl)
-    go (M.Key s) = refl
-    go (M.Text s) = refl
-    go (M.Number n) = cond-elim (λ (v : Verdict). isFaulty v ≡ false) (mayEnd n) (λ _. refl) (λ _. refl)
-    go (M.Word v i) = refl
-
-judged-not-faulty : (x : Progress) (root : Bool) → x .head ≡ false → x .fault ≡ F.Sound → isFaulty (judged x root) ≡ false
-unfolding judged
-judged-not-faulty x root h f =
-    subst (λ (v : Bool). isFaulty (cond v Is.Head (verdictBy (x .fault) x root)) ≡ false) (sym h)
-    (subst (λ (v : Fault). isFaulty (verdictBy v x root) ≡ false) (sym f) (whole-not-faulty x root))
-
-not-faulty : (r : Reader) (t : Table) (w : List ℕ) → r .progress .head ≡ false → r .progress .fault ≡ F.Sound → faultyIn r t w ≡ false
-unfolding closeOf closing
-not-faulty r t w h f =
-    through-elim (λ (o : Outcome). saysFaulty (o .answer) ≡ false) (gateOf r t w) (λ k _. refl)
-    (λ _. cond-elim (λ (o : Outcome). saysFaulty (o .answer) ≡ false) (ltb 0 (r .progress .pos)) (λ _. judged-not-faulty (r .progress) (r .root) h f) (λ _. refl))
-
--- ---- a sound byte
-
-module _ (r : Reader) (t : Table) (w : List ℕ) (b : ℕ) (s : IsSound r t w b) where
-  abbrev o : Outcome
-  o = byteFed r t w b
-
-  abbrev step : Step
-  step = stepAt r w b
-
-  abbrev next : Progress
-  next = movedBy r b step
-
-  abbrev level-fed : levelOf (o .reader) ≡ next .level
-  level-fed = ap (λ (x : Progress). x .level) (progress-fed r t w b s)
-
-  told : Told (taskBy r b step) b (levelOf r) (next .level) (step .ends)
-  told = told-of-act b (levelOf r) (r .frames) (modeOf r) (r .progress .len) _ (step .act) (step .ends) (s .first) (tells-stepOf b (modeOf r) (topAt w (levelOf r)) .opens)
-
-  -- there is a frame for each level that it leaves open
-  pub level-le : levelOf (o .reader) ≤ r .frames
-  level-le = rw level-fed (levelAfter-le (step .act) (levelOf r) (r .frames) (bounds-of-open r t w (s .gate) .2))
-
-  sound-opens : levelOf (o .reader) ≡ levelOf r + 1
-      → (frameAt (o .work) (levelOf r + 1) ≡ opened (t .forms) (eqb b 0x7B)) × Spares (Outside (levelOf r + 1)) w (o .work)
-  sound-opens q =
-      let f : List ℕ = opened (t .forms) (eqb b 0x7B) in
-      let e : o .work ≡ putFrame w (levelOf r + 1) f = work-fed r t w b s ∙ opens-of-task t (memoryOf r w) next b (step .ends) (taskBy r b step) told (sym level-fed ∙ q) in
-      let long : length f ≡ 96 = length-opened (t .forms) (eqb b 0x7B) in
-      let g = bounds-of-open r t w (s .gate) in
-      let has : hasFrame (length w) (levelOf r + 1) ≡ true
-          = hasFrame-of-le (r .frames) (length w) (levelOf r + 1) (g .1) (room-of-call (withinReader r) (r .frames) t (length w) (s .gate)) (omega arith) (rw q at level-le) in
-      rw e (frameAt-putFrame w f (levelOf r + 1) long has, spares-put w f (levelOf r + 1) long)
-
-  sound-closes : inNumber (modeOf r) ≡ false → levelOf r ≡ levelOf (o .reader) + 1
-      → (o .work ≡ withValue t w (levelOf (o .reader)) (Done.Rules (rulesOf t w (levelOf r)))) × Spares (Outside (levelOf (o .reader))) w (o .work)
-  sound-closes m q =
-      let v : Finished = Done.Rules (rulesOf t w (levelOf r)) in
-      let below : levelOf r - 1 ≡ levelOf (o .reader) = omega arith in
-      let f : step .ends ≡ false = ends-stepOf b (modeOf r) (topAt w (levelOf r)) m in
-      let e : o .work ≡ withValue t w (levelOf (o .reader)) v
-          = work-fed r t w b s ∙ closes-of-task t (memoryOf r w) next b (step .ends) (taskBy r b step) told f (q ∙ ap (λ (x : ℕ). x + 1) level-fed)
-          ∙ ap (λ (x : ℕ). withValue t w x v) below in
-      (e, subst (λ (x : List ℕ). Spares (Outside (levelOf (o .reader))) w x) (sym e) (spares-withValue t w (levelOf (o .reader)) v))
-
-  sound-in-number : inNumber (modeOf (o .reader)) ≡ true → o .work ≡ w
-  sound-in-number e =
-      let i : inNumber (step .mode) ≡ true = ap (λ (x : Progress). inNumber (x .mode)) (sym (progress-fed r t w b s)) ∙ e in
-      let k = rw i at (tells-stepOf b (modeOf r) (topAt w (levelOf r)) .quiet) in
-      work-fed r t w b s ∙ ap (λ (x : Task). perform x t (memoryOf r w) next .work) (k (step .ends) (modeOf r) (r .progress .len) _)
-
-  sound-not-faulty : faultyIn (o .reader) t (o .work) ≡ false
-  sound-not-faulty =
-      not-faulty (o .reader) t (o .work) (ap (λ (x : Progress). x .head) (progress-fed r t w b s) ∙ s .head) (ap (λ (x : Progress). x .fault) (progress-fed r t w b s) ∙ s .fault)
-
-  sound-stays : levelOf (o .reader) ≡ levelOf r → Spares (Outside (levelOf r)) w (o .work)
-  sound-stays q =
-      rw (work-fed r t w b s)
-      (spares-fewer (λ i p. beyond-of-stay (taskBy r b step) b (levelOf r) (next .level) i (step .ends) told (sym level-fed ∙ q) p)
-      (spares-perform (taskBy r b step) t (memoryOf r w) next))
-
-  sound-reaches : Spares (λ i. Outside (levelOf r) i × Outside (levelOf r - 1) i × Outside (levelOf (o .reader)) i) w (o .work)
-  sound-reaches =
-      rw (work-fed r t w b s, level-fed)
-      (spares-fewer (λ i p. beyond-of-three (taskBy r b step) (levelOf r) (next .level) i p) (spares-perform (taskBy r b step) t (memoryOf r w) next))
+use Rattle.stream.proofs.SoundLaws.{not-faulty, level-le, sound-opens, sound-closes, sound-in-number, sound-not-faulty, sound-stays, sound-reaches}
+use Rattle.stream.proofs.SpareLaws.{spares-all, spares-after, spares-fewer, frameAt-of-spares}
 
 -- ---- any byte
 

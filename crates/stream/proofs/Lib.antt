@@ -12,5 +12,6 @@ pub mod FedLaws
 pub mod SpareLaws
 pub mod TaskLaws
 pub mod NumberLaws
+pub mod SoundLaws
 pub mod LentLaws
 pub mod Examples

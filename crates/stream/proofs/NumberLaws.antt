@@ -50,8 +50,10 @@ unfolding topAt
 topAt-withValue t w l v =
     worked-elim (λ (u : List ℕ). topAt u l ≡ topAt w l) w l (valued (edgesIn t) (t .«edge_kind») (t .forms) v) (keeps-valued t v) refl
     (λ e long.
-    rw (frameAt-putFrame w (valued (edgesIn t) (t .«edge_kind») (t .forms) v (frameAt w l)) l long e,
-    isObject-valued (edgesIn t) (t .«edge_kind») (t .forms) v (frameAt w l) (length-frameAt w l e)))
+    rw (
+      frameAt-putFrame w (valued (edgesIn t) (t .«edge_kind») (t .forms) v (frameAt w l)) l long e,
+      isObject-valued (edgesIn t) (t .«edge_kind») (t .forms) v (frameAt w l) (length-frameAt w l e),
+    ))
 
 -- a step that brings no fault and leaves no number open has ended it
 ended-of-step : (k : NumberMove) (top : Top) (b l n : ℕ) → firstFault (numberStep k top b .act) l n ≡ F.Sound → inNumber (numberStep k top b .mode) ≡ false

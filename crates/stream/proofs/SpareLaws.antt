@@ -98,5 +98,5 @@ unfolding frameAt
 frameAt-of-spares P w v l all s =
     let a : ℕ = frameStart l in
     let same : drop a v ≡ drop a w
-        = ext-getD 0 (drop a v) (drop a w) (simp (length-drop, s .long)) (λ i _. getD-drop a v i 0 ∙ s .byte (a + i) (all (a + i) (omega arith)) ∙ sym (getD-drop a w i 0)) in
+    = ext-getD 0 (drop a v) (drop a w) (simp (length-drop, s .long)) (λ i _. getD-drop a v i 0 ∙ s .byte (a + i) (all (a + i) (omega arith)) ∙ sym (getD-drop a w i 0)) in
     rw (s .long, same)

@@ -23,6 +23,7 @@ use Rattle.frame.specs.Edges.{edgesIn}
 use Rattle.frame.specs.Ops.{opened, valued, closed}
 use Rattle.verdict.specs.declared.Verdict.{Verdict}
 use Rattle.verdict.specs.declared.Verdict.the-variants as Is
+use Rattle.progress.specs.declared.Progress.{Progress}
 use Rattle.reader.specs.declared.Reader.{Reader}
 use Rattle.reader.specs.declared.Refusal.{Refusal}
 use Rattle.reader.specs.declared.Answer.{Answer}
@@ -76,16 +77,13 @@ kindSoFar N.E = K.Num
 kindSoFar N.Sign = K.Num
 kindSoFar N.Exp = K.Num
 
--- the reader in another mode
+-- what is known of a record, and a reader, in another mode
+abbrev pub atMode : Mode → Progress → Progress
+atMode m x =
+    record { mode = m; fault = x .fault; head = x .head; level = x .level; pos = x .pos; place = x .place; bits = x .bits; high = x .high; len = x .len }
+
 abbrev pub inMode : Mode → Reader → Reader
-inMode m r =
-    record {
-      frames = r .frames;
-      progress = record { mode = m; fault = r .progress .fault; head = r .progress .head; level = r .progress .level; pos = r .progress .pos; place = r .progress .place; bits = r .progress .bits; high = r .progress .high; len = r .progress .len };
-      root = r .root;
-      key = r .key;
-      tally = r .tally;
-    }
+inMode m r = record { frames = r .frames; progress = atMode m (r .progress); root = r .root; key = r .key; tally = r .tally }
 
 -- a verdict for a fault that a record has before it ends: 11, 12 or 13; or for the head: 15
 abbrev pub isFaulty : Verdict → Bool
@@ -117,30 +115,23 @@ pub record ByteWrites (r : Reader) (t : Table) (w : List ℕ) (b : ℕ) (o : Out
   -- opening writes all 96 bytes of the frame of the new level, an object's at `{`, and no byte outside
   pub opens : levelOf (o .reader) ≡ levelOf r + 1
       → (frameAt (o .work) (levelOf r + 1) ≡ opened (t .forms) (eqb b 0x7B)) × Spares (Outside (levelOf r + 1)) w (o .work)
-
   -- closing finishes the closed value in its parent, whose level is the open one then; it writes only there, and for the root nowhere
   pub closes : inNumber (modeOf r) ≡ false → eqb b 0x1E ≡ false → levelOf r ≡ levelOf (o .reader) + 1
       → (o .work ≡ withValue t w (levelOf (o .reader)) (Done.Rules (rulesOf t w (levelOf r)))) × Spares (Outside (levelOf (o .reader))) w (o .work)
   pub closes-root : inNumber (modeOf r) ≡ false → levelOf r ≡ 1 → levelOf (o .reader) ≡ 0 → o .work ≡ w
-
   -- a byte other than RS that ends a number finishes it before its own effect: its outcome is that of the byte after a finished value, in the buffer where
   -- the number is finished
   pub ends-number : (n : NumberMode) → modeOf r ≡ M.Number n → eqb b 0x1E ≡ false → inNumber (modeOf (o .reader)) ≡ false
       → o ≡ byteFed (inMode (M.At P.After) r) t (withValue t w (levelOf r) (Done.Scalar (kindSoFar n))) b
-
   -- while a number is open nothing is written
   pub in-number : inNumber (modeOf (o .reader)) ≡ true → o .work ≡ w
-
   -- a faulty byte writes nothing, even where it ends a number; nor do the bytes of the record after it, nor those of the head
   pub faulty : faultyIn (o .reader) t (o .work) ≡ true → o .work ≡ w
   pub after-fault : faultyIn r t w ≡ true → o .work ≡ w
-
   -- an RS writes nothing, even where it ends a number
   pub separator : b ≡ 0x1E → o .work ≡ w
-
   -- a byte that neither opens nor closes a value writes only in the frame of the innermost open one
   pub stays : levelOf (o .reader) ≡ levelOf r → Spares (Outside (levelOf r)) w (o .work)
-
   -- no byte writes outside the frames of the innermost open value, of its parent and of a value that it opens
   pub reaches : Spares (λ i. Outside (levelOf r) i × Outside (levelOf r - 1) i × Outside (levelOf (o .reader)) i) w (o .work)
 
@@ -161,17 +152,13 @@ pub record Lent : Type 0 where
   -- a piece does what its bytes do when they are fed one by one
   pub empty : (r : Reader) (t : Table) (w : List ℕ) → (feedOf r t w [] .reader ≡ r) × (feedOf r t w [] .work ≡ w)
   pub piece : (r : Reader) (t : Table) (w : List ℕ) (b : ℕ) (s : List ℕ) → feedOf r t w (b ∷ s) ≡ inTwo t (byteFed r t w b) s
-
   -- and this is what each byte writes
   pub byte : (r : Reader) (t : Table) (w : List ℕ) (b : ℕ) → ByteWrites r t w b (byteFed r t w b)
-
   -- bytes past the frames that were counted at start are never written
   pub past : (r : Reader) (t : Table) (w s : List ℕ) → Spares (λ i. 96 * r .frames ≤ i) w (feedOf r t w s .work)
-
   -- the frame of a level that is open neither before the piece nor after any of its bytes is not written
   pub unopened : (r : Reader) (t : Table) (w s : List ℕ) (l : ℕ) → ((p q : List ℕ) → p ++ q ≡ s → levelOf (feedOf r t w p .reader) < l)
       → frameAt (feedOf r t w s .work) l ≡ frameAt w l
-
   -- a close writes nothing, even where it ends a number, and a refused call writes nothing
   pub close : (r : Reader) (t : Table) (w : List ℕ) → closeOf r t w .work ≡ w
   pub refused : (r : Reader) (t : Table) (w s : List ℕ) (k : Refusal) → feedOf r t w s .answer ≡ Says.Refused k → feedOf r t w s .work ≡ w

@@ -1,0 +1,156 @@
+-- What a sound byte writes, by how the level moves; and that a record without a fault is not judged to have one. Assumes nothing.
+use mathlib.Core.Bool.{Bool, true, false, cond}
+use mathlib.Core.List.{List}
+use mathlib.Core.Path.{_≡_, refl, sym, ap, subst, _∙_}
+use Prim.Native.Nat.{ℕ, _+_, _-_, _≤_}
+use native.Mathlib.Omega.{arith}
+use lib.Dec.{eqb, ltb}
+use lib.ListN.{length}
+use Rattle.laws.proofs.TestLaws.{cond-elim}
+use Rattle.json.specs.Lexer.{mayEnd}
+use Rattle.json.specs.declared.lexer.Awaited.the-variants as P
+use Rattle.json.specs.declared.lexer.Mode.{Mode}
+use Rattle.json.specs.declared.lexer.Mode.the-variants as M
+use Rattle.json.specs.declared.lexer.Step.{Step}
+use Rattle.table.specs.Table.{Table}
+use Rattle.table.specs.declared.kind.Finished.the-variants as Done
+use Rattle.frame.specs.Frame.{hasFrame, frameAt, putFrame}
+use Rattle.frame.specs.Ops.{opened}
+use Rattle.frame.proofs.LevelLaws.{hasFrame-of-le, frameAt-putFrame}
+use Rattle.frame.proofs.OpenLaws.{length-opened}
+use Rattle.verdict.specs.declared.Verdict.{Verdict}
+use Rattle.verdict.specs.declared.Verdict.the-variants as Is
+use Rattle.progress.specs.declared.Fault.{Fault}
+use Rattle.progress.specs.declared.Fault.the-variants as F
+use Rattle.progress.specs.declared.Progress.{Progress}
+use Rattle.progress.specs.declared.Task.{Task}
+use Rattle.progress.specs.Progress.{wholeNumber, wholeIn, whole, verdictBy, judged}
+use Rattle.progress.specs.Memory.{topAt, perform}
+use Rattle.progress.proofs.ActLaws.{levelAfter-le}
+use Rattle.reader.specs.declared.Reader.{Reader}
+use Rattle.reader.specs.Machine.{Outcome, memoryOf, closing, closeOf}
+use Rattle.reader.specs.Refusals.{withinReader}
+use Rattle.reader.proofs.RefusalLaws.{room-of-call, through-elim}
+use Rattle.stream.specs.Lent.{Outside, Spares, withValue, rulesOf, levelOf, modeOf, inNumber, isFaulty, saysFaulty, faultyIn, byteFed}
+use Rattle.stream.proofs.LexerLaws.{Tells, tells-stepOf, ends-stepOf}
+use Rattle.stream.proofs.FedLaws.{gateOf, bounds-of-open, stepAt, movedBy, taskBy, IsSound, progress-fed, work-fed}
+use Rattle.stream.proofs.TaskLaws.{Told, told-of-act, opens-of-task, closes-of-task, beyond-of-stay}
+use Rattle.stream.proofs.SpareLaws.{spares-fewer, spares-put, spares-withValue, spares-perform, beyond-of-three}
+
+-- ---- a record without a fault, out of the head
+
+-- its verdict is none for a fault
+whole-not-faulty : (x : Progress) (root : Bool) → isFaulty (whole x root) ≡ false
+unfolding whole wholeNumber
+whole-not-faulty x root = cond-elim (λ (v : Verdict). isFaulty v ≡ false) (eqb (x .level) 0) (λ _. go (x .mode)) (λ _. refl)
+  where
+    go : (m : Mode) → isFaulty (wholeIn m (x .pos) root) ≡ false
+    go (M.At P.Value) = refl
+    go (M.At P.First) = refl
+    go (M.At P.Key) = refl
+    go (M.At P.Colon) = refl
+    go (M.At P.After) = cond-elim (λ (v : Verdict). isFaulty v ≡ false) root (λ _. refl) (λ _. refl)
+    go (M.Key s) = refl
+    go (M.Text s) = refl
+    go (M.Number n) = cond-elim (λ (v : Verdict). isFaulty v ≡ false) (mayEnd n) (λ _. refl) (λ _. refl)
+    go (M.Word v i) = refl
+
+judged-not-faulty : (x : Progress) (root : Bool) → x .head ≡ false → x .fault ≡ F.Sound → isFaulty (judged x root) ≡ false
+unfolding judged
+judged-not-faulty x root h f =
+    subst (λ (v : Bool). isFaulty (cond v Is.Head (verdictBy (x .fault) x root)) ≡ false) (sym h)
+    (subst (λ (v : Fault). isFaulty (verdictBy v x root) ≡ false) (sym f) (whole-not-faulty x root))
+
+-- so a close says none
+pub not-faulty : (r : Reader) (t : Table) (w : List ℕ) → r .progress .head ≡ false → r .progress .fault ≡ F.Sound → faultyIn r t w ≡ false
+unfolding closeOf closing
+not-faulty r t w h f =
+    through-elim (λ (o : Outcome). saysFaulty (o .answer) ≡ false) (gateOf r t w) (λ k _. refl)
+    (λ _. cond-elim (λ (o : Outcome). saysFaulty (o .answer) ≡ false) (ltb 0 (r .progress .pos)) (λ _. judged-not-faulty (r .progress) (r .root) h f) (λ _. refl))
+
+-- ---- a sound byte
+
+module _ (r : Reader) (t : Table) (w : List ℕ) (b : ℕ) (s : IsSound r t w b) where
+  abbrev o : Outcome
+  o = byteFed r t w b
+
+  abbrev step : Step
+  step = stepAt r w b
+
+  abbrev next : Progress
+  next = movedBy r b step
+
+  abbrev task : Task
+  task = taskBy r b step
+
+  level-fed : levelOf (o .reader) ≡ next .level
+  level-fed = ap (λ (x : Progress). x .level) (progress-fed r t w b s)
+
+  tells : Tells b step
+  tells = tells-stepOf b (modeOf r) (topAt w (levelOf r))
+
+  told : Told task b (levelOf r) (next .level) (step .ends)
+  told = told-of-act b (levelOf r) (r .frames) (modeOf r) (r .progress .len) _ (step .act) (step .ends) (s .first) (tells .opens)
+
+  -- there is a frame for each level that is open after it
+  pub level-le : levelOf (o .reader) ≤ r .frames
+  level-le = rw level-fed (levelAfter-le (step .act) (levelOf r) (r .frames) (bounds-of-open r t w (s .gate) .2))
+
+  frame-of-level : 1 ≤ levelOf (o .reader) → hasFrame (length w) (levelOf (o .reader)) ≡ true
+  frame-of-level h =
+      let g = bounds-of-open r t w (s .gate) in
+      hasFrame-of-le (r .frames) (length w) (levelOf (o .reader)) (g .1) (room-of-call (withinReader r) (r .frames) t (length w) (s .gate)) h level-le
+
+  -- where it opens a level, all bytes of the frame
+  opens-work : levelOf (o .reader) ≡ levelOf r + 1 → o .work ≡ putFrame w (levelOf r + 1) (opened (t .forms) (eqb b 0x7B))
+  opens-work q = work-fed r t w b s ∙ opens-of-task t (memoryOf r w) next b (step .ends) task told (sym level-fed ∙ q)
+
+  pub sound-opens : levelOf (o .reader) ≡ levelOf r + 1
+      → (frameAt (o .work) (levelOf r + 1) ≡ opened (t .forms) (eqb b 0x7B)) × Spares (Outside (levelOf r + 1)) w (o .work)
+  sound-opens q =
+      let f : List ℕ = opened (t .forms) (eqb b 0x7B) in
+      let long : length f ≡ 96 = length-opened (t .forms) (eqb b 0x7B) in
+      rw (opens-work q) (frameAt-putFrame w f (levelOf r + 1) long (rw q at (frame-of-level (omega arith))), spares-put w f (levelOf r + 1) long)
+
+  -- where it closes one, the value that it stands in
+  closes-work : inNumber (modeOf r) ≡ false → levelOf r ≡ levelOf (o .reader) + 1
+      → o .work ≡ withValue t w (levelOf (o .reader)) (Done.Rules (rulesOf t w (levelOf r)))
+  closes-work m q =
+      let below : levelOf r - 1 ≡ levelOf (o .reader) = omega arith in
+      let f : step .ends ≡ false = ends-stepOf b (modeOf r) (topAt w (levelOf r)) m in
+      work-fed r t w b s
+      ∙ closes-of-task t (memoryOf r w) next b (step .ends) task told f (q ∙ ap (λ (x : ℕ). x + 1) level-fed)
+      ∙ ap (λ (x : ℕ). withValue t w x (Done.Rules (rulesOf t w (levelOf r)))) below
+
+  pub sound-closes : inNumber (modeOf r) ≡ false → levelOf r ≡ levelOf (o .reader) + 1
+      → (o .work ≡ withValue t w (levelOf (o .reader)) (Done.Rules (rulesOf t w (levelOf r)))) × Spares (Outside (levelOf (o .reader))) w (o .work)
+  sound-closes m q =
+      let e = closes-work m q in
+      (e, subst (λ (x : List ℕ). Spares (Outside (levelOf (o .reader))) w x) (sym e) (spares-withValue t w (levelOf (o .reader)) _))
+
+  -- where a number is open after it, nothing
+  pub sound-in-number : inNumber (modeOf (o .reader)) ≡ true → o .work ≡ w
+  sound-in-number e =
+      let i : inNumber (step .mode) ≡ true = ap (λ (x : Progress). inNumber (x .mode)) (sym (progress-fed r t w b s)) ∙ e in
+      let idle = rw i at (tells .quiet) in
+      work-fed r t w b s ∙ ap (λ (x : Task). perform x t (memoryOf r w) next .work) (idle (step .ends) (modeOf r) (r .progress .len) _)
+
+  -- the record has no fault after it
+  pub sound-not-faulty : faultyIn (o .reader) t (o .work) ≡ false
+  sound-not-faulty =
+      let h : o .reader .progress .head ≡ false = ap (λ (x : Progress). x .head) (progress-fed r t w b s) ∙ s .head in
+      let f : o .reader .progress .fault ≡ F.Sound = ap (λ (x : Progress). x .fault) (progress-fed r t w b s) ∙ s .fault in
+      not-faulty (o .reader) t (o .work) h f
+
+  -- where the level stays, nothing outside its frame
+  pub sound-stays : levelOf (o .reader) ≡ levelOf r → Spares (Outside (levelOf r)) w (o .work)
+  sound-stays q =
+      rw (work-fed r t w b s)
+      (spares-fewer (λ i p. beyond-of-stay task b (levelOf r) (next .level) i (step .ends) told (sym level-fed ∙ q) p)
+      (spares-perform task t (memoryOf r w) next))
+
+  -- nothing outside the three frames
+  pub sound-reaches : Spares (λ i. Outside (levelOf r) i × Outside (levelOf r - 1) i × Outside (levelOf (o .reader)) i) w (o .work)
+  sound-reaches =
+      rw (work-fed r t w b s, level-fed)
+      (spares-fewer (λ i p. beyond-of-three task (levelOf r) (next .level) i p) (spares-perform task t (memoryOf r w) next))

@@ -1,6 +1,6 @@
 -- What feed and close write in the lent buffer, sentence by sentence: `lent` proves all of `Lent`. A byte leaves the frames as they are, or is sound:
 -- `ways-of-byte`. Assumes nothing.
-use mathlib.Core.Bool.{false}
+use mathlib.Core.Bool.{true, false}
 use mathlib.Core.List.{List, [], _∷_, _++_}
 use mathlib.Core.Logic.{inr, ⊎-elim}
 use mathlib.Core.Path.{_≡_, refl, sym, ap, subst, _∙_}
@@ -14,10 +14,8 @@ use Rattle.json.specs.declared.lexer.Awaited.the-variants as P
 use Rattle.json.specs.declared.lexer.Mode.{Mode}
 use Rattle.json.specs.declared.lexer.Mode.the-variants as M
 use Rattle.table.specs.Table.{Table}
-use Rattle.table.specs.declared.kind.Finished.{Finished}
 use Rattle.table.specs.declared.kind.Finished.the-variants as Done
-use Rattle.frame.specs.Frame.{hasFrame, frameAt}
-use Rattle.frame.proofs.LevelLaws.{putFrame-none}
+use Rattle.frame.specs.Frame.{frameAt}
 use Rattle.progress.specs.Memory.{runMem}
 use Rattle.reader.specs.declared.Reader.{Reader}
 use Rattle.reader.specs.declared.Answer.{Answer}
@@ -25,42 +23,45 @@ use Rattle.reader.specs.declared.Answer.the-variants as Says
 use Rattle.reader.specs.Machine.{Outcome, memoryOf, feeding, feedOf, closing, closeOf}
 use Rattle.reader.specs.Paper.{feed}
 use Rattle.reader.proofs.RefusalLaws.{through-elim}
-use Rattle.stream.specs.Lent.{Spares, withValue, levelOf, modeOf, inNumber, kindSoFar, inMode, byteFed, ByteWrites, thenFed, Lent}
+use Rattle.stream.specs.Lent.{Spares, withValue, levelOf, modeOf, inToken, kindSoFar, inMode, byteFed, EndsToken, ByteWrites, thenFed, Lent}
 use Rattle.stream.proofs.CallLaws.{unchanged-of-refused}
 use Rattle.stream.proofs.FedLaws.{gateOf, bounds-of-open, IsSound, Idles, ways-of-byte, fed-none, fed-in-two}
 use Rattle.stream.proofs.NumberLaws.{fed-of-number-end}
-use Rattle.stream.proofs.SoundLaws.{not-faulty, level-le, sound-opens, sound-closes, sound-in-number, sound-not-faulty, sound-stays, sound-reaches}
-use Rattle.stream.proofs.SpareLaws.{spares-all, spares-after, spares-fewer, frameAt-of-spares}
+use Rattle.stream.proofs.SoundLaws.{not-faulty, level-le, sound-opens, sound-closes, sound-between, sound-in-token, sound-ends-key, sound-ends-string, sound-ends-word, sound-not-faulty, sound-reaches}
+use Rattle.stream.proofs.SpareLaws.{spares-all, spares-after, spares-fewer, withValue-none, frameAt-of-spares}
 
 -- ---- any byte
 
--- at level 0 no value is finished
-withValue-none : (t : Table) (w : List ℕ) (l : ℕ) (v : Finished) → l ≡ 0 → withValue t w l v ≡ w
-unfolding hasFrame
-withValue-none t w l v e = sym (putFrame-none w _ l (rw e))
-
 module _ (r : Reader) (t : Table) (w : List ℕ) (b : ℕ) where
+  -- a byte that leaves the frames, and the mode but at an RS, ends no token
+  idle-ends : {X : Type 0} (m : Mode) → inToken m ≡ true → modeOf r ≡ m → Idles r w b (byteFed r t w b) → EndsToken b (byteFed r t w b) → X
+  idle-ends m k q i (e, f) = let (_, a) = i .stays e in true-neq-false (sym k ∙ sym (ap inToken (a ∙ q)) ∙ f)
+
   byte-of-idle : Idles r w b (byteFed r t w b) → ByteWrites r t w b (byteFed r t w b)
   byte-of-idle i =
       record {
         opens = λ q. absurd (omega (arith, i .level));
         closes = λ m e q. let (a, _) = i .stays e in absurd (omega arith);
         closes-root = λ m q p. i .work;
-        ends-number = λ n m e f. let (_, a) = i .stays e in true-neq-false (sym (ap inNumber (a ∙ m)) ∙ f);
-        in-number = λ _. i .work;
+        between = λ m q. i .work;
+        in-token = λ _. i .work;
+        ends-key = λ v q e. idle-ends (M.Key v) refl q i e;
+        ends-string = λ v q e. idle-ends (M.Text v) refl q i e;
+        ends-word = λ v n q e. idle-ends (M.Word v n) refl q i e;
+        ends-number = λ n q e. idle-ends (M.Number n) refl q i e;
         faulty = λ _. i .work;
         after-fault = λ _. i .work;
         separator = λ _. i .work;
-        stays = λ _. spares-all _ w _ (i .work);
         reaches = spares-all _ w _ (i .work);
       }
 
-  sound-ends-number : IsSound r t w b → (n : NumberMode) → modeOf r ≡ M.Number n → inNumber (modeOf (byteFed r t w b .reader)) ≡ false
+  sound-ends-number : IsSound r t w b → (n : NumberMode) → modeOf r ≡ M.Number n → inToken (modeOf (byteFed r t w b .reader)) ≡ false
       → byteFed r t w b ≡ byteFed (inMode (M.At P.After) r) t (withValue t w (levelOf r) (Done.Scalar (kindSoFar n))) b
   sound-ends-number s n m f =
       let q : r ≡ inMode (M.Number n) r = ap (λ (x : Mode). inMode x r) m in
+      let c : IsSound (inMode (M.Number n) r) t w b = subst (λ (x : Reader). IsSound x t w b) q s in
       ap (λ (x : Reader). byteFed x t w b) q
-      ∙ fed-of-number-end r t w b n (subst (λ (x : Reader). IsSound x t w b) q s) (subst (λ (x : Reader). inNumber (modeOf (byteFed x t w b .reader)) ≡ false) q f)
+      ∙ fed-of-number-end r t w b n c (subst (λ (x : Reader). inToken (modeOf (byteFed x t w b .reader)) ≡ false) q f)
 
   byte-of-sound : IsSound r t w b → ByteWrites r t w b (byteFed r t w b)
   byte-of-sound s =
@@ -68,12 +69,15 @@ module _ (r : Reader) (t : Table) (w : List ℕ) (b : ℕ) where
         opens = sound-opens r t w b s;
         closes = λ m _ q. sound-closes r t w b s m q;
         closes-root = λ m q p. sound-closes r t w b s m (omega arith) .0 ∙ withValue-none t w (levelOf (byteFed r t w b .reader)) _ p;
-        ends-number = λ n m _ f. sound-ends-number s n m f;
-        in-number = sound-in-number r t w b s;
+        between = sound-between r t w b s;
+        in-token = sound-in-token r t w b s;
+        ends-key = λ v m e. sound-ends-key r t w b s (e .1) v m;
+        ends-string = λ v m e. sound-ends-string r t w b s (e .1) v m;
+        ends-word = λ v i m e. sound-ends-word r t w b s (e .1) v i m;
+        ends-number = λ n m e. sound-ends-number s n m (e .1);
         faulty = λ f. true-neq-false (sym f ∙ sound-not-faulty r t w b s);
         after-fault = λ f. true-neq-false (sym f ∙ not-faulty r t w (s .head) (s .fault));
         separator = λ q. true-neq-false (sym (eq-eqb b 0x1E q) ∙ s .byte);
-        stays = sound-stays r t w b s;
         reaches = sound-reaches r t w b s;
       }
 
@@ -119,11 +123,17 @@ piece-past t n (b ∷ s) r w e =
     (spares-of-two _ w (o .answer) o (feedOf (o .reader) t (o .work) s) (spares-fewer (λ i h. omega arith) (byte-past r t w b))
     (piece-past t n s (o .reader) (o .work) (frames-fed r t w (b ∷ []) ∙ e)))
 
-piece-unopened : (t : Table) (l : ℕ) (s : List ℕ) (r : Reader) (w : List ℕ) → ((p q : List ℕ) → p ++ q ≡ s → levelOf (feedOf r t w p .reader) < l)
-    → frameAt (feedOf r t w s .work) l ≡ frameAt w l
+-- level l is open neither before the piece nor after any of its bytes, and its frame is not written
+abbrev Below : Table → ℕ → List ℕ → Reader → List ℕ → Type 0
+Below t l s r w = (p q : List ℕ) → p ++ q ≡ s → levelOf (feedOf r t w p .reader) < l
+
+abbrev Unwritten : Table → ℕ → List ℕ → Reader → List ℕ → Type 0
+Unwritten t l s r w = Below t l s r w → frameAt (feedOf r t w s .work) l ≡ frameAt w l
+
+piece-unopened : (t : Table) (l : ℕ) (s : List ℕ) (r : Reader) (w : List ℕ) → Unwritten t l s r w
 piece-unopened t l [] r w all = ap (λ (v : List ℕ). frameAt v l) (fed-none r t w .1)
 piece-unopened t l (b ∷ s) r w all =
-    rw (fed-in-two r t w b s) (go (o .answer) refl (λ a. piece-unopened t l s (o .reader) (o .work) a))
+    rw (fed-in-two r t w b s) (go (o .answer) refl (piece-unopened t l s (o .reader) (o .work)))
   where
     o : Outcome
     o = byteFed r t w b
@@ -131,8 +141,7 @@ piece-unopened t l (b ∷ s) r w all =
     first : frameAt (o .work) l ≡ frameAt w l
     first = byte-unopened r t w b l (rw (fed-none r t w .0) at (all [] (b ∷ s) refl)) (all (b ∷ []) s refl)
 
-    go : (a : Answer) → o .answer ≡ a
-        → (((p q : List ℕ) → p ++ q ≡ s → levelOf (feedOf (o .reader) t (o .work) p .reader) < l) → frameAt (feedOf (o .reader) t (o .work) s .work) l ≡ frameAt (o .work) l)
+    go : (a : Answer) → o .answer ≡ a → Unwritten t l s (o .reader) (o .work)
         → frameAt (thenFed a o (feedOf (o .reader) t (o .work) s) .work) l ≡ frameAt w l
     go Says.Quiet e rest =
         rest (λ p q h. rw (fed-in-two r t w b p, e) at (all (b ∷ p) q (ap (λ (x : List ℕ). b ∷ x) h))) ∙ first

@@ -1,14 +1,15 @@
--- What the steps of the lexer tell of their bytes: which byte opens what, that only a byte after a number ends one, and that none that leaves a
--- number open has anything to be done. Assumes nothing.
+-- What the steps of the lexer tell of their bytes: which byte opens what, that a byte that leaves a token open leaves the buffer, and which step ends a
+-- token. Assumes nothing.
 use mathlib.Core.Bool.{Bool, true, false}
 use mathlib.Core.Path.{_≡_, refl}
 use Prim.Native.Nat.{ℕ}
-use lib.Dec.{T, eqb}
+use native.Mathlib.Omega.{arith}
+use lib.Dec.{T, eqb, ltb}
 use borrow.Author.Tests.{eqb-true}
 use Rattle.laws.proofs.TestLaws.{cond-elim, true-of-T, true-neq-false}
 use Rattle.json.specs.Bytes.{isBlank}
 use Rattle.json.specs.Numbers.{isDigit1-9}
-use Rattle.json.specs.Lexer.{stringMove, numberMove, wordMove, valueStart, atValue, atFirstElement, atFirstKey, atKey, atColon, afterRoot, afterElement, afterPair, afterValue, placeStep, keyStep, textStep, numberStep, wordStep, stepOf, stepTo, faultStep, stay}
+use Rattle.json.specs.Lexer.{stringMove, numberMove, wordMove, valueStart, atValue, atFirstElement, atFirstKey, atKey, atColon, afterRoot, afterElement, afterPair, afterValue, placeStep, keyStep, textStep, numberStep, wordStep, stepOf, stepTo, faultStep, endedBefore, stay}
 use Rattle.json.specs.declared.string.StringMode.the-variants as S
 use Rattle.json.specs.declared.string.StringMove.{StringMove}
 use Rattle.json.specs.declared.string.StringMove.the-variants as SM
@@ -29,9 +30,13 @@ use Rattle.json.specs.declared.lexer.Top.the-variants as Top
 use Rattle.json.specs.declared.lexer.Act.{Act}
 use Rattle.json.specs.declared.lexer.Act.the-variants as A
 use Rattle.json.specs.declared.lexer.Step.{Step}
-use Rattle.progress.specs.declared.Task.the-variants as To
-use Rattle.progress.specs.Act.{taskOf}
-use Rattle.stream.specs.Lent.{inNumber}
+use Rattle.table.specs.Table.{Table}
+use Rattle.progress.specs.declared.Fault.the-variants as F
+use Rattle.progress.specs.declared.Progress.{Progress}
+use Rattle.progress.specs.declared.Task.{Task}
+use Rattle.progress.specs.Act.{firstFault, keyTask, taskOf}
+use Rattle.progress.specs.Memory.{Mem, perform}
+use Rattle.stream.specs.Lent.{inToken}
 
 -- ---- what a step tells
 
@@ -52,57 +57,91 @@ OpensBy A.NumberStart b = Unit {0}
 OpensBy A.NumberByte b = Unit {0}
 OpensBy (A.WordEnd w) b = Unit {0}
 
--- nothing is to be done at an act that leaves a number open
-abbrev pub QuietIn : Bool → Act → Type 0
-QuietIn true a = (e : Bool) (m : Mode) (len c : ℕ) → taskOf a e m len c ≡ To.Idle
-QuietIn false a = Unit {0}
+-- a step that leaves a token open leaves the buffer
+abbrev pub LeavesIn : Bool → Step → Type 0
+LeavesIn true st = (m : Mode) (len c : ℕ) (t : Table) (x : Mem) (y : Progress) → perform (taskOf (st .act) (st .ends) m len c) t x y .work ≡ x .work
+LeavesIn false st = Unit {0}
+
+-- an act that finishes no key, string or word
+abbrev pub Between : Act → Type 0
+Between A.Fault = Unit {0}
+Between A.Pass = Unit {0}
+Between A.OpenArray = Unit {0}
+Between A.OpenObject = Unit {0}
+Between A.Close = Unit {0}
+Between A.KeyStart = Unit {0}
+Between A.KeyChar = Unit {0}
+Between A.KeyEnd = ⊥
+Between A.TextStart = Unit {0}
+Between A.TextChar = Unit {0}
+Between A.TextEnd = ⊥
+Between A.NumberStart = Unit {0}
+Between A.NumberByte = Unit {0}
+Between (A.WordEnd v) = ⊥
 
 pub record Tells (b : ℕ) (st : Step) : Type 0 where
   pub opens : OpensBy (st .act) b
-  pub quiet : QuietIn (inNumber (st .mode)) (st .act)
+  pub leaves : LeavesIn (inToken (st .mode)) st
 
--- and it ends no number
-record Plain (b : ℕ) (st : Step) : Type 0 where
-  tells : Tells b st
-  ends : st .ends ≡ false
+-- between tokens it ends none
+pub record Placed (b : ℕ) (st : Step) : Type 0 where
+  pub tells : Tells b st
+  pub ends : st .ends ≡ false
+  pub between : Between (st .act)
 
 -- ---- each step
 
+-- a character of a key leaves the buffer
+put-leaves : (len c : ℕ) (t : Table) (x : Mem) (y : Progress) → perform (keyTask len c) t x y .work ≡ x .work
+unfolding keyTask
+put-leaves len c t x y =
+    let P : Task → Type 0 = λ k. perform k t x y .work ≡ x .work in
+    cond-elim P (ltb len 32) (λ _. cond-elim P (ltb c 128) (λ _. refl) (λ _. refl)) (λ _. refl)
+
 module _ (b : ℕ) where
-  plain-fault : Plain b faultStep
-  plain-fault = record { tells = record { opens = tt; quiet = tt }; ends = refl }
+  placed-fault : Placed b faultStep
+  placed-fault = record { tells = record { opens = tt; leaves = tt }; ends = refl; between = tt }
 
-  plain-stay : (p : Awaited) → Plain b (stay p)
-  plain-stay p = record { tells = record { opens = tt; quiet = tt }; ends = refl }
+  placed-stay : (p : Awaited) → Placed b (stay p)
+  placed-stay p = record { tells = record { opens = tt; leaves = tt }; ends = refl; between = tt }
 
-  plain-close : Plain b (stepTo (M.At P.After) A.Close)
-  plain-close = record { tells = record { opens = tt; quiet = tt }; ends = refl }
+  placed-close : Placed b (stepTo (M.At P.After) A.Close)
+  placed-close = record { tells = record { opens = tt; leaves = tt }; ends = refl; between = tt }
 
-  plain-key : Plain b (stepTo (M.Key S.Char) A.KeyStart)
-  plain-key = record { tells = record { opens = tt; quiet = tt }; ends = refl }
+  placed-key : Placed b (stepTo (M.Key S.Char) A.KeyStart)
+  placed-key = record { tells = record { opens = tt; leaves = λ m len c t x y. refl }; ends = refl; between = tt }
 
-  plain-number : (n : NumberMode) → Plain b (stepTo (M.Number n) A.NumberStart)
-  plain-number n = record { tells = record { opens = tt; quiet = λ e m len c. refl }; ends = refl }
+  placed-text : Placed b (stepTo (M.Text S.Char) A.TextStart)
+  placed-text = record { tells = record { opens = tt; leaves = λ m len c t x y. refl }; ends = refl; between = tt }
 
-  plain-word : (v : Word) → Plain b (stepTo (M.Word v 1) A.Pass)
-  plain-word v = record { tells = record { opens = tt; quiet = tt }; ends = refl }
+  placed-number : (n : NumberMode) → Placed b (stepTo (M.Number n) A.NumberStart)
+  placed-number n = record { tells = record { opens = tt; leaves = λ m len c t x y. refl }; ends = refl; between = tt }
+
+  placed-word : (v : Word) → Placed b (stepTo (M.Word v 1) A.Pass)
+  placed-word v = record { tells = record { opens = tt; leaves = λ m len c t x y. refl }; ends = refl; between = tt }
 
   not-brace : T (eqb b 0x5B) → eqb b 0x7B ≡ false
   not-brace h = rw (eqb-true b 0x5B (true-of-T (eqb b 0x5B) h))
 
-  plain-valueStart : Plain b (valueStart b)
+  placed-array : T (eqb b 0x5B) → Placed b (stepTo (M.At P.First) A.OpenArray)
+  placed-array h = record { tells = record { opens = not-brace h; leaves = tt }; ends = refl; between = tt }
+
+  placed-object : T (eqb b 0x7B) → Placed b (stepTo (M.At P.First) A.OpenObject)
+  placed-object h = record { tells = record { opens = true-of-T (eqb b 0x7B) h; leaves = tt }; ends = refl; between = tt }
+
+  placed-valueStart : Placed b (valueStart b)
   unfolding valueStart
-  plain-valueStart =
-      let Q : Step → Type 0 = Plain b in
-      cond-elim Q (eqb b 0x22) (λ _. record { tells = record { opens = tt; quiet = tt }; ends = refl }) (λ _.
-      cond-elim Q (eqb b 0x5B) (λ h. record { tells = record { opens = not-brace h; quiet = tt }; ends = refl }) (λ _.
-      cond-elim Q (eqb b 0x7B) (λ h. record { tells = record { opens = true-of-T (eqb b 0x7B) h; quiet = tt }; ends = refl }) (λ _.
-      cond-elim Q (isDigit1-9 b) (λ _. plain-number N.Int) (λ _.
-      cond-elim Q (eqb b 0x30) (λ _. plain-number N.Zero) (λ _.
-      cond-elim Q (eqb b 0x2D) (λ _. plain-number N.Minus) (λ _.
-      cond-elim Q (eqb b 0x6E) (λ _. plain-word W.Null) (λ _.
-      cond-elim Q (eqb b 0x74) (λ _. plain-word W.True) (λ _.
-      cond-elim Q (eqb b 0x66) (λ _. plain-word W.False) (λ _. plain-fault)))))))))
+  placed-valueStart =
+      let Q : Step → Type 0 = Placed b in
+      cond-elim Q (eqb b 0x22) (λ _. placed-text) (λ _.
+      cond-elim Q (eqb b 0x5B) placed-array (λ _.
+      cond-elim Q (eqb b 0x7B) placed-object (λ _.
+      cond-elim Q (isDigit1-9 b) (λ _. placed-number N.Int) (λ _.
+      cond-elim Q (eqb b 0x30) (λ _. placed-number N.Zero) (λ _.
+      cond-elim Q (eqb b 0x2D) (λ _. placed-number N.Minus) (λ _.
+      cond-elim Q (eqb b 0x6E) (λ _. placed-word W.Null) (λ _.
+      cond-elim Q (eqb b 0x74) (λ _. placed-word W.True) (λ _.
+      cond-elim Q (eqb b 0x66) (λ _. placed-word W.False) (λ _. placed-fault)))))))))
 
   -- a byte after a value is faulty, goes on, or closes: a claim about each such step is one about the step that comes
   pub afterValue-elim : (Q : Step → Type 0) (top : Top) → Q faultStep → ((p : Awaited) → Q (stay p)) → Q (stepTo (M.At P.After) A.Close)
@@ -110,70 +149,108 @@ module _ (b : ℕ) where
   unfolding afterRoot afterElement afterPair
   afterValue-elim Q Top.Bare fault on close = cond-elim Q (isBlank b) (λ _. on P.After) (λ _. fault)
   afterValue-elim Q Top.Array fault on close =
-      cond-elim Q (isBlank b) (λ _. on P.After) (λ _. cond-elim Q (eqb b 0x2C) (λ _. on P.Value) (λ _. cond-elim Q (eqb b 0x5D) (λ _. close) (λ _. fault)))
+      cond-elim Q (isBlank b) (λ _. on P.After) (λ _.
+      cond-elim Q (eqb b 0x2C) (λ _. on P.Value) (λ _. cond-elim Q (eqb b 0x5D) (λ _. close) (λ _. fault)))
   afterValue-elim Q Top.Object fault on close =
-      cond-elim Q (isBlank b) (λ _. on P.After) (λ _. cond-elim Q (eqb b 0x2C) (λ _. on P.Key) (λ _. cond-elim Q (eqb b 0x7D) (λ _. close) (λ _. fault)))
+      cond-elim Q (isBlank b) (λ _. on P.After) (λ _.
+      cond-elim Q (eqb b 0x2C) (λ _. on P.Key) (λ _. cond-elim Q (eqb b 0x7D) (λ _. close) (λ _. fault)))
 
-  plain-afterValue : (top : Top) → Plain b (afterValue top b)
-  plain-afterValue top = afterValue-elim (Plain b) top plain-fault plain-stay plain-close
+  placed-afterValue : (top : Top) → Placed b (afterValue top b)
+  placed-afterValue top = afterValue-elim (Placed b) top placed-fault placed-stay placed-close
 
-  plain-firstElement : Plain b (atFirstElement b)
+  placed-firstElement : Placed b (atFirstElement b)
   unfolding atFirstElement
-  plain-firstElement =
-      cond-elim (Plain b) (isBlank b) (λ _. plain-stay P.First) (λ _. cond-elim (Plain b) (eqb b 0x5D) (λ _. plain-close) (λ _. plain-valueStart))
+  placed-firstElement =
+      cond-elim (Placed b) (isBlank b) (λ _. placed-stay P.First) (λ _. cond-elim (Placed b) (eqb b 0x5D) (λ _. placed-close) (λ _. placed-valueStart))
 
-  plain-firstKey : Plain b (atFirstKey b)
+  placed-firstKey : Placed b (atFirstKey b)
   unfolding atFirstKey
-  plain-firstKey =
-      cond-elim (Plain b) (isBlank b) (λ _. plain-stay P.First) (λ _.
-      cond-elim (Plain b) (eqb b 0x7D) (λ _. plain-close) (λ _. cond-elim (Plain b) (eqb b 0x22) (λ _. plain-key) (λ _. plain-fault)))
+  placed-firstKey =
+      cond-elim (Placed b) (isBlank b) (λ _. placed-stay P.First) (λ _.
+      cond-elim (Placed b) (eqb b 0x7D) (λ _. placed-close) (λ _. cond-elim (Placed b) (eqb b 0x22) (λ _. placed-key) (λ _. placed-fault)))
 
-  plain-placeStep : (p : Awaited) (top : Top) → Plain b (placeStep p top b)
+  placed-placeStep : (p : Awaited) (top : Top) → Placed b (placeStep p top b)
   unfolding atValue atKey atColon
-  plain-placeStep P.Value top = cond-elim (Plain b) (isBlank b) (λ _. plain-stay P.Value) (λ _. plain-valueStart)
-  plain-placeStep P.First Top.Bare = plain-firstElement
-  plain-placeStep P.First Top.Array = plain-firstElement
-  plain-placeStep P.First Top.Object = plain-firstKey
-  plain-placeStep P.Key top =
-      cond-elim (Plain b) (isBlank b) (λ _. plain-stay P.Key) (λ _. cond-elim (Plain b) (eqb b 0x22) (λ _. plain-key) (λ _. plain-fault))
-  plain-placeStep P.Colon top =
-      cond-elim (Plain b) (isBlank b) (λ _. plain-stay P.Colon) (λ _. cond-elim (Plain b) (eqb b 0x3A) (λ _. plain-stay P.Value) (λ _. plain-fault))
-  plain-placeStep P.After top = plain-afterValue top
+  placed-placeStep P.Value top = cond-elim (Placed b) (isBlank b) (λ _. placed-stay P.Value) (λ _. placed-valueStart)
+  placed-placeStep P.First Top.Bare = placed-firstElement
+  placed-placeStep P.First Top.Array = placed-firstElement
+  placed-placeStep P.First Top.Object = placed-firstKey
+  placed-placeStep P.Key top =
+      cond-elim (Placed b) (isBlank b) (λ _. placed-stay P.Key) (λ _. cond-elim (Placed b) (eqb b 0x22) (λ _. placed-key) (λ _. placed-fault))
+  placed-placeStep P.Colon top =
+      cond-elim (Placed b) (isBlank b) (λ _. placed-stay P.Colon) (λ _. cond-elim (Placed b) (eqb b 0x3A) (λ _. placed-stay P.Value) (λ _. placed-fault))
+  placed-placeStep P.After top = placed-afterValue top
 
-  plain-keyStep : (k : StringMove) → Plain b (keyStep k)
-  plain-keyStep SM.Fault = plain-fault
-  plain-keyStep (SM.Go s) = record { tells = record { opens = tt; quiet = tt }; ends = refl }
-  plain-keyStep SM.Char = record { tells = record { opens = tt; quiet = tt }; ends = refl }
-  plain-keyStep SM.Close = record { tells = record { opens = tt; quiet = tt }; ends = refl }
+  -- a step inside a token
+  tells-keyStep : (k : StringMove) → Tells b (keyStep k)
+  unfolding keyTask
+  tells-keyStep SM.Fault = placed-fault .tells
+  tells-keyStep (SM.Go s) = record { opens = tt; leaves = λ m len c t x y. refl }
+  tells-keyStep SM.Char = record { opens = tt; leaves = λ m len c t x y. put-leaves len c t x y }
+  tells-keyStep SM.Close = record { opens = tt; leaves = tt }
 
-  plain-textStep : (k : StringMove) → Plain b (textStep k)
-  plain-textStep SM.Fault = plain-fault
-  plain-textStep (SM.Go s) = record { tells = record { opens = tt; quiet = tt }; ends = refl }
-  plain-textStep SM.Char = record { tells = record { opens = tt; quiet = tt }; ends = refl }
-  plain-textStep SM.Close = record { tells = record { opens = tt; quiet = tt }; ends = refl }
+  tells-textStep : (k : StringMove) → Tells b (textStep k)
+  tells-textStep SM.Fault = placed-fault .tells
+  tells-textStep (SM.Go s) = record { opens = tt; leaves = λ m len c t x y. refl }
+  tells-textStep SM.Char = record { opens = tt; leaves = λ m len c t x y. refl }
+  tells-textStep SM.Close = record { opens = tt; leaves = tt }
 
-  plain-wordStep : (k : WordMove) (v : Word) (i : ℕ) → Plain b (wordStep k v i)
-  plain-wordStep WM.Fault v i = plain-fault
-  plain-wordStep WM.Go v i = record { tells = record { opens = tt; quiet = tt }; ends = refl }
-  plain-wordStep WM.End v i = record { tells = record { opens = tt; quiet = tt }; ends = refl }
+  tells-wordStep : (k : WordMove) (v : Word) (i : ℕ) → Tells b (wordStep k v i)
+  tells-wordStep WM.Fault v i = placed-fault .tells
+  tells-wordStep WM.Go v i = record { opens = tt; leaves = λ m len c t x y. refl }
+  tells-wordStep WM.End v i = record { opens = tt; leaves = tt }
+
+  -- a byte that ends a number leaves no token open
+  tells-ended : (top : Top) → Tells b (endedBefore (afterValue top b))
+  tells-ended top =
+      afterValue-elim (λ (st : Step). Tells b (endedBefore st)) top (record { opens = tt; leaves = tt }) (λ p. record { opens = tt; leaves = tt })
+      (record { opens = tt; leaves = tt })
 
   tells-numberStep : (k : NumberMove) (top : Top) → Tells b (numberStep k top b)
-  tells-numberStep NM.Fault top = plain-fault .tells
-  tells-numberStep (NM.Go n) top = record { opens = tt; quiet = λ e m len c. refl }
-  tells-numberStep NM.End top = record { opens = plain-afterValue top .tells .opens; quiet = plain-afterValue top .tells .quiet }
+  tells-numberStep NM.Fault top = placed-fault .tells
+  tells-numberStep (NM.Go n) top = record { opens = tt; leaves = λ m len c t x y. refl }
+  tells-numberStep NM.End top = tells-ended top
 
   -- a byte in any mode
   pub tells-stepOf : (m : Mode) (top : Top) → Tells b (stepOf m top b)
-  tells-stepOf (M.At p) top = plain-placeStep p top .tells
-  tells-stepOf (M.Key s) top = plain-keyStep (stringMove s b) .tells
-  tells-stepOf (M.Text s) top = plain-textStep (stringMove s b) .tells
+  tells-stepOf (M.At p) top = placed-placeStep p top .tells
+  tells-stepOf (M.Key s) top = tells-keyStep (stringMove s b)
+  tells-stepOf (M.Text s) top = tells-textStep (stringMove s b)
   tells-stepOf (M.Number n) top = tells-numberStep (numberMove n b) top
-  tells-stepOf (M.Word v i) top = plain-wordStep (wordMove v i b) v i .tells
+  tells-stepOf (M.Word v i) top = tells-wordStep (wordMove v i b) v i
 
-  -- where no number is open, it ends none
-  pub ends-stepOf : (m : Mode) (top : Top) → inNumber m ≡ false → stepOf m top b .ends ≡ false
-  ends-stepOf (M.At p) top e = plain-placeStep p top .ends
-  ends-stepOf (M.Key s) top e = plain-keyStep (stringMove s b) .ends
-  ends-stepOf (M.Text s) top e = plain-textStep (stringMove s b) .ends
-  ends-stepOf (M.Number n) top e = true-neq-false e
-  ends-stepOf (M.Word v i) top e = plain-wordStep (wordMove v i b) v i .ends
+  -- a byte between tokens
+  pub placed-stepOf : (m : Mode) (top : Top) → inToken m ≡ false → Placed b (stepOf m top b)
+  placed-stepOf (M.At p) top e = placed-placeStep p top
+  placed-stepOf (M.Key s) top e = true-neq-false e
+  placed-stepOf (M.Text s) top e = true-neq-false e
+  placed-stepOf (M.Number n) top e = true-neq-false e
+  placed-stepOf (M.Word v i) top e = true-neq-false e
+
+-- ---- a step without a fault that leaves no token open has ended the one that was
+
+pub key-ended : (k : StringMove) (l n : ℕ) → firstFault (keyStep k .act) l n ≡ F.Sound → inToken (keyStep k .mode) ≡ false
+    → keyStep k ≡ stepTo (M.At P.Colon) A.KeyEnd
+key-ended SM.Fault l n f e = let z : _≡_ {A = ℕ} 0 1 = cc in absurd (omega arith)
+key-ended (SM.Go s) l n f e = true-neq-false e
+key-ended SM.Char l n f e = true-neq-false e
+key-ended SM.Close l n f e = refl
+
+pub text-ended : (k : StringMove) (l n : ℕ) → firstFault (textStep k .act) l n ≡ F.Sound → inToken (textStep k .mode) ≡ false
+    → textStep k ≡ stepTo (M.At P.After) A.TextEnd
+text-ended SM.Fault l n f e = let z : _≡_ {A = ℕ} 0 1 = cc in absurd (omega arith)
+text-ended (SM.Go s) l n f e = true-neq-false e
+text-ended SM.Char l n f e = true-neq-false e
+text-ended SM.Close l n f e = refl
+
+pub word-ended : (k : WordMove) (v : Word) (i l n : ℕ) → firstFault (wordStep k v i .act) l n ≡ F.Sound → inToken (wordStep k v i .mode) ≡ false
+    → wordStep k v i ≡ stepTo (M.At P.After) (A.WordEnd v)
+word-ended WM.Fault v i l n f e = let z : _≡_ {A = ℕ} 0 1 = cc in absurd (omega arith)
+word-ended WM.Go v i l n f e = true-neq-false e
+word-ended WM.End v i l n f e = refl
+
+pub number-ended : (k : NumberMove) (top : Top) (b l n : ℕ) → firstFault (numberStep k top b .act) l n ≡ F.Sound
+    → inToken (numberStep k top b .mode) ≡ false → k ≡ NM.End
+number-ended NM.Fault top b l n f e = let z : _≡_ {A = ℕ} 0 1 = cc in absurd (omega arith)
+number-ended (NM.Go m) top b l n f e = true-neq-false e
+number-ended NM.End top b l n f e = refl

@@ -4,7 +4,6 @@ use mathlib.Core.List.{List}
 use mathlib.Core.Path.{_≡_, refl, sym, ap, _∙_}
 use Prim.Native.Nat.{ℕ}
 use native.Mathlib.Omega.{arith}
-use Rattle.laws.proofs.TestLaws.{true-neq-false}
 use Rattle.json.specs.Lexer.{numberMove, numberStep, endedBefore, afterValue}
 use Rattle.json.specs.declared.number.NumberMode.{NumberMode}
 use Rattle.json.specs.declared.number.NumberMode.the-variants as N
@@ -28,8 +27,8 @@ use Rattle.progress.specs.Act.{firstFault, numberKind}
 use Rattle.progress.specs.Memory.{topAt, valueAt, closeAt}
 use Rattle.progress.proofs.MemoryLaws.{worked-elim, keeps-valued}
 use Rattle.reader.specs.declared.Reader.{Reader}
-use Rattle.stream.specs.Lent.{withValue, levelOf, modeOf, inNumber, kindSoFar, inMode, byteFed}
-use Rattle.stream.proofs.LexerLaws.{afterValue-elim}
+use Rattle.stream.specs.Lent.{withValue, levelOf, modeOf, inToken, kindSoFar, inMode, byteFed}
+use Rattle.stream.proofs.LexerLaws.{afterValue-elim, number-ended}
 use Rattle.stream.proofs.FedLaws.{stepAt, done, IsSound, fed-of-sound, progress-fed}
 use Rattle.stream.proofs.SpareLaws.{spares-withValue}
 
@@ -55,13 +54,6 @@ topAt-withValue t w l v =
       isObject-valued (edgesIn t) (t .«edge_kind») (t .forms) v (frameAt w l) (length-frameAt w l e),
     ))
 
--- a step that brings no fault and leaves no number open has ended it
-ended-of-step : (k : NumberMove) (top : Top) (b l n : ℕ) → firstFault (numberStep k top b .act) l n ≡ F.Sound → inNumber (numberStep k top b .mode) ≡ false
-    → k ≡ NM.End
-ended-of-step NM.Fault top b l n f e = let z : _≡_ {A = ℕ} 0 1 = cc in absurd (omega arith)
-ended-of-step (NM.Go m) top b l n f e = true-neq-false e
-ended-of-step NM.End top b l n f e = refl
-
 module _ (r : Reader) (t : Table) (w : List ℕ) (b : ℕ) (n : NumberMode) where
   -- the reader in the number and after it, and the buffer where it is finished
   abbrev inside : Reader
@@ -81,11 +73,11 @@ module _ (r : Reader) (t : Table) (w : List ℕ) (b : ℕ) (n : NumberMode) wher
   unfolding Alike closeAt valueAt
   alike-afterValue top = afterValue-elim b Alike top (λ f. let z : _≡_ {A = ℕ} 0 1 = cc in absurd (omega arith)) (λ p f. refl) (λ f. refl)
 
-  module _ (s : IsSound inside t w b) (e : inNumber (modeOf (byteFed inside t w b .reader)) ≡ false) where
+  module _ (s : IsSound inside t w b) (e : inToken (modeOf (byteFed inside t w b .reader)) ≡ false) where
     ended : numberMove n b ≡ NM.End
     ended =
-        ended-of-step (numberMove n b) (topAt w (levelOf r)) b (levelOf r) (r .frames) (s .first)
-        (ap (λ (x : Progress). inNumber (x .mode)) (sym (progress-fed inside t w b s)) ∙ e)
+        number-ended (numberMove n b) (topAt w (levelOf r)) b (levelOf r) (r .frames) (s .first)
+        (ap (λ (x : Progress). inToken (x .mode)) (sym (progress-fed inside t w b s)) ∙ e)
 
     step-inside : stepAt inside w b ≡ endedBefore (afterValue (topAt w (levelOf r)) b)
     step-inside = ap (λ (k : NumberMove). numberStep k (topAt w (levelOf r)) b) ended

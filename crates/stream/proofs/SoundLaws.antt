@@ -7,12 +7,17 @@ use native.Mathlib.Omega.{arith}
 use lib.Dec.{eqb, ltb}
 use lib.ListN.{length}
 use Rattle.laws.proofs.TestLaws.{cond-elim}
-use Rattle.json.specs.Lexer.{mayEnd}
+use Rattle.json.specs.Lexer.{stringMove, wordMove, mayEnd, keyStep, textStep, wordStep, stepOf}
+use Rattle.json.specs.declared.string.StringMode.{StringMode}
+use Rattle.json.specs.declared.word.Word.{Word}
+use Rattle.json.specs.declared.word.Word.the-variants as W
 use Rattle.json.specs.declared.lexer.Awaited.the-variants as P
 use Rattle.json.specs.declared.lexer.Mode.{Mode}
 use Rattle.json.specs.declared.lexer.Mode.the-variants as M
 use Rattle.json.specs.declared.lexer.Step.{Step}
 use Rattle.table.specs.Table.{Table}
+use Rattle.table.specs.declared.kind.Scalar.{Scalar}
+use Rattle.table.specs.declared.kind.Scalar.the-variants as K
 use Rattle.table.specs.declared.kind.Finished.the-variants as Done
 use Rattle.frame.specs.Frame.{hasFrame, frameAt, putFrame}
 use Rattle.frame.specs.Ops.{opened}
@@ -25,16 +30,17 @@ use Rattle.progress.specs.declared.Fault.the-variants as F
 use Rattle.progress.specs.declared.Progress.{Progress}
 use Rattle.progress.specs.declared.Task.{Task}
 use Rattle.progress.specs.Progress.{wholeNumber, wholeIn, whole, verdictBy, judged}
-use Rattle.progress.specs.Memory.{topAt, perform}
+use Rattle.progress.specs.Memory.{topAt, valueAt, perform}
+use Rattle.progress.specs.Act.{scalarOf}
 use Rattle.progress.proofs.ActLaws.{levelAfter-le}
 use Rattle.reader.specs.declared.Reader.{Reader}
 use Rattle.reader.specs.Machine.{Outcome, memoryOf, closing, closeOf}
 use Rattle.reader.specs.Refusals.{withinReader}
 use Rattle.reader.proofs.RefusalLaws.{room-of-call, through-elim}
-use Rattle.stream.specs.Lent.{Outside, Spares, withValue, rulesOf, levelOf, modeOf, inNumber, isFaulty, saysFaulty, faultyIn, byteFed}
-use Rattle.stream.proofs.LexerLaws.{Tells, tells-stepOf, ends-stepOf}
+use Rattle.stream.specs.Lent.{Outside, Spares, withValue, withKey, rulesOf, levelOf, modeOf, inToken, wordKind, isFaulty, saysFaulty, faultyIn, byteFed}
+use Rattle.stream.proofs.LexerLaws.{Tells, tells-stepOf, placed-stepOf, key-ended, text-ended, word-ended}
 use Rattle.stream.proofs.FedLaws.{gateOf, bounds-of-open, stepAt, movedBy, taskBy, IsSound, progress-fed, work-fed}
-use Rattle.stream.proofs.TaskLaws.{Told, told-of-act, opens-of-task, closes-of-task, beyond-of-stay}
+use Rattle.stream.proofs.TaskLaws.{Told, told-of-act, noFinish-of-between, opens-of-task, closes-of-task, between-of-task}
 use Rattle.stream.proofs.SpareLaws.{spares-fewer, spares-put, spares-withValue, spares-perform, beyond-of-three}
 
 -- ---- a record without a fault, out of the head
@@ -66,9 +72,16 @@ pub not-faulty : (r : Reader) (t : Table) (w : List ℕ) → r .progress .head �
 unfolding closeOf closing
 not-faulty r t w h f =
     through-elim (λ (o : Outcome). saysFaulty (o .answer) ≡ false) (gateOf r t w) (λ k _. refl)
-    (λ _. cond-elim (λ (o : Outcome). saysFaulty (o .answer) ≡ false) (ltb 0 (r .progress .pos)) (λ _. judged-not-faulty (r .progress) (r .root) h f) (λ _. refl))
+    (λ _. cond-elim (λ (o : Outcome). saysFaulty (o .answer) ≡ false) (ltb 0 (r .progress .pos))
+    (λ _. judged-not-faulty (r .progress) (r .root) h f) (λ _. refl))
 
 -- ---- a sound byte
+
+-- the kind of a word
+wordKind-is : (v : Word) → wordKind v ≡ scalarOf v
+wordKind-is W.Null = refl
+wordKind-is W.True = refl
+wordKind-is W.False = refl
 
 module _ (r : Reader) (t : Table) (w : List ℕ) (b : ℕ) (s : IsSound r t w b) where
   abbrev o : Outcome
@@ -113,27 +126,58 @@ module _ (r : Reader) (t : Table) (w : List ℕ) (b : ℕ) (s : IsSound r t w b)
       rw (opens-work q) (frameAt-putFrame w f (levelOf r + 1) long (rw q at (frame-of-level (omega arith))), spares-put w f (levelOf r + 1) long)
 
   -- where it closes one, the value that it stands in
-  closes-work : inNumber (modeOf r) ≡ false → levelOf r ≡ levelOf (o .reader) + 1
+  closes-work : inToken (modeOf r) ≡ false → levelOf r ≡ levelOf (o .reader) + 1
       → o .work ≡ withValue t w (levelOf (o .reader)) (Done.Rules (rulesOf t w (levelOf r)))
   closes-work m q =
       let below : levelOf r - 1 ≡ levelOf (o .reader) = omega arith in
-      let f : step .ends ≡ false = ends-stepOf b (modeOf r) (topAt w (levelOf r)) m in
+      let f : step .ends ≡ false = placed-stepOf b (modeOf r) (topAt w (levelOf r)) m .ends in
       work-fed r t w b s
       ∙ closes-of-task t (memoryOf r w) next b (step .ends) task told f (q ∙ ap (λ (x : ℕ). x + 1) level-fed)
       ∙ ap (λ (x : ℕ). withValue t w x (Done.Rules (rulesOf t w (levelOf r)))) below
 
-  pub sound-closes : inNumber (modeOf r) ≡ false → levelOf r ≡ levelOf (o .reader) + 1
+  pub sound-closes : inToken (modeOf r) ≡ false → levelOf r ≡ levelOf (o .reader) + 1
       → (o .work ≡ withValue t w (levelOf (o .reader)) (Done.Rules (rulesOf t w (levelOf r)))) × Spares (Outside (levelOf (o .reader))) w (o .work)
   sound-closes m q =
       let e = closes-work m q in
       (e, subst (λ (x : List ℕ). Spares (Outside (levelOf (o .reader))) w x) (sym e) (spares-withValue t w (levelOf (o .reader)) _))
 
-  -- where a number is open after it, nothing
-  pub sound-in-number : inNumber (modeOf (o .reader)) ≡ true → o .work ≡ w
-  sound-in-number e =
-      let i : inNumber (step .mode) ≡ true = ap (λ (x : Progress). inNumber (x .mode)) (sym (progress-fed r t w b s)) ∙ e in
-      let idle = rw i at (tells .quiet) in
-      work-fed r t w b s ∙ ap (λ (x : Task). perform x t (memoryOf r w) next .work) (idle (step .ends) (modeOf r) (r .progress .len) _)
+  -- where it does neither between tokens, nothing
+  pub sound-between : inToken (modeOf r) ≡ false → levelOf (o .reader) ≡ levelOf r → o .work ≡ w
+  sound-between m q =
+      let p = placed-stepOf b (modeOf r) (topAt w (levelOf r)) m in
+      let n = noFinish-of-between (step .act) (step .ends) (modeOf r) (r .progress .len) _ (p .between) (p .ends) in
+      work-fed r t w b s ∙ between-of-task t (memoryOf r w) next b (step .ends) task n told (p .ends) (sym level-fed ∙ q)
+
+  mode-fed : inToken (step .mode) ≡ inToken (modeOf (o .reader))
+  mode-fed = ap (λ (x : Progress). inToken (x .mode)) (sym (progress-fed r t w b s))
+
+  -- where a token is open after it, nothing
+  pub sound-in-token : inToken (modeOf (o .reader)) ≡ true → o .work ≡ w
+  sound-in-token e =
+      work-fed r t w b s ∙ (rw (mode-fed ∙ e) at (tells .leaves)) (modeOf r) (r .progress .len) _ t (memoryOf r w) next
+
+  -- where it ends a key, a string or a word, that is finished
+  module _ (e : inToken (modeOf (o .reader)) ≡ false) where
+    work-of-step : (st : Step) → step ≡ st → o .work ≡ perform (taskBy r b st) t (memoryOf r w) (movedBy r b st) .work
+    work-of-step st q = work-fed r t w b s ∙ ap (λ (x : Step). perform (taskBy r b x) t (memoryOf r w) (movedBy r b x) .work) q
+
+    pub sound-ends-key : (v : StringMode) → modeOf r ≡ M.Key v → o .work ≡ withKey t w (levelOf r) (r .key) (r .progress .len)
+    sound-ends-key v m =
+        let q : step ≡ keyStep (stringMove v b) = ap (λ (x : Mode). stepOf x (topAt w (levelOf r)) b) m in
+        work-of-step _ (q ∙ key-ended (stringMove v b) (levelOf r) (r .frames) (rw q at (s .first)) (rw q at (mode-fed ∙ e)))
+
+    pub sound-ends-string : (v : StringMode) → modeOf r ≡ M.Text v → o .work ≡ withValue t w (levelOf r) (Done.Scalar K.Str)
+    unfolding valueAt
+    sound-ends-string v m =
+        let q : step ≡ textStep (stringMove v b) = ap (λ (x : Mode). stepOf x (topAt w (levelOf r)) b) m in
+        work-of-step _ (q ∙ text-ended (stringMove v b) (levelOf r) (r .frames) (rw q at (s .first)) (rw q at (mode-fed ∙ e)))
+
+    pub sound-ends-word : (v : Word) (i : ℕ) → modeOf r ≡ M.Word v i → o .work ≡ withValue t w (levelOf r) (Done.Scalar (wordKind v))
+    unfolding valueAt
+    sound-ends-word v i m =
+        let q : step ≡ wordStep (wordMove v i b) v i = ap (λ (x : Mode). stepOf x (topAt w (levelOf r)) b) m in
+        work-of-step _ (q ∙ word-ended (wordMove v i b) v i (levelOf r) (r .frames) (rw q at (s .first)) (rw q at (mode-fed ∙ e)))
+        ∙ ap (λ (x : Scalar). withValue t w (levelOf r) (Done.Scalar x)) (sym (wordKind-is v))
 
   -- the record has no fault after it
   pub sound-not-faulty : faultyIn (o .reader) t (o .work) ≡ false
@@ -141,13 +185,6 @@ module _ (r : Reader) (t : Table) (w : List ℕ) (b : ℕ) (s : IsSound r t w b)
       let h : o .reader .progress .head ≡ false = ap (λ (x : Progress). x .head) (progress-fed r t w b s) ∙ s .head in
       let f : o .reader .progress .fault ≡ F.Sound = ap (λ (x : Progress). x .fault) (progress-fed r t w b s) ∙ s .fault in
       not-faulty (o .reader) t (o .work) h f
-
-  -- where the level stays, nothing outside its frame
-  pub sound-stays : levelOf (o .reader) ≡ levelOf r → Spares (Outside (levelOf r)) w (o .work)
-  sound-stays q =
-      rw (work-fed r t w b s)
-      (spares-fewer (λ i p. beyond-of-stay task b (levelOf r) (next .level) i (step .ends) told (sym level-fed ∙ q) p)
-      (spares-perform task t (memoryOf r w) next))
 
   -- nothing outside the three frames
   pub sound-reaches : Spares (λ i. Outside (levelOf r) i × Outside (levelOf r - 1) i × Outside (levelOf (o .reader)) i) w (o .work)

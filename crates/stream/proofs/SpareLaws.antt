@@ -51,7 +51,13 @@ spares-put w f l long = go (hasFrame (length w) l) refl
 
 pub spares-worked : (w : List ℕ) (l : ℕ) (op : List ℕ → List ℕ) → KeepsLength op → Spares (Outside l) w (putFrame w l (op (frameAt w l)))
 spares-worked w l op keeps =
-    worked-elim (λ (v : List ℕ). Spares (Outside l) w v) w l op keeps (spares-all (Outside l) w w refl) (λ _ long. spares-put w (op (frameAt w l)) l long)
+    worked-elim (λ (v : List ℕ). Spares (Outside l) w v) w l op keeps (spares-all (Outside l) w w refl)
+    (λ _ long. spares-put w (op (frameAt w l)) l long)
+
+-- at level 0 no value is finished
+pub withValue-none : (t : Table) (w : List ℕ) (l : ℕ) (v : Finished) → l ≡ 0 → withValue t w l v ≡ w
+unfolding hasFrame
+withValue-none t w l v e = sym (putFrame-none w _ l (rw e))
 
 pub spares-withValue : (t : Table) (w : List ℕ) (l : ℕ) (v : Finished) → Spares (Outside l) w (withValue t w l v)
 spares-withValue t w l v = spares-worked w l (valued (edgesIn t) (t .«edge_kind») (t .forms) v) (keeps-valued t v)
@@ -97,6 +103,7 @@ pub frameAt-of-spares : (P : ℕ → Type 0) (w v : List ℕ) (l : ℕ) → ((i 
 unfolding frameAt
 frameAt-of-spares P w v l all s =
     let a : ℕ = frameStart l in
-    let same : drop a v ≡ drop a w
-    = ext-getD 0 (drop a v) (drop a w) (simp (length-drop, s .long)) (λ i _. getD-drop a v i 0 ∙ s .byte (a + i) (all (a + i) (omega arith)) ∙ sym (getD-drop a w i 0)) in
+    let byte : (i : ℕ) → getD (drop a v) i 0 ≡ getD (drop a w) i 0
+    = λ i. getD-drop a v i 0 ∙ s .byte (a + i) (all (a + i) (omega arith)) ∙ sym (getD-drop a w i 0) in
+    let same : drop a v ≡ drop a w = ext-getD 0 (drop a v) (drop a w) (simp (length-drop, s .long)) (λ i _. byte i) in
     rw (s .long, same)

@@ -1,6 +1,6 @@
 -- A task tells which byte it is, how the level moves and where it writes. Assumes nothing.
 use mathlib.Core.Bool.{Bool, true, false, cond}
-use mathlib.Core.Path.{_≡_, refl, sym, subst, _∙_}
+use mathlib.Core.Path.{_≡_, refl, sym, _∙_}
 use Prim.Native.Nat.{ℕ, _+_, _-_}
 use native.Mathlib.Omega.{arith}
 use lib.Dec.{eqb, ltb}
@@ -18,9 +18,9 @@ use Rattle.progress.specs.declared.Task.{Task}
 use Rattle.progress.specs.declared.Task.the-variants as To
 use Rattle.progress.specs.Act.{openFault, openLevel, firstFault, levelAfter, keyTask, taskOf}
 use Rattle.progress.specs.Memory.{Mem, valueAt, rulesAt, closeAt, perform}
-use Rattle.stream.specs.Lent.{Outside, withValue, rulesOf}
-use Rattle.stream.proofs.LexerLaws.{OpensBy}
-use Rattle.stream.proofs.SpareLaws.{Beyond}
+use Rattle.stream.specs.Lent.{withValue, rulesOf}
+use Rattle.stream.proofs.LexerLaws.{OpensBy, Between}
+use Rattle.stream.proofs.SpareLaws.{withValue-none}
 
 -- ---- what a task tells of the byte and of the levels
 
@@ -81,8 +81,9 @@ module _ (b l n : ℕ) (m : Mode) (len c : ℕ) where
   told-of-act A.Close false f o = record { level = refl; object = tt; ends = tt }
   told-of-act A.KeyStart e f o = record { level = refl; object = tt; ends = tt }
   told-of-act A.KeyChar e f o =
-      cond-elim (λ (k : Task). Told k b l l e) (ltb len 32)
-      (λ _. cond-elim (λ (k : Task). Told k b l l e) (ltb c 128) (λ _. record { level = refl; object = tt; ends = tt }) (λ _. record { level = refl; object = tt; ends = tt }))
+      let P : Task → Type 0 = λ k. Told k b l l e in
+      cond-elim P (ltb len 32)
+      (λ _. cond-elim P (ltb c 128) (λ _. record { level = refl; object = tt; ends = tt }) (λ _. record { level = refl; object = tt; ends = tt }))
       (λ _. record { level = refl; object = tt; ends = tt })
   told-of-act A.KeyEnd e f o = record { level = refl; object = tt; ends = tt }
   told-of-act A.TextStart e f o = record { level = refl; object = tt; ends = tt }
@@ -92,6 +93,36 @@ module _ (b l n : ℕ) (m : Mode) (len c : ℕ) where
   told-of-act A.NumberByte e f o = record { level = refl; object = tt; ends = tt }
   told-of-act (A.WordEnd v) e f o = record { level = refl; object = tt; ends = tt }
 
+-- a task that finishes no key and no scalar alone
+abbrev pub NoFinish : Task → Type 0
+NoFinish To.Idle = Unit {0}
+NoFinish (To.Put c) = Unit {0}
+NoFinish To.Named = ⊥
+NoFinish (To.Open o) = Unit {0}
+NoFinish (To.Finish s) = ⊥
+NoFinish To.Close = Unit {0}
+NoFinish (To.FinishClose s) = Unit {0}
+
+pub noFinish-of-between : (a : Act) (e : Bool) (m : Mode) (len c : ℕ) → Between a → e ≡ false → NoFinish (taskOf a e m len c)
+unfolding keyTask
+noFinish-of-between A.Fault e m len c n f = tt
+noFinish-of-between A.Pass true m len c n f = true-neq-false f
+noFinish-of-between A.Pass false m len c n f = tt
+noFinish-of-between A.OpenArray e m len c n f = tt
+noFinish-of-between A.OpenObject e m len c n f = tt
+noFinish-of-between A.Close true m len c n f = tt
+noFinish-of-between A.Close false m len c n f = tt
+noFinish-of-between A.KeyStart e m len c n f = tt
+noFinish-of-between A.KeyChar e m len c n f =
+    cond-elim NoFinish (ltb len 32) (λ _. cond-elim NoFinish (ltb c 128) (λ _. tt) (λ _. tt)) (λ _. tt)
+noFinish-of-between A.KeyEnd e m len c n f = absurd n
+noFinish-of-between A.TextStart e m len c n f = tt
+noFinish-of-between A.TextChar e m len c n f = tt
+noFinish-of-between A.TextEnd e m len c n f = absurd n
+noFinish-of-between A.NumberStart e m len c n f = tt
+noFinish-of-between A.NumberByte e m len c n f = tt
+noFinish-of-between (A.WordEnd v) e m len c n f = absurd n
+
 -- ---- what a task writes, by how the level moves
 
 module _ (t : Table) (m : Mem) (y : Progress) (b : ℕ) (e : Bool) where
@@ -99,7 +130,8 @@ module _ (t : Table) (m : Mem) (y : Progress) (b : ℕ) (e : Bool) where
   l = m .progress .level
 
   -- a level more
-  pub opens-of-task : (k : Task) → Told k b l (y .level) e → y .level ≡ l + 1 → perform k t m y .work ≡ putFrame (m .work) (l + 1) (opened (t .forms) (eqb b 0x7B))
+  pub opens-of-task : (k : Task) → Told k b l (y .level) e → y .level ≡ l + 1
+      → perform k t m y .work ≡ putFrame (m .work) (l + 1) (opened (t .forms) (eqb b 0x7B))
   opens-of-task To.Idle i q = absurd (omega (arith, i .level))
   opens-of-task (To.Put c) i q = absurd (omega (arith, i .level))
   opens-of-task To.Named i q = absurd (omega (arith, i .level))
@@ -120,12 +152,13 @@ module _ (t : Table) (m : Mem) (y : Progress) (b : ℕ) (e : Bool) where
   closes-of-task To.Close i f q = refl
   closes-of-task (To.FinishClose s) i f q = true-neq-false (sym (i .ends) ∙ f)
 
--- the level stays: the places outside its frame are not written
-pub beyond-of-stay : (x : Task) (b l k i : ℕ) (e : Bool) → Told x b l k e → k ≡ l → Outside l i → Beyond x l k i
-beyond-of-stay To.Idle b l k i e j q o = tt
-beyond-of-stay (To.Put c) b l k i e j q o = tt
-beyond-of-stay To.Named b l k i e j q o = o
-beyond-of-stay (To.Open v) b l k i e j q o = absurd (omega (arith, j .level))
-beyond-of-stay (To.Finish s) b l k i e j q o = o
-beyond-of-stay To.Close b l k i e j q o = subst (λ (x : ℕ). Outside x i) (sym q ∙ j .level) o
-beyond-of-stay (To.FinishClose s) b l k i e j q o = (o, subst (λ (x : ℕ). Outside x i) (sym q ∙ j .level) o)
+  -- the level stays, and nothing is finished
+  pub between-of-task : (k : Task) → NoFinish k → Told k b l (y .level) e → e ≡ false → y .level ≡ l → perform k t m y .work ≡ m .work
+  unfolding closeAt valueAt
+  between-of-task To.Idle n i f q = refl
+  between-of-task (To.Put c) n i f q = refl
+  between-of-task To.Named n i f q = absurd n
+  between-of-task (To.Open o) n i f q = absurd (omega (arith, i .level))
+  between-of-task (To.Finish s) n i f q = absurd n
+  between-of-task To.Close n i f q = withValue-none t (m .work) (l - 1) _ (omega (arith, i .level))
+  between-of-task (To.FinishClose s) n i f q = true-neq-false (sym (i .ends) ∙ f)

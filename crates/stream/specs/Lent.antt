@@ -8,19 +8,23 @@ use mathlib.Core.Path.{_≡_}
 use Prim.Native.Nat.{ℕ, _+_, _*_, _-_, _<_, _≤_}
 use lib.Dec.{eqb}
 use lib.ListN.{length, getD}
+use Rattle.json.specs.declared.string.StringMode.{StringMode}
 use Rattle.json.specs.declared.number.NumberMode.{NumberMode}
 use Rattle.json.specs.declared.number.NumberMode.the-variants as N
+use Rattle.json.specs.declared.word.Word.{Word}
+use Rattle.json.specs.declared.word.Word.the-variants as W
 use Rattle.json.specs.declared.lexer.Awaited.the-variants as P
 use Rattle.json.specs.declared.lexer.Mode.{Mode}
 use Rattle.json.specs.declared.lexer.Mode.the-variants as M
 use Rattle.table.specs.Table.{Table}
+use Rattle.table.specs.Keys.{keyFound}
 use Rattle.table.specs.declared.kind.Scalar.{Scalar}
 use Rattle.table.specs.declared.kind.Scalar.the-variants as K
 use Rattle.table.specs.declared.kind.Finished.{Finished}
 use Rattle.table.specs.declared.kind.Finished.the-variants as Done
 use Rattle.frame.specs.Frame.{frameStart, frameAt, putFrame}
 use Rattle.frame.specs.Edges.{edgesIn}
-use Rattle.frame.specs.Ops.{opened, valued, closed}
+use Rattle.frame.specs.Ops.{opened, keyed, valued, closed}
 use Rattle.verdict.specs.declared.Verdict.{Verdict}
 use Rattle.verdict.specs.declared.Verdict.the-variants as Is
 use Rattle.progress.specs.declared.Progress.{Progress}
@@ -45,6 +49,10 @@ pub record Spares (P : ℕ → Type 0) (w v : List ℕ) : Type 0 where
 abbrev pub withValue : Table → List ℕ → ℕ → Finished → List ℕ
 withValue t w l v = putFrame w l (valued (edgesIn t) (t .«edge_kind») (t .forms) v (frameAt w l))
 
+-- the buffer with a key finished in it: its characters, of which len count
+abbrev pub withKey : Table → List ℕ → ℕ → List ℕ → ℕ → List ℕ
+withKey t w l key len = putFrame w l (keyed (keyFound t key len) (frameAt w l))
+
 -- the rules that the open value of level l fits when it is closed
 abbrev pub rulesOf : Table → List ℕ → ℕ → ℕ
 rulesOf t w l = closed (edgesIn t) (t .forms) (t .ends) (frameAt w l)
@@ -58,13 +66,19 @@ levelOf r = r .progress .level
 abbrev pub modeOf : Reader → Mode
 modeOf r = r .progress .mode
 
--- a number is open
-abbrev pub inNumber : Mode → Bool
-inNumber (M.At p) = false
-inNumber (M.Key s) = false
-inNumber (M.Text s) = false
-inNumber (M.Number n) = true
-inNumber (M.Word v i) = false
+-- a key, a string, a number or a word is open
+abbrev pub inToken : Mode → Bool
+inToken (M.At p) = false
+inToken (M.Key s) = true
+inToken (M.Text s) = true
+inToken (M.Number n) = true
+inToken (M.Word v i) = true
+
+-- the kind of a word
+abbrev pub wordKind : Word → Scalar
+wordKind W.Null = K.Null
+wordKind W.True = K.True
+wordKind W.False = K.False
 
 -- the kind of the open number as it stands: `int` until a fraction or an exponent part begins
 abbrev pub kindSoFar : NumberMode → Scalar
@@ -110,28 +124,37 @@ faultyIn r t w = saysFaulty (closeOf r t w .answer)
 abbrev pub byteFed : Reader → Table → List ℕ → ℕ → Outcome
 byteFed r t w b = feedOf r t w (b ∷ [])
 
--- what it writes where o is the outcome
+-- the byte b is no RS, and no token is open after it
+abbrev pub EndsToken : ℕ → Outcome → Type 0
+EndsToken b o = (eqb b 0x1E ≡ false) × (inToken (modeOf (o .reader)) ≡ false)
+
+-- what it writes, where o is the outcome
 pub record ByteWrites (r : Reader) (t : Table) (w : List ℕ) (b : ℕ) (o : Outcome) : Type 0 where
   -- opening writes all 96 bytes of the frame of the new level, an object's at `{`, and no byte outside
   pub opens : levelOf (o .reader) ≡ levelOf r + 1
       → (frameAt (o .work) (levelOf r + 1) ≡ opened (t .forms) (eqb b 0x7B)) × Spares (Outside (levelOf r + 1)) w (o .work)
-  -- closing finishes the closed value in its parent, whose level is the open one then; it writes only there, and for the root nowhere
-  pub closes : inNumber (modeOf r) ≡ false → eqb b 0x1E ≡ false → levelOf r ≡ levelOf (o .reader) + 1
+  -- closing finishes the closed value in its parent, whose level is the open one then; it writes only there
+  pub closes : inToken (modeOf r) ≡ false → eqb b 0x1E ≡ false → levelOf r ≡ levelOf (o .reader) + 1
       → (o .work ≡ withValue t w (levelOf (o .reader)) (Done.Rules (rulesOf t w (levelOf r)))) × Spares (Outside (levelOf (o .reader))) w (o .work)
-  pub closes-root : inNumber (modeOf r) ≡ false → levelOf r ≡ 1 → levelOf (o .reader) ≡ 0 → o .work ≡ w
-  -- a byte other than RS that ends a number finishes it before its own effect: its outcome is that of the byte after a finished value, in the buffer where
-  -- the number is finished
-  pub ends-number : (n : NumberMode) → modeOf r ≡ M.Number n → eqb b 0x1E ≡ false → inNumber (modeOf (o .reader)) ≡ false
+  -- the root has no parent, and closing it writes nothing
+  pub closes-root : inToken (modeOf r) ≡ false → levelOf r ≡ 1 → levelOf (o .reader) ≡ 0 → o .work ≡ w
+  -- any other byte between tokens writes nothing
+  pub between : inToken (modeOf r) ≡ false → levelOf (o .reader) ≡ levelOf r → o .work ≡ w
+  -- while a token is open nothing is written
+  pub in-token : inToken (modeOf (o .reader)) ≡ true → o .work ≡ w
+  -- a key is finished by the quotation mark that ends it, a string too, and a word by its last letter
+  pub ends-key : (s : StringMode) → modeOf r ≡ M.Key s → EndsToken b o → o .work ≡ withKey t w (levelOf r) (r .key) (r .progress .len)
+  pub ends-string : (s : StringMode) → modeOf r ≡ M.Text s → EndsToken b o → o .work ≡ withValue t w (levelOf r) (Done.Scalar K.Str)
+  pub ends-word : (v : Word) (i : ℕ) → modeOf r ≡ M.Word v i → EndsToken b o → o .work ≡ withValue t w (levelOf r) (Done.Scalar (wordKind v))
+  -- a number is finished by the byte after it, before that byte's own effect: the outcome is that of the byte after a value, in the buffer where the
+  -- number is finished
+  pub ends-number : (n : NumberMode) → modeOf r ≡ M.Number n → EndsToken b o
       → o ≡ byteFed (inMode (M.At P.After) r) t (withValue t w (levelOf r) (Done.Scalar (kindSoFar n))) b
-  -- while a number is open nothing is written
-  pub in-number : inNumber (modeOf (o .reader)) ≡ true → o .work ≡ w
   -- a faulty byte writes nothing, even where it ends a number; nor do the bytes of the record after it, nor those of the head
   pub faulty : faultyIn (o .reader) t (o .work) ≡ true → o .work ≡ w
   pub after-fault : faultyIn r t w ≡ true → o .work ≡ w
   -- an RS writes nothing, even where it ends a number
   pub separator : b ≡ 0x1E → o .work ≡ w
-  -- a byte that neither opens nor closes a value writes only in the frame of the innermost open one
-  pub stays : levelOf (o .reader) ≡ levelOf r → Spares (Outside (levelOf r)) w (o .work)
   -- no byte writes outside the frames of the innermost open value, of its parent and of a value that it opens
   pub reaches : Spares (λ i. Outside (levelOf r) i × Outside (levelOf r - 1) i × Outside (levelOf (o .reader)) i) w (o .work)
 

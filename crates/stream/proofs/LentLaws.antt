@@ -1,21 +1,22 @@
 -- What feed and close write in the lent buffer, sentence by sentence: `lent` proves all of `Lent`. A byte leaves the frames as they are, or is sound:
 -- `ways-of-byte`. Assumes nothing.
-use mathlib.Core.Bool.{true, false}
-use mathlib.Core.List.{List, [], _∷_, _++_}
+use mathlib.Core.Bool.{true}
+use mathlib.Core.List.{List, [], _∷_}
 use mathlib.Core.Logic.{inr, ⊎-elim}
-use mathlib.Core.Path.{_≡_, refl, sym, ap, subst, _∙_}
-use Prim.Native.Nat.{ℕ, _*_, _<_, _≤_}
+use mathlib.Core.Path.{_≡_, refl, sym, ap, _∙_}
+use Prim.Native.Nat.{ℕ, _+_, _*_, _<_, _≤_}
 use native.Mathlib.Omega.{arith}
-use lib.Dec.{ltb}
+use lib.Dec.{eqb, ltb}
+use lib.ListN.{length}
 use borrow.Author.Tests.{eq-eqb}
 use Rattle.laws.proofs.TestLaws.{true-neq-false, cond-elim}
-use Rattle.json.specs.declared.number.NumberMode.{NumberMode}
-use Rattle.json.specs.declared.lexer.Awaited.the-variants as P
 use Rattle.json.specs.declared.lexer.Mode.{Mode}
 use Rattle.json.specs.declared.lexer.Mode.the-variants as M
 use Rattle.table.specs.Table.{Table}
-use Rattle.table.specs.declared.kind.Finished.the-variants as Done
-use Rattle.frame.specs.Frame.{frameAt}
+use Rattle.frame.specs.Frame.{hasFrame, frameAt}
+use Rattle.frame.specs.Ops.{opened}
+use Rattle.frame.proofs.LevelLaws.{frameAt-putFrame}
+use Rattle.frame.proofs.OpenLaws.{length-opened}
 use Rattle.progress.specs.Memory.{runMem}
 use Rattle.reader.specs.declared.Reader.{Reader}
 use Rattle.reader.specs.declared.Answer.{Answer}
@@ -23,12 +24,12 @@ use Rattle.reader.specs.declared.Answer.the-variants as Says
 use Rattle.reader.specs.Machine.{Outcome, memoryOf, feeding, feedOf, closing, closeOf}
 use Rattle.reader.specs.Paper.{feed}
 use Rattle.reader.proofs.RefusalLaws.{through-elim}
-use Rattle.stream.specs.Lent.{Spares, withValue, levelOf, modeOf, inToken, kindSoFar, inMode, byteFed, EndsToken, ByteWrites, thenFed, Lent}
+use Rattle.stream.specs.Lent.{Spares, levelOf, modeOf, inToken, byteFed, EndsToken, ByteWrites, thenFed, NotOpened, Lent}
 use Rattle.stream.proofs.CallLaws.{unchanged-of-refused}
 use Rattle.stream.proofs.FedLaws.{gateOf, bounds-of-open, IsSound, Idles, ways-of-byte, fed-none, fed-in-two}
 use Rattle.stream.proofs.NumberLaws.{fed-of-number-end}
-use Rattle.stream.proofs.SoundLaws.{not-faulty, level-le, sound-opens, sound-closes, sound-between, sound-in-token, sound-ends-key, sound-ends-string, sound-ends-word, sound-not-faulty, sound-reaches}
-use Rattle.stream.proofs.SpareLaws.{spares-all, spares-after, spares-fewer, withValue-none, frameAt-of-spares}
+use Rattle.stream.proofs.SoundLaws.{not-faulty, level-le, frame-of-level, sound-opens, sound-closes, sound-between, sound-in-token, sound-ends-key, sound-ends-string, sound-ends-word, sound-not-faulty, sound-reaches}
+use Rattle.stream.proofs.SpareLaws.{spares-all, spares-after, spares-fewer, spares-put, withValue-none, spares-withValue, frameAt-of-spares}
 
 -- ---- any byte
 
@@ -55,26 +56,21 @@ module _ (r : Reader) (t : Table) (w : List ℕ) (b : ℕ) where
         reaches = spares-all _ w _ (i .work);
       }
 
-  sound-ends-number : IsSound r t w b → (n : NumberMode) → modeOf r ≡ M.Number n → inToken (modeOf (byteFed r t w b .reader)) ≡ false
-      → byteFed r t w b ≡ byteFed (inMode (M.At P.After) r) t (withValue t w (levelOf r) (Done.Scalar (kindSoFar n))) b
-  sound-ends-number s n m f =
-      let q : r ≡ inMode (M.Number n) r = ap (λ (x : Mode). inMode x r) m in
-      let c : IsSound (inMode (M.Number n) r) t w b = subst (λ (x : Reader). IsSound x t w b) q s in
-      ap (λ (x : Reader). byteFed x t w b) q
-      ∙ fed-of-number-end r t w b n c (subst (λ (x : Reader). inToken (modeOf (byteFed x t w b .reader)) ≡ false) q f)
-
   byte-of-sound : IsSound r t w b → ByteWrites r t w b (byteFed r t w b)
   byte-of-sound s =
+      let long : length (opened (t .forms) (eqb b 0x7B)) ≡ 96 = length-opened (t .forms) (eqb b 0x7B) in
+      let frame : (q : levelOf (byteFed r t w b .reader) ≡ levelOf r + 1) → hasFrame (length w) (levelOf r + 1) ≡ true
+      = λ q. frame-of-level r t w b s (levelOf r + 1) q (omega arith) in
       record {
-        opens = sound-opens r t w b s;
-        closes = λ m _ q. sound-closes r t w b s m q;
-        closes-root = λ m q p. sound-closes r t w b s m (omega arith) .0 ∙ withValue-none t w (levelOf (byteFed r t w b .reader)) _ p;
+        opens = λ q. rw (sound-opens r t w b s q) (frameAt-putFrame w _ (levelOf r + 1) long (frame q), spares-put w _ (levelOf r + 1) long);
+        closes = λ m _ q. let e = sound-closes r t w b s m q in (e, rw e (spares-withValue t w (levelOf (byteFed r t w b .reader)) _));
+        closes-root = λ m q p. sound-closes r t w b s m (omega arith) ∙ withValue-none t w (levelOf (byteFed r t w b .reader)) _ p;
         between = sound-between r t w b s;
         in-token = sound-in-token r t w b s;
         ends-key = λ v m e. sound-ends-key r t w b s (e .1) v m;
         ends-string = λ v m e. sound-ends-string r t w b s (e .1) v m;
         ends-word = λ v i m e. sound-ends-word r t w b s (e .1) v i m;
-        ends-number = λ n m e. sound-ends-number s n m (e .1);
+        ends-number = λ n m e. fed-of-number-end r t w b s n m (e .1);
         faulty = λ f. true-neq-false (sym f ∙ sound-not-faulty r t w b s);
         after-fault = λ f. true-neq-false (sym f ∙ not-faulty r t w (s .head) (s .fault));
         separator = λ q. true-neq-false (sym (eq-eqb b 0x1E q) ∙ s .byte);
@@ -123,12 +119,8 @@ piece-past t n (b ∷ s) r w e =
     (spares-of-two _ w (o .answer) o (feedOf (o .reader) t (o .work) s) (spares-fewer (λ i h. omega arith) (byte-past r t w b))
     (piece-past t n s (o .reader) (o .work) (frames-fed r t w (b ∷ []) ∙ e)))
 
--- level l is open neither before the piece nor after any of its bytes, and its frame is not written
-abbrev Below : Table → ℕ → List ℕ → Reader → List ℕ → Type 0
-Below t l s r w = (p q : List ℕ) → p ++ q ≡ s → levelOf (feedOf r t w p .reader) < l
-
 abbrev Unwritten : Table → ℕ → List ℕ → Reader → List ℕ → Type 0
-Unwritten t l s r w = Below t l s r w → frameAt (feedOf r t w s .work) l ≡ frameAt w l
+Unwritten t l s r w = NotOpened r t w s l → frameAt (feedOf r t w s .work) l ≡ frameAt w l
 
 piece-unopened : (t : Table) (l : ℕ) (s : List ℕ) (r : Reader) (w : List ℕ) → Unwritten t l s r w
 piece-unopened t l [] r w all = ap (λ (v : List ℕ). frameAt v l) (fed-none r t w .1)

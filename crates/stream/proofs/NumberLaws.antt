@@ -1,7 +1,7 @@
 -- A byte that ends a number does what it does after a value, in the buffer where the number is finished: `fed-of-number-end`. Assumes nothing.
 use mathlib.Core.Bool.{false}
 use mathlib.Core.List.{List}
-use mathlib.Core.Path.{_≡_, refl, sym, ap, _∙_}
+use mathlib.Core.Path.{_≡_, refl, sym, ap, subst, _∙_}
 use Prim.Native.Nat.{ℕ}
 use native.Mathlib.Omega.{arith}
 use Rattle.json.specs.Lexer.{numberMove, numberStep, endedBefore, afterValue}
@@ -10,6 +10,7 @@ use Rattle.json.specs.declared.number.NumberMode.the-variants as N
 use Rattle.json.specs.declared.number.NumberMove.{NumberMove}
 use Rattle.json.specs.declared.number.NumberMove.the-variants as NM
 use Rattle.json.specs.declared.lexer.Awaited.the-variants as P
+use Rattle.json.specs.declared.lexer.Mode.{Mode}
 use Rattle.json.specs.declared.lexer.Mode.the-variants as M
 use Rattle.json.specs.declared.lexer.Top.{Top}
 use Rattle.json.specs.declared.lexer.Step.{Step}
@@ -105,5 +106,13 @@ module _ (r : Reader) (t : Table) (w : List ℕ) (b : ℕ) (n : NumberMode) wher
         fed-of-sound inside t w b s ∙ ap (done inside t w b) step-inside ∙ alike-afterValue (topAt w (levelOf r)) no-fault
         ∙ sym (fed-of-sound behind t finished b sound-behind ∙ ap (done behind t finished b) step-behind)
 
-    pub fed-of-number-end : byteFed inside t w b ≡ byteFed behind t (withValue t w (levelOf r) (Done.Scalar (kindSoFar n))) b
-    fed-of-number-end = rw (kindSoFar-is n) alike-fed
+-- the same of any reader in a number
+pub fed-of-number-end : (r : Reader) (t : Table) (w : List ℕ) (b : ℕ) → IsSound r t w b → (n : NumberMode) → modeOf r ≡ M.Number n
+    → inToken (modeOf (byteFed r t w b .reader)) ≡ false
+    → byteFed r t w b ≡ byteFed (inMode (M.At P.After) r) t (withValue t w (levelOf r) (Done.Scalar (kindSoFar n))) b
+fed-of-number-end r t w b s n m e =
+    let q : r ≡ inMode (M.Number n) r = ap (λ (x : Mode). inMode x r) m in
+    let c : IsSound (inMode (M.Number n) r) t w b = subst (λ (x : Reader). IsSound x t w b) q s in
+    let f : inToken (modeOf (byteFed (inMode (M.Number n) r) t w b .reader)) ≡ false
+    = subst (λ (x : Reader). inToken (modeOf (byteFed x t w b .reader)) ≡ false) q e in
+    ap (λ (x : Reader). byteFed x t w b) q ∙ rw (kindSoFar-is n) (alike-fed r t w b n c f)

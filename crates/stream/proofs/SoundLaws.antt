@@ -19,10 +19,9 @@ use Rattle.table.specs.Table.{Table}
 use Rattle.table.specs.declared.kind.Scalar.{Scalar}
 use Rattle.table.specs.declared.kind.Scalar.the-variants as K
 use Rattle.table.specs.declared.kind.Finished.the-variants as Done
-use Rattle.frame.specs.Frame.{hasFrame, frameAt, putFrame}
+use Rattle.frame.specs.Frame.{hasFrame, putFrame}
 use Rattle.frame.specs.Ops.{opened}
-use Rattle.frame.proofs.LevelLaws.{hasFrame-of-le, frameAt-putFrame}
-use Rattle.frame.proofs.OpenLaws.{length-opened}
+use Rattle.frame.proofs.LevelLaws.{hasFrame-of-le}
 use Rattle.verdict.specs.declared.Verdict.{Verdict}
 use Rattle.verdict.specs.declared.Verdict.the-variants as Is
 use Rattle.progress.specs.declared.Fault.{Fault}
@@ -41,7 +40,7 @@ use Rattle.stream.specs.Lent.{Outside, Spares, withValue, withKey, rules
 use Rattle.stream.proofs.LexerLaws.{Tells, tells-stepOf, placed-stepOf, key-ended, text-ended, word-ended}
 use Rattle.stream.proofs.FedLaws.{gateOf, bounds-of-open, stepAt, movedBy, taskBy, IsSound, progress-fed, work-fed}
 use Rattle.stream.proofs.TaskLaws.{Told, told-of-act, noFinish-of-between, opens-of-task, closes-of-task, between-of-task}
-use Rattle.stream.proofs.SpareLaws.{spares-fewer, spares-put, spares-withValue, spares-perform, beyond-of-three}
+use Rattle.stream.proofs.SpareLaws.{spares-fewer, spares-perform, beyond-of-three}
 
 -- ---- a record without a fault, out of the head
 
@@ -109,37 +108,24 @@ module _ (r : Reader) (t : Table) (w : List ℕ) (b : ℕ) (s : IsSound r t w b)
   pub level-le : levelOf (o .reader) ≤ r .frames
   level-le = rw level-fed (levelAfter-le (step .act) (levelOf r) (r .frames) (bounds-of-open r t w (s .gate) .2))
 
-  frame-of-level : 1 ≤ levelOf (o .reader) → hasFrame (length w) (levelOf (o .reader)) ≡ true
-  frame-of-level h =
+  pub frame-of-level : (l : ℕ) → levelOf (o .reader) ≡ l → 1 ≤ l → hasFrame (length w) l ≡ true
+  frame-of-level l q h =
       let g = bounds-of-open r t w (s .gate) in
-      hasFrame-of-le (r .frames) (length w) (levelOf (o .reader)) (g .1) (room-of-call (withinReader r) (r .frames) t (length w) (s .gate)) h level-le
+      hasFrame-of-le (r .frames) (length w) l (g .1) (room-of-call (withinReader r) (r .frames) t (length w) (s .gate)) h (rw q at level-le)
 
   -- where it opens a level, all bytes of the frame
-  opens-work : levelOf (o .reader) ≡ levelOf r + 1 → o .work ≡ putFrame w (levelOf r + 1) (opened (t .forms) (eqb b 0x7B))
-  opens-work q = work-fed r t w b s ∙ opens-of-task t (memoryOf r w) next b (step .ends) task told (sym level-fed ∙ q)
-
-  pub sound-opens : levelOf (o .reader) ≡ levelOf r + 1
-      → (frameAt (o .work) (levelOf r + 1) ≡ opened (t .forms) (eqb b 0x7B)) × Spares (Outside (levelOf r + 1)) w (o .work)
-  sound-opens q =
-      let f : List ℕ = opened (t .forms) (eqb b 0x7B) in
-      let long : length f ≡ 96 = length-opened (t .forms) (eqb b 0x7B) in
-      rw (opens-work q) (frameAt-putFrame w f (levelOf r + 1) long (rw q at (frame-of-level (omega arith))), spares-put w f (levelOf r + 1) long)
+  pub sound-opens : levelOf (o .reader) ≡ levelOf r + 1 → o .work ≡ putFrame w (levelOf r + 1) (opened (t .forms) (eqb b 0x7B))
+  sound-opens q = work-fed r t w b s ∙ opens-of-task t (memoryOf r w) next b (step .ends) task told (sym level-fed ∙ q)
 
   -- where it closes one, the value that it stands in
-  closes-work : inToken (modeOf r) ≡ false → levelOf r ≡ levelOf (o .reader) + 1
+  pub sound-closes : inToken (modeOf r) ≡ false → levelOf r ≡ levelOf (o .reader) + 1
       → o .work ≡ withValue t w (levelOf (o .reader)) (Done.Rules (rulesOf t w (levelOf r)))
-  closes-work m q =
+  sound-closes m q =
       let below : levelOf r - 1 ≡ levelOf (o .reader) = omega arith in
       let f : step .ends ≡ false = placed-stepOf b (modeOf r) (topAt w (levelOf r)) m .ends in
       work-fed r t w b s
       ∙ closes-of-task t (memoryOf r w) next b (step .ends) task told f (q ∙ ap (λ (x : ℕ). x + 1) level-fed)
       ∙ ap (λ (x : ℕ). withValue t w x (Done.Rules (rulesOf t w (levelOf r)))) below
-
-  pub sound-closes : inToken (modeOf r) ≡ false → levelOf r ≡ levelOf (o .reader) + 1
-      → (o .work ≡ withValue t w (levelOf (o .reader)) (Done.Rules (rulesOf t w (levelOf r)))) × Spares (Outside (levelOf (o .reader))) w (o .work)
-  sound-closes m q =
-      let e = closes-work m q in
-      (e, subst (λ (x : List ℕ). Spares (Outside (levelOf (o .reader))) w x) (sym e) (spares-withValue t w (levelOf (o .reader)) _))
 
   -- where it does neither between tokens, nothing
   pub sound-between : inToken (modeOf r) ≡ false → levelOf (o .reader) ≡ levelOf r → o .work ≡ w

@@ -170,6 +170,10 @@ thenFed (Says.Refused k) o q = o
 abbrev pub inTwo : Table → Outcome → List ℕ → Outcome
 inTwo t o s = thenFed (o .answer) o (feedOf (o .reader) t (o .work) s)
 
+-- level l is open neither before the piece s nor after any of its bytes
+abbrev pub NotOpened : Reader → Table → List ℕ → List ℕ → ℕ → Type 0
+NotOpened r t w s l = (p q : List ℕ) → p ++ q ≡ s → levelOf (feedOf r t w p .reader) < l
+
 -- all that is said of the lent bytes
 pub record Lent : Type 0 where
   -- a piece does what its bytes do when they are fed one by one
@@ -179,9 +183,8 @@ pub record Lent : Type 0 where
   pub byte : (r : Reader) (t : Table) (w : List ℕ) (b : ℕ) → ByteWrites r t w b (byteFed r t w b)
   -- bytes past the frames that were counted at start are never written
   pub past : (r : Reader) (t : Table) (w s : List ℕ) → Spares (λ i. 96 * r .frames ≤ i) w (feedOf r t w s .work)
-  -- the frame of a level that is open neither before the piece nor after any of its bytes is not written
-  pub unopened : (r : Reader) (t : Table) (w s : List ℕ) (l : ℕ) → ((p q : List ℕ) → p ++ q ≡ s → levelOf (feedOf r t w p .reader) < l)
-      → frameAt (feedOf r t w s .work) l ≡ frameAt w l
+  -- nor is the frame of a level that is not opened
+  pub unopened : (r : Reader) (t : Table) (w s : List ℕ) (l : ℕ) → NotOpened r t w s l → frameAt (feedOf r t w s .work) l ≡ frameAt w l
   -- a close writes nothing, even where it ends a number, and a refused call writes nothing
   pub close : (r : Reader) (t : Table) (w : List ℕ) → closeOf r t w .work ≡ w
   pub refused : (r : Reader) (t : Table) (w s : List ℕ) (k : Refusal) → feedOf r t w s .answer ≡ Says.Refused k → feedOf r t w s .work ≡ w

@@ -5,7 +5,7 @@ use Rattle.stream.specs.Bytes.{Reading}
 use Rattle.stream.proofs.Demand.{demand-3 as demand-3-of-bytes}
 use Rattle.follows.specs.Follows.{Tracks}
 use Rattle.follows.proofs.TrackLaws.{tracks-start, tracks-step, tracks-judged}
-use Rattle.follows.proofs.MemoryLaws.{length-stepMem}
+use Rattle.progress.proofs.MemoryLaws.{length-stepMem}
 use Rattle.demand.specs.Book.{Book}
 use Rattle.demand.proofs.BookLaws.{carries-of-book, plain-of-book, sound-of-book}
 

@@ -10,7 +10,7 @@ use Rattle.laws.proofs.TestLaws.{cond-elim}
 use Rattle.table.specs.Table.{Table}
 use Rattle.progress.specs.declared.Progress.{Progress}
 use Rattle.progress.specs.Memory.{Mem, Ran, endsRecord, runMem, stepMem}
-use Rattle.follows.proofs.MemoryLaws.{length-stepMem}
+use Rattle.progress.proofs.MemoryLaws.{length-stepMem}
 use Rattle.reader.specs.declared.Reader.{Reader}
 use Rattle.reader.specs.declared.Answer.{Answer}
 use Rattle.reader.specs.declared.Answer.the-variants as Says

@@ -29,9 +29,10 @@ use Rattle.progress.specs.declared.Progress.{Progress}
 use Rattle.progress.specs.Count.{bump}
 use Rattle.progress.specs.Progress.{faulted}
 use Rattle.progress.specs.Memory.{mem, valueAt, rulesAt, closeAt}
+use Rattle.progress.proofs.MemoryLaws.{length-valueAt}
 use Rattle.follows.specs.Follows.{lexAt, ShowsStack, NoRoot, AnyRoot, ShowsRoot, Shown, follows, Tracks, on-track, off-track}
 use Rattle.follows.proofs.StackLaws.{shows-finished, shows-rules-array, shows-rules-object, root-closed}
-use Rattle.follows.proofs.MemoryLaws.{length-valueAt, one-le-bump, bump-below}
+use Rattle.follows.proofs.MemoryLaws.{one-le-bump, bump-below}
 
 module _ (es : List Entry) where
   -- a finished value leaves the number of open levels

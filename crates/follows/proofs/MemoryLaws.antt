@@ -1,83 +1,27 @@
--- What a byte leaves of any memory: the lengths of the buffer and of the key, whether the record is the head, and the count of bytes.
--- Assumes nothing.
-use mathlib.Core.Bool.{Bool, true, false}
-use mathlib.Core.List.{List}
-use mathlib.Core.Path.{_≡_, refl, sym, ap, _∙_}
-use Prim.Native.Nat.{ℕ, suc, _-_, _≤_, _<_}
+-- What a byte leaves of any memory: whether the record is the head, and the count of bytes. Assumes nothing.
+use mathlib.Core.Bool.{Bool, false}
+use mathlib.Core.Path.{_≡_, refl}
+use Prim.Native.Nat.{ℕ, suc, _≤_, _<_}
 use native.Mathlib.Numerals.{add-one}
 use native.Mathlib.Omega.{arith}
 use lib.Dec.{eqb, ltb, nltb→le}
 use borrow.Author.Tests.{lt-ltb}
-use lib.ListN.{length}
 use Rattle.laws.proofs.TestLaws.{cond-elim}
 use Rattle.json.specs.Lexer.{stepOf}
 use Rattle.json.specs.declared.lexer.Mode.{Mode}
 use Rattle.json.specs.declared.lexer.Act.{Act}
-use Rattle.json.specs.declared.lexer.Act.the-variants as A
 use Rattle.json.specs.declared.lexer.Step.{Step}
 use Rattle.table.specs.Table.{Table}
-use Rattle.table.specs.declared.kind.Finished.{Finished}
-use Rattle.table.specs.declared.kind.Finished.the-variants as Done
-use Rattle.table.specs.Keys.{keyFound}
-use Rattle.frame.specs.Frame.{hasFrame, frameAt, putFrame}
-use Rattle.frame.specs.Ops.{opened, keyed}
-use Rattle.frame.proofs.LevelLaws.{putFrame-none, length-frameAt, length-putFrame}
-use Rattle.frame.proofs.OpenLaws.{length-opened}
-use Rattle.frame.proofs.KeyLaws.{length-keyed}
-use Rattle.frame.proofs.ValueLaws.{length-valued}
-use Rattle.meaning.specs.Shows.{valuedBy, lentEdges}
 use Rattle.verdict.specs.Verdict.{longest}
 use Rattle.progress.specs.declared.Fault.{Fault}
 use Rattle.progress.specs.declared.Fault.the-variants as F
 use Rattle.progress.specs.declared.Progress.{Progress}
-use Rattle.progress.specs.declared.Task.{Task}
-use Rattle.progress.specs.declared.Task.the-variants as To
 use Rattle.progress.specs.declared.Advanced.{Advanced}
 use Rattle.progress.specs.Act.{firstFault}
 use Rattle.progress.specs.Count.{bump}
 use Rattle.progress.specs.Progress.{actedBy, sound, byFault, advanced}
-use Rattle.progress.specs.Memory.{Mem, valueAt, rulesAt, closeAt, perform, topAt, advancedAt, stepMem}
-use Rattle.progress.proofs.MemoryLaws.{progress-of-perform}
-
--- ---- lengths
-
--- a frame that is worked on at its level leaves the length of the buffer
-length-worked : (w : List ℕ) (l : ℕ) (op : List ℕ → List ℕ) → ((f : List ℕ) → length f ≡ 96 → length (op f) ≡ 96)
-    → length (putFrame w l (op (frameAt w l))) ≡ length w
-length-worked w l op long = go (hasFrame (length w) l) refl
-  where
-    go : (v : Bool) → hasFrame (length w) l ≡ v → length (putFrame w l (op (frameAt w l))) ≡ length w
-    go true e = length-putFrame w (op (frameAt w l)) l (long (frameAt w l) (length-frameAt w l e))
-    go false e = ap length (sym (putFrame-none w (op (frameAt w l)) l e))
-
-pub length-valueAt : (t : Table) (w : List ℕ) (l : ℕ) (v : Finished) → length (valueAt t w l v) ≡ length w
-unfolding valueAt
-length-valueAt t w l v = length-worked w l (valuedBy t v) (λ f e. length-valued (lentEdges t) (t .«edge_kind») (t .forms) v f e)
-
-pub length-opened-frame : (t : Table) (w : List ℕ) (l : ℕ) (object : Bool) → length (putFrame w l (opened (t .forms) object)) ≡ length w
-length-opened-frame t w l object = length-putFrame w (opened (t .forms) object) l (length-opened (t .forms) object)
-
-pub length-keyed-frame : (w : List ℕ) (l c : ℕ) → length (putFrame w l (keyed c (frameAt w l))) ≡ length w
-length-keyed-frame w l c = length-worked w l (keyed c) (λ f e. length-keyed f c ∙ e)
-
--- no task changes the length of the buffer
-pub length-perform : (x : Task) (t : Table) (m : Mem) (y : Progress) → length (perform x t m y .work) ≡ length (m .work)
-unfolding closeAt
-length-perform To.Idle t m y = refl
-length-perform To.Begin t m y = refl
-length-perform (To.Put c) t m y = refl
-length-perform To.Named t m y = length-keyed-frame (m .work) (m .progress .level) (keyFound t (m .key) (m .progress .len))
-length-perform (To.Open o) t m y = length-opened-frame t (m .work) (y .level) o
-length-perform (To.Finish s) t m y = length-valueAt t (m .work) (m .progress .level) (Done.Scalar s)
-length-perform To.Close t m y = length-valueAt t (m .work) (m .progress .level - 1) (Done.Rules (rulesAt t (m .work) (m .progress .level)))
-length-perform (To.FinishClose s) t m y =
-    let w = valueAt t (m .work) (m .progress .level) (Done.Scalar s) in
-    length-valueAt t w (m .progress .level - 1) (Done.Rules (rulesAt t w (m .progress .level))) ∙ length-valueAt t (m .work) (m .progress .level) (Done.Scalar s)
-
--- so no byte does
-pub length-stepMem : (t : Table) (n : ℕ) (m : Mem) (b : ℕ) → length (stepMem t n m b .work) ≡ length (m .work)
-unfolding stepMem
-length-stepMem t n m b = length-perform (advancedAt n m b .task) t m (advancedAt n m b .progress)
+use Rattle.progress.specs.Memory.{Mem, topAt, advancedAt, stepMem}
+use Rattle.progress.proofs.MemoryLaws.{progress-perform}
 
 -- ---- the count of bytes
 
@@ -121,5 +65,5 @@ module _ (x : Progress) (n b : ℕ) where
 pub counts-stepMem : (t : Table) (n : ℕ) (m : Mem) (b : ℕ) → eqb b 0x1E ≡ false → Counts (m .progress) (stepMem t n m b .progress)
 unfolding stepMem
 counts-stepMem t n m b e =
-    rw (progress-of-perform (advancedAt n m b .task) t m (advancedAt n m b .progress))
+    rw (progress-perform (advancedAt n m b .task) t m (advancedAt n m b .progress))
     (counts-advanced (m .progress) n b (stepOf (m .progress .mode) (topAt (m .work) (m .progress .level)) b) e)

@@ -16,7 +16,8 @@ use Rattle.verdict.specs.Track.{Track, track, trackByte, trackStart, trackEnd}
 use Rattle.progress.specs.Progress.{judged}
 use Rattle.progress.specs.Memory.{Mem, freshMem, stepMem, endsRecord, runMem}
 use Rattle.follows.specs.Follows.{PlainKeys, Tracks, NoRS, nonempty, readPart}
-use Rattle.follows.proofs.MemoryLaws.{length-stepMem, one-le-bump, bump-below, counts-stepMem}
+use Rattle.progress.proofs.MemoryLaws.{length-stepMem}
+use Rattle.follows.proofs.MemoryLaws.{one-le-bump, bump-below, counts-stepMem}
 use Rattle.follows.proofs.TrackLaws.{tracks-step, tracks-start, tracks-judged}
 
 -- a byte other than RS joins a part without RS

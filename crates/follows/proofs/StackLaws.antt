@@ -7,7 +7,7 @@ use Prim.Native.Nat.{ℕ, suc, _*_, _≤_, _<_}
 use native.Mathlib.Omega.{arith}
 use lib.Dec.{eqb, lit<}
 use lib.ListN.{length}
-use borrow.Author.Tests.{lt-ltb, le-leb, ne-eqb}
+use borrow.Author.Tests.{ne-eqb}
 use Rattle.json.specs.Machine.{Stack, bare, whole, in-array, in-object, topOf, depth, finish}
 use Rattle.table.specs.Kind.{codeOf, ruleFits}
 use Rattle.table.specs.Table.{Table}
@@ -17,20 +17,15 @@ use Rattle.table.specs.declared.kind.ValueKind.{ValueKind}
 use Rattle.table.specs.declared.kind.ValueKind.the-variants.{Rule}
 use Rattle.book.specs.Entry.{arr, Entry}
 use Rattle.runs.specs.Walk.{judging, States, OpenObject, startOf, atOpening, afterKey}
-use Rattle.frame.specs.Frame.{frameCount, hasFrame, frameAt, putFrame}
+use Rattle.frame.specs.Frame.{frameAt, putFrame}
 use Rattle.frame.specs.Ops.{opened, keyed}
-use Rattle.frame.proofs.LevelLaws.{frameAt-putFrame, frameAt-putFrame-other}
+use Rattle.frame.proofs.LevelLaws.{hasFrame-of-le, frameAt-putFrame, frameAt-putFrame-other}
 use Rattle.meaning.specs.Shows.{Carries, ShowsValue, ShowsArray, ShowsObject, ShowsKey}
 use Rattle.meaning.proofs.OpenLaws.{shows-open-array, shows-open-object, shows-key}
 use Rattle.meaning.proofs.ValueLaws.{shows-pair, shows-element}
 use Rattle.meaning.proofs.CloseLaws.{shows-array, shows-object}
 use Rattle.progress.specs.Memory.{topAt, valueAt, rulesAt}
 use Rattle.follows.specs.Follows.{ShowsStack, NoRoot, AnyRoot}
-
--- a buffer with room for n frames has those of the levels up to n
-hasFrame-of-le : (n size l : ℕ) → n ≤ 64 → 96 * n ≤ size → 1 ≤ l → l ≤ n → hasFrame size l ≡ true
-unfolding hasFrame
-hasFrame-of-le n size l few long lo hi = rw (lt-ltb 0 l lo, le-leb l (frameCount size) (omega arith))
 
 -- the kind of the innermost open value is that of its frame
 pub topAt-shows : (es : List Entry) (w : List ℕ) (k : Stack (judging es)) → ShowsStack es w k → topAt w (depth (judging es) k) ≡ topOf (judging es) k

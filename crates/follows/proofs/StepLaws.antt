@@ -62,7 +62,8 @@ use Rattle.follows.proofs.StackLaws.{topAt-shows, shows-opened-array, s
 use Rattle.follows.proofs.KeyLaws.{keyKept-put, keyKept-high, keyKept-full, showsKey-keyFound}
 use Rattle.follows.proofs.NumberLaws.{numberMove-elim}
 use Rattle.follows.proofs.LexerLaws.{valueStart-elim, afterValue-elim}
-use Rattle.follows.proofs.MemoryLaws.{length-opened-frame, length-keyed-frame, length-valueAt, one-le-bump}
+use Rattle.progress.proofs.MemoryLaws.{length-opened-frame, length-keyed-frame, length-valueAt}
+use Rattle.follows.proofs.MemoryLaws.{one-le-bump}
 use Rattle.follows.proofs.LandLaws.{depth-finish, noRoot-of-opened, scalar-no-rule, lands-malformed, lands-deep, lands, lands-finished, lands-closed}
 
 -- ---- the registers of the open token

@@ -10,6 +10,7 @@ use native.Mathlib.Omega.{arith}
 use lib.Dec.{eqb, ltb, leb, ltb→lt, leb→le, lit<}
 use lib.ListN.{length, getD, take, drop, length-append, length-drop, take-append-drop, List·getD-append}
 use lib.Seq.{take-at, drop-at, drop-drop, length-take-le, take-append-le, drop-append-le, drop-append-add, getD-take, getD-drop}
+use borrow.Author.Tests.{lt-ltb, le-leb}
 use Rattle.laws.proofs.TestLaws.{true-of-T, T-of-true, T-and-left, T-and-right, cond-elim}
 use Rattle.frame.specs.Frame.{frameCount, frameStart, hasFrame, frameAt, putFrame, isObject, kindNumber}
 use Rattle.frame.specs.Place.{framePlace}
@@ -26,6 +27,11 @@ le-of-hasFrame n l e =
 -- so that it lies in the buffer
 pub fits-of-hasFrame : (n l : ℕ) → hasFrame n l ≡ true → (1 ≤ l) × (frameStart l + 96 ≤ n)
 fits-of-hasFrame n l e = let g = le-of-hasFrame n l e in (omega arith, omega arith)
+
+-- a buffer with room for n frames has those of the levels up to n
+pub hasFrame-of-le : (n size l : ℕ) → n ≤ 64 → 96 * n ≤ size → 1 ≤ l → l ≤ n → hasFrame size l ≡ true
+unfolding hasFrame
+hasFrame-of-le n size l few long lo hi = rw (lt-ltb 0 l lo, le-leb l (frameCount size) (omega arith))
 
 -- a place before the end is that of a frame
 pub frame-of-place : (n l a : ℕ) → a ≡ framePlace n l → a < n → (hasFrame n l ≡ true) × (a ≡ frameStart l)

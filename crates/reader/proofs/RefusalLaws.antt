@@ -4,11 +4,11 @@ use mathlib.Core.List.{List, [], _∷_}
 use mathlib.Core.Path.{_≡_, refl, sym, _∙_}
 use Prim.Native.Nat.{ℕ, _*_, _<_, _≤_}
 use native.Mathlib.Omega.{arith}
-use lib.Dec.{leb}
+use lib.Dec.{leb, leb→le}
 use borrow.Author.Tests.{le-leb, lt-leb, leb-true}
 use Rattle.table.specs.Table.{Table}
 use Rattle.table.specs.Limits.{withinLimits}
-use Rattle.laws.proofs.TestLaws.{true-neq-false}
+use Rattle.laws.proofs.TestLaws.{true-neq-false, T-of-true, T-and-left, T-and-right}
 use Rattle.reader.specs.declared.Refusal.{Refusal}
 use Rattle.reader.specs.declared.Refusal.the-variants as No
 use Rattle.reader.specs.declared.Gate.{Gate}
@@ -83,11 +83,15 @@ module _ (t : Table) (n : ℕ) where
   unfolding startGate firstRefusal
   start-open-of-room e h = rw (e, le-leb 96 n h)
 
--- a call whose gate is open has a table within its limits, and a buffer with all frames of its reader
+-- a call whose gate is open has a table within its limits, a reader within its bounds, and a buffer with all frames of its reader
 module _ (within : Bool) (f : ℕ) (t : Table) (n : ℕ) where
   pub table-of-call : callGate within f t n ≡ Is.Open → withinLimits t ≡ true
   unfolding callGate
   table-of-call e = first-of-open _ _ e
+
+  pub reader-of-call : callGate within f t n ≡ Is.Open → within ≡ true
+  unfolding callGate
+  reader-of-call e = first-of-open _ _ (rest-of-open _ _ e)
 
   pub room-of-call : callGate within f t n ≡ Is.Open → 96 * f ≤ n
   unfolding callGate
@@ -132,15 +136,22 @@ module _ (f l k : ℕ) where
   unfolding fitReader
   fit-none a = rw (lt-leb 1 f a)
 
-  -- a reader within its bounds has at most 64 frames
-  pub frames-le : (v : Bool) → v ≡ fitReader f l k → v ≡ true → f ≤ 64
+  -- the bounds of a reader that is within them
+  pub bounds-of-fit : fitReader f l k ≡ true → (1 ≤ f) × (f ≤ 64) × (l ≤ f) × (k ≤ 33)
   unfolding fitReader
-  frames-le v p e = go (leb 1 f) (leb f 64) refl (sym p ∙ e)
-    where
-      go : (a b : Bool) → leb f 64 ≡ b → (a && (b && (leb l f && leb k 33))) ≡ true → f ≤ 64
-      go true true p q = leb-true f 64 p
-      go true false p q = true-neq-false (sym q)
-      go false b p q = true-neq-false (sym q)
+  bounds-of-fit e =
+      let a = T-of-true (leb 1 f && (leb f 64 && (leb l f && leb k 33))) e in
+      let b = T-and-right (leb 1 f) (leb f 64 && (leb l f && leb k 33)) a in
+      let c = T-and-right (leb f 64) (leb l f && leb k 33) b in (
+        leb→le 1 f (T-and-left (leb 1 f) _ a),
+        leb→le f 64 (T-and-left (leb f 64) _ b),
+        leb→le l f (T-and-left (leb l f) (leb k 33) c),
+        leb→le k 33 (T-and-right (leb l f) (leb k 33) c),
+      )
+
+  -- so it has at most 64 frames
+  pub frames-le : (v : Bool) → v ≡ fitReader f l k → v ≡ true → f ≤ 64
+  frames-le v p e = bounds-of-fit (sym p ∙ e) .1
 
 -- ---- the gates by the code's tests: first the table, then the rest
 

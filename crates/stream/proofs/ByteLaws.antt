@@ -22,7 +22,7 @@ use Rattle.progress.proofs.ActLaws.{levelAfter-le, lenAfter-le}
 use Rattle.progress.specs.Count.{bump}
 use Rattle.progress.specs.Progress.{counted, faulted, actedBy, sound, byFault, advanced}
 use Rattle.progress.specs.Memory.{Mem, topAt, advancedAt, stepMem, endsRecord, Ran, runMem}
-use Rattle.progress.proofs.MemoryLaws.{progress-of-perform, fresh-of-RS}
+use Rattle.progress.proofs.MemoryLaws.{progress-perform, fresh-of-RS}
 use Rattle.laws.proofs.TestLaws.{cond-elim}
 
 -- no more open levels than n, and at most 33 characters of a key
@@ -88,7 +88,7 @@ module _ (t : Table) (n : ℕ) (m : Mem) where
   pub moves-of-byte : (b : ℕ) → eqb b 0x1E ≡ false → Moves n (m .progress) (stepMem t n m b .progress)
   unfolding stepMem
   moves-of-byte b e =
-      rw (progress-of-perform (advancedAt n m b .task) t m (advancedAt n m b .progress))
+      rw (progress-perform (advancedAt n m b .task) t m (advancedAt n m b .progress))
       (moves-advanced n (m .progress) b (stepOf (m .progress .mode) (topAt (m .work) (m .progress .level)) b) e)
 
   -- a byte keeps the bounds

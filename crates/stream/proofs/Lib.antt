@@ -8,4 +8,11 @@ pub mod JudgeLaws
 pub mod RecordLaws
 pub mod Corollaries
 pub mod TallyLaws
+pub mod LexerLaws
+pub mod FedLaws
+pub mod SpareLaws
+pub mod TaskLaws
+pub mod NumberLaws
+pub mod SoundLaws
+pub mod LentLaws
 pub mod Examples

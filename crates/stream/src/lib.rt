@@ -1,1 +1,1 @@
-// Demand 3, from what is known of single bytes: definitions and theorems only.
+// Demand 3, from what is known of single bytes, and what feed and close write in the lent buffer: definitions and theorems only.

@@ -64,7 +64,7 @@ pub struct Advanced {
     pub task: Task,
 }
 
-// Nothing is read of a record.
+// Nothing is read of a record, in the head or after an RS. Ruled out: a record that begins with an open value, and one that begins with a fault.
 pub fn fresh(head: bool) -> Progress
     ensures { λ r. ⌜ r ≡ freshProgress head ⌝ }
 {

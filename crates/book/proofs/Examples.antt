@@ -38,10 +38,10 @@ cases =
     ∷ case 3 2 (namesLine ++ (ascii "0 obj 0 a int 1 1\n"))  -- 3: seven fields
     ∷ case 3 2 (namesLine ++ (ascii "0 obj 0  a int 1\n"))  -- 3: two spaces
     ∷ case 3 2 (namesLine ++ (ascii "0 obj 0 a int 1\r\n"))  -- 3: CR before LF
-    ∷ case 3 3 (namesLine ++ (ascii "0 obj 0 a int 1\n\n"))  -- 3: an empty line behind a good one
+    ∷ case 3 3 (namesLine ++ (ascii "0 obj 0 a int 1\n\n"))  -- 3: an empty line after a good one
     ∷ case 3 3 (namesLine ++ (ascii "0 obj 0 a int 1\n0 obj 1 - end -"))  -- 3: the last LF is missing
     ∷ case 3 2 (namesLine ++ (ascii "00 obj 0 a int 1\n"))  -- 3: a leading zero
-    ∷ case 3 2 (namesLine ++ (ascii "0 obj 0 a r01 1\n"))  -- 3: a leading zero behind r
+    ∷ case 3 2 (namesLine ++ (ascii "0 obj 0 a r01 1\n"))  -- 3: a leading zero after r
     ∷ case 3 2 (namesLine ++ (ascii "0 obj 0 a r 1\n"))  -- 3: r alone
     ∷ case 3 2 (namesLine ++ (ascii "0 set 0 a int 1\n"))  -- 3: a form that is none
     ∷ case 3 2 (namesLine ++ (ascii "0 obj 0 a bool 1\n"))  -- 3: a value that is none

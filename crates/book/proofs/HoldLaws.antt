@@ -68,7 +68,7 @@ edgesFrom-append ks n (end-state r f q ∷ es) fs =
     let ih = edgesFrom-append ks (suc n) es fs in
     ih ∙ rw z
 
--- keys that come behind change no edge
+-- keys that come later change no edge
 pub edgesFrom-keys : (ks more : List (List ℕ)) (n : ℕ) (es : List Entry) → Each (KeyIn ks) es → edgesFrom (ks ++ more) n es ≡ edgesFrom ks n es
 unfolding edgesFrom
 edgesFrom-keys ks more n [] h = refl

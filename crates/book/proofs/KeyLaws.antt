@@ -57,7 +57,7 @@ numberOf-new (x ∷ ks) k = rw (same-sym x k) (go (same k x) (numberOf-new ks k)
     go true h = ne-eqb 0 (suc (length ks)) (λ e. omega arith)
     go false h = eqb-suc (numberOf ks k) (length ks) ∙ h
 
--- keys that come behind change no number
+-- keys that come later change no number
 pub numberOf-append : (ks more : List (List ℕ)) (k : List ℕ) → any (same k) ks ≡ true → numberOf (ks ++ more) k ≡ numberOf ks k
 unfolding numberOf any
 numberOf-append [] more k e = true-not-false false e refl
@@ -98,7 +98,7 @@ numberOf-eqb (y ∷ ks) a b e = go (same y b) (same y a) refl refl (numberOf-eqb
 
 -- ---- the keys of a book
 
--- a key is among the keys behind it
+-- a key is among the keys after it
 pub key-in-withKey : (ks : List (List ℕ)) (b : ℕ) (k : List ℕ) → any (same (b ∷ k)) (withKey ks (b ∷ k)) ≡ true
 unfolding withKey
 key-in-withKey ks b k = go (any (same (b ∷ k)) ks) refl
@@ -107,7 +107,7 @@ key-in-withKey ks b k = go (any (same (b ∷ k)) ks) refl
     go true e = e
     go false e = any-last (same (b ∷ k)) ks (b ∷ k) ∙ rw (same-self (b ∷ k)) (or-true (any (same (b ∷ k)) ks))
 
--- the keys behind an entry
+-- the keys after an entry
 abbrev pub addKey : List (List ℕ) → Entry → List (List ℕ)
 addKey ks (edge r f q k v m) = withKey ks k
 addKey ks (end-state r f q) = ks
@@ -123,7 +123,7 @@ pub keysOf-last : (es : List Entry) (e : Entry) → keysOf (es ++ (e ∷ [])) �
 unfolding keysOf
 keysOf-last es e = keysFrom-last [] es e
 
--- keys are only added behind
+-- keys are only added at the end
 withKey-append : (ks : List (List ℕ)) (k : List ℕ) → (more : List (List ℕ)) × (withKey ks k ≡ ks ++ more)
 unfolding withKey
 withKey-append ks [] = ([], sym (append-nil ks))

@@ -28,7 +28,7 @@ one-digit : (b : ℕ) → isDigit b ≡ true → all isDigit (b ∷ []) ≡ true
 unfolding all
 one-digit b z = rw z
 
--- behind a larger number as many digits mean more
+-- after a larger number as many digits mean more
 numberFrom-lt : (s t : List ℕ) (a b : ℕ) → length s ≡ length t → Digits s → Digits t → a < b → numberFrom a s < numberFrom b t
 unfolding numberFrom
 numberFrom-lt [] [] a b l p q h = h
@@ -76,7 +76,7 @@ none : numberFrom (0 * 10 + (48 - 48)) [] ≡ 0
 unfolding numberFrom
 none = omega arith
 
--- a first digit and more, where `0` has none behind it
+-- a first digit and more, where `0` has none after it
 module _ (d e : ℕ) (s t : List ℕ) (d1 : 48 ≤ d) (d2 : d ≤ 57) (e1 : 48 ≤ e) (e2 : e ≤ 57) (ds : Digits s) (dt : Digits t)
     (zs : d ≡ 48 → s ≡ []) (zt : e ≡ 48 → t ≡ []) (h : numberFrom (0 * 10 + (d - 48)) s ≡ numberFrom (0 * 10 + (e - 48)) t) where
   longer : (d ≡ 48 → ⊥) → (e ≡ 48 → ⊥) → (length s ≡ length t → ⊥) → ⊥

@@ -1,4 +1,4 @@
--- What the lines of a book say: 01, "Rule books". Stated. Assumes nothing.
+-- What the lines of a book say: REQUIREMENT.md, section 3. Stated. Assumes nothing.
 use mathlib.Core.Bool.{Bool, true, false, not, cond, _&&_}
 use mathlib.Core.List.{List, [], _∷_, _++_}
 use Prim.Native.Nat.{ℕ}
@@ -25,7 +25,7 @@ pub data Entry : Type 0 where
 
 -- ---- keys are numbered by first appearance
 
--- a key behind the keys so far, where it is a new one
+-- a key after the keys so far, where it is a new one
 unfoldable pub withKey : List (List ℕ) → List ℕ → List (List ℕ)
 withKey ks [] = ks
 withKey ks (b ∷ k) = cond (any (same (b ∷ k)) ks) ks (ks ++ ((b ∷ k) ∷ []))

@@ -1,4 +1,4 @@
--- What it means that a table holds the entries of a book: 01, "Four questions about the promises": rules, edges, end states and keys.
+-- What it means that a table holds the entries of a book: REQUIREMENT.md, section 3: its rules, edges, end states and keys.
 -- Stated. Assumes nothing.
 use mathlib.Core.Bool.{Bool, false, cond, _&&_}
 use mathlib.Core.List.{List, [], _∷_}

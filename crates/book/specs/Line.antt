@@ -1,4 +1,4 @@
--- One line of a book, by itself: its six fields, what each may be, and what the line says. 01, "Rule books". Stated. Assumes nothing.
+-- One line of a book, by itself: its six fields, what each may be, and what the line says. REQUIREMENT.md, section 3. Stated. Assumes nothing.
 use mathlib.Core.Bool.{Bool, true, false, not, cond, _&&_, _||_}
 use mathlib.Core.List.{List, [], _∷_}
 use Prim.Native.Nat.{ℕ}

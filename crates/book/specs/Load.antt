@@ -1,4 +1,4 @@
--- Loading a book on paper: 01, "The stream", Load, refusals 1 to 9 in their order. Stated. Assumes nothing.
+-- Loading a book on paper: REQUIREMENT.md, section 3, load, refusals 1 to 9 in their order. Stated. Assumes nothing.
 use mathlib.Core.Bool.{Bool, true, false, not, cond, _&&_, _||_}
 use mathlib.Core.List.{List, [], _∷_, _++_}
 use Prim.Native.Nat.{ℕ, suc, _+_}
@@ -48,11 +48,11 @@ edgeCount (e ∷ es) = cond (isEdge e) (suc (edgeCount es)) (edgeCount es)
 
 -- ---- line by line
 
--- an edge more than 512, or a key more than 128, behind the entries so far
+-- an edge more than 512, or a key more than 128, after the entries so far
 unfoldable pub tooMany : List Entry → Entry → Bool
 tooMany es e = isEdge e && (leb 512 (edgeCount es) || ltb 128 (length (keysOf (es ++ (e ∷ [])))))
 
--- refusals 6, 7 and 5 of an entry behind the entries so far; 0 is none
+-- refusals 6, 7 and 5 of an entry after the entries so far; 0 is none
 unfoldable pub faultOf : List Entry → Entry → ℕ
 faultOf es e = cond (any (changesForm e) es) 6 (cond (any (sameEntry e) es) 7 (cond (tooMany es e) 5 0))
 
@@ -61,12 +61,12 @@ pub data Read : Type 0 where
   refused : ℕ → ℕ → Read
   entries : List Entry → Read
 
--- what a line comes to behind the entries so far, and then the rest of the book; n is its line
+-- what a line comes to after the entries so far, and then the rest of the book; n is its line
 unfoldable pub readOn : List Entry → ℕ → Said → (Entry → Read) → Read
 readOn es n (bad k) rest = refused k n
 readOn es n (good e) rest = cond (eqb (faultOf es e) 0) (rest e) (refused (faultOf es e) n)
 
--- the lines behind the entries so far. The names line is 1, so the next is that of their number and 2. The last part is what follows the
+-- the lines after the entries so far. The names line is 1, so the next is that of their number and 2. The last part is what follows the
 -- last LF: nothing, or a line that lacks it
 unfoldable pub readLines : List Entry → List (List ℕ) → Read
 readLines es [] = entries es
@@ -104,7 +104,7 @@ dangles es (end-state r f q) = false
 unfoldable pub clashes : List (List ℕ) → Entry → Entry → Bool
 clashes ks a b = clash ks b a || clash ks a b
 
--- the line of the first entry that clashes with an earlier one or with itself, behind the entries so far, the first being on line n
+-- the line of the first entry that clashes with an earlier one or with itself, after the entries so far, the first being on line n
 unfoldable pub firstClash : List (List ℕ) → ℕ → List Entry → List Entry → ℕ
 firstClash ks n seen [] = 0
 firstClash ks n seen (e ∷ es) = cond (any (clashes ks e) (seen ++ (e ∷ []))) n (firstClash ks (suc n) (seen ++ (e ∷ [])) es)

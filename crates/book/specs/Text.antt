@@ -1,4 +1,4 @@
--- Byte strings of a book: the parts between separators, and numbers in digits. 01, "Rule books". Stated. Assumes nothing.
+-- Byte strings of a book: the parts between separators, and numbers in digits. REQUIREMENT.md, section 3. Stated. Assumes nothing.
 use mathlib.Core.Bool.{Bool, true, false, not, cond, _&&_, _||_}
 use mathlib.Core.List.{List, [], _∷_}
 use Prim.Native.Nat.{ℕ, _+_, _*_, _-_}
@@ -33,7 +33,7 @@ unfoldable pub isNumber : List ℕ → Bool
 isNumber [] = false
 isNumber (d ∷ s) = isDigit d && (all isDigit s && (not (eqb d 48) || isEmpty s))
 
--- what digits mean behind digits that mean a
+-- what digits mean after digits that mean a
 unfoldable pub numberFrom : ℕ → List ℕ → ℕ
 numberFrom a [] = a
 numberFrom a (d ∷ s) = numberFrom (a * 10 + (d - 48)) s

@@ -33,7 +33,7 @@ pub fn char_start(k: Class) -> StringMove
     }
 }
 
-// The character that a byte behind a backslash stands for; 0 for none.
+// The character that a byte after a backslash stands for; 0 for none.
 pub fn unescape(b: u8) -> u8
     ensures { λ r. ⌜ r ≡ unescape b ⌝ }
 {
@@ -64,7 +64,7 @@ pub fn unescape(b: u8) -> u8
     0
 }
 
-// The byte behind a backslash.
+// The byte after a backslash.
 pub fn escape_move(b: u8) -> StringMove
     ensures { λ r. ⌜ r ≡ escapeMove b ⌝ }
 {
@@ -122,7 +122,7 @@ fn unit1(h: u8) -> StringMove
     any_hex(h, StringMove::Go(StringMode::Unit2))
 }
 
-// The second digit behind a D: no surrogate, or a high one.
+// The second digit after a D: no surrogate, or a high one.
 fn unit_d(h: u8) -> StringMove
     ensures { λ r. ⌜ r ≡ unitD h ⌝ }
 {
@@ -224,7 +224,7 @@ fn lead_bits(b: u8) -> u8
     b - 0xF0
 }
 
-// Six more bits, of a byte behind the first.
+// Six more bits, of a byte after the first.
 fn tail_bits(bits: u32, b: u8) -> u32
     ensures { λ r. ⌜ r ≡ tailBits bits b ⌝ }
 {

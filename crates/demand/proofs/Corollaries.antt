@@ -49,7 +49,7 @@ module _ (es : List Entry) (n : ℕ) (least : 1 ≤ n) (most : n ≤ 64) where
       → verdictsIn (answers r cs) ≡ verdictsIn (answers q ds)
   same-verdicts-of-same-bytes x y = of-bytes.same-verdicts-of-same-bytes reading es n least most x y
 
-  -- a record has the verdict that it has alone, between those of what stands before and behind it
+  -- a record has the verdict that it has alone, between those of what stands before and after it
   pub record-alone : {r : Reader} {cs : List Call} {v : Verdict} (a p z : List ℕ) → nonempty p ≡ true → noRS p ≡ true → Judged es n p v
       → StreamOf Book es n r cs (a ++ (0x1E ∷ (p ++ (0x1E ∷ z))))
       → verdictsIn (answers r cs) ≡ verdictsOf (judgeOf es n) a ++ (v ∷ verdictsBehind (judgeOf es n) z)

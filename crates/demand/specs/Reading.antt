@@ -1,5 +1,5 @@
--- The verdicts that a caller gets who feeds what is unread of his bytes, piece by piece, and closes at their end: 01, "The stream". Stated.
--- Assumes nothing.
+-- The verdicts that a caller gets who feeds what is unread of his bytes, piece by piece, and closes at their end: REQUIREMENT.md, sections 1 and 7.
+-- Stated. Assumes nothing.
 use mathlib.Core.List.{List, [], _++_}
 use Prim.Native.Nat.{ℕ}
 use lib.ListN.{drop}
@@ -13,7 +13,7 @@ use Rattle.stream.specs.Records.{andThen}
 pub data Reads (t : Table) : Reader → List ℕ → List ℕ → List Verdict → Type 0 where
   -- the bytes end
   ended : {r : Reader} {w : List ℕ} → Reads t r w [] (andThen (closeOf r t w .answer) [])
-  -- a piece s is fed, and what is unread of it stands before the bytes u behind it
+  -- a piece s is fed, and what is unread of it stands before the bytes u after it
   fed : {r : Reader} {w : List ℕ} {vs : List Verdict} (s u : List ℕ)
       → Reads t (feedOf r t w s .reader) (feedOf r t w s .work) (drop (feedOf r t w s .count) s ++ u) vs
       → Reads t r w (s ++ u) (andThen (feedOf r t w s .answer) vs)

@@ -39,7 +39,7 @@ module _ (o : List ℕ) (at : ℕ) (bs now : List ℕ) (i k n : ℕ) where
 
 -- ---- an entry
 
--- a byte, with the place behind it named
+-- a byte, with the place after it named
 byte : (o : List ℕ) (at b behind : ℕ) → at + 1 ≡ behind → Put o at (b ∷ []) (set o at b) behind
 byte o at b behind e = rw e at (put-byte o at b)
 

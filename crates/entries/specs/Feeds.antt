@@ -33,7 +33,7 @@ isRefused (Says.Refused n) = true
 
 -- ---- feeds
 
--- the reader and the work buffer behind some feeds, the bytes of the stream read by then, and the entries
+-- the reader and the work buffer after some feeds, the bytes of the stream read by then, and the entries
 pub record Fed : Type 0 where
   pub reader : Reader
   pub work : List ℕ
@@ -52,7 +52,7 @@ pieceEnd size read n = cond (eqb size 0) n (cond (ltb (n - read) (size - read % 
 abbrev pub stopped : Reader → List ℕ → ℕ → Fed
 stopped r w read = record { reader = r; work = w; read = read; entries = [] }
 
--- the entry of a feed, then those of the feeds behind it
+-- the entry of a feed, then those of the feeds after it
 abbrev pub entriesThen : List Entry → Fed → Fed
 entriesThen es x = record { reader = x .reader; work = x .work; read = x .read; entries = es ++ x .entries }
 
@@ -78,7 +78,7 @@ pub record Feeds (f : Fed) (o : List ℕ) (reader : Reader) (work : List ℕ) (r
 
 -- ---- a stream
 
--- the work buffer and the entries behind the close
+-- the work buffer and the entries after the close
 pub record StreamEntries : Type 0 where
   pub work : List ℕ
   pub entries : List Entry

@@ -49,7 +49,7 @@ shows-answer Says.Quiet read es vs h x = x
 shows-answer (Says.Judged v) read es vs h x = next v read x
 shows-answer (Says.Refused k) read es vs h x = absurd (h k refl)
 
--- ---- the bytes behind a piece
+-- ---- the bytes after a piece
 
 abbrev behind : ℕ → ℕ → List ℕ → List ℕ
 behind size read s = cond (eqb size 0) [] (drop (size - read % size) s)
@@ -88,7 +88,7 @@ module _ (t : Table) (es : List Entry) (book : Book t es) (n : ℕ) (least : 1 �
               (shows-answer a read [] [] (close-served t es book n least most r w g long) none);
         }
 
-    -- a feed, then what is unread behind it
+    -- a feed, then what is unread after it
     shown-of-feed : (k : ℕ) (s : List ℕ) → 0 < length s → (o : Outcome) → o ≡ feedOf r t w (pieceOf size read s)
         → Shown (o .reader) (o .work) (drop (o .count) s) (closes t (feeds k t size (o .reader) (o .work) (read + o .count) (drop (o .count) s)) .entries)
         → Shown r w s (closes t (feeds (suc k) t size r w read s) .entries)

@@ -43,7 +43,7 @@ pub keyKept-high : (key s : List ℕ) (c : ℕ) → ltb c 128 ≡ false → KeyK
 keyKept-high key s c e = none-kept refl (noKey-high s c e)
 
 module _ {key : List ℕ} {len : ℕ} {s : List ℕ} where
-  -- a character below 128 is put behind those kept, where there is room
+  -- a character below 128 is put after those kept, where there is room
   pub keyKept-put : (c : ℕ) → length key ≡ 32 → len < 32 → KeyKept key len s → KeyKept (set key len c) (len + 1) (s ++ (c ∷ []))
   keyKept-put c long h (all-kept e l p) =
       all-kept (rw length-append (omega arith)) (omega arith)

@@ -1,4 +1,4 @@
--- Where a byte leaves the memory: behind each task the memory tracks the state behind the machine's act. Assumes nothing.
+-- Where a byte leaves the memory: after each task the memory tracks the state after the machine's act. Assumes nothing.
 use mathlib.Core.Bool.{Bool, false}
 use mathlib.Core.List.{List}
 use mathlib.Core.Path.{_≡_, refl, sym, _∙_}

@@ -1,4 +1,4 @@
--- What the lexer does with the first byte of a value and with a byte behind one: a claim about every step that may come is one about the step
+-- What the lexer does with the first byte of a value and with a byte after one: a claim about every step that may come is one about the step
 -- that comes. Assumes nothing.
 use mathlib.Core.Bool.{not}
 use Prim.Native.Nat.{ℕ}
@@ -38,7 +38,7 @@ module _ (Q : Step → Type 0) (b : ℕ) where
       cond-elim Q (eqb b 0x6E) (λ _. word W.Null) (λ _. cond-elim Q (eqb b 0x74) (λ _. word W.True) (λ _.
       cond-elim Q (eqb b 0x66) (λ _. word W.False) (λ _. fault)))))))))
 
-  -- a byte behind a value: only where something is open, it goes on or closes
+  -- a byte after a value: only where something is open, it goes on or closes
   pub afterValue-elim : (𝕄 : Meaning) (k : Stack 𝕄) → Q faultStep → Q (stay P.After) → (Opened 𝕄 k → Q (stay P.Value)) → (Opened 𝕄 k → Q (stay P.Key))
       → (Opened 𝕄 k → Q (stepTo (M.At P.After) A.Close)) → Q (afterValue (topOf 𝕄 k) b)
   unfolding afterRoot afterElement afterPair

@@ -74,7 +74,7 @@ module _ (t : Table) (n : ℕ) where
   one-le-pos-more m (b ∷ p) h l =
       one-le-pos-more (stepMem t n m b) p (h .1) (omega (arith, counts-stepMem t n m b (h .0) .pos, one-le-bump (m .progress .pos)))
 
-  -- behind a byte at least one is counted
+  -- after a byte at least one is counted
   pub one-le-pos : (m : Mem) (b : ℕ) (p : List ℕ) → NoRS (b ∷ p) → 1 ≤ readPart t n m (b ∷ p) .progress .pos
   one-le-pos m b p h =
       one-le-pos-more (stepMem t n m b) p (h .1) (omega (arith, counts-stepMem t n m b (h .0) .pos, one-le-bump (m .progress .pos)))
@@ -89,7 +89,7 @@ module _ (t : Table) (n : ℕ) where
   readPart-last m [] b = refl
   readPart-last m (c ∷ p) b = readPart-last (stepMem t n m c) p b
 
-  -- a piece that begins with bytes other than RS is read on behind them
+  -- a piece that begins with bytes other than RS is read on after them
   pub runMem-part : (m : Mem) (i : ℕ) (p s : List ℕ) → NoRS p → runMem t n m i (p ++ s) ≡ runMem t n (readPart t n m p) (i + length p) s
   unfolding runMem endsRecord
   runMem-part m i [] s h = rw add-zero

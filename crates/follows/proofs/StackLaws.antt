@@ -101,7 +101,7 @@ module _ {t : Table} {es : List Entry} (kept : Carries t es) (n : ℕ) (few : n 
 -- ---- the root
 
 module _ (es : List Entry) where
-  -- what holds of a root that is not finished holds behind a value too
+  -- what holds of a root that is not finished holds after a value too
   pub anyRoot-of-noRoot : (root : Bool) (k : Stack (judging es)) → NoRoot es root k → AnyRoot es root k
   anyRoot-of-noRoot root bare h = h
   anyRoot-of-noRoot root (whole v) h = absurd h

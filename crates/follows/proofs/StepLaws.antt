@@ -106,7 +106,7 @@ opened-finish es v (in-object x k) o = tt
 
 -- ---- one step of the lexer
 
--- the memory at mode m, the state behind a step, and the claim that the one tracks the other
+-- the memory at mode m, the state after a step, and the claim that the one tracks the other
 module _ (t : Table) (es : List Entry) (n : ℕ) (g : Token (judging es)) (k : Stack (judging es)) (i place len : ℕ) (root : Bool) (key w : List ℕ) (b : ℕ) (m : Mode) where
   abbrev before : Progress
   before = lexAt m (depth (judging es) k) i place (g .bits) (g .high) len

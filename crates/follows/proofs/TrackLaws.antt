@@ -114,7 +114,7 @@ module _ (es : List Entry) (i : ℕ) where
   whole-number x g (in-array S k) root r = rw (ne-eqb (suc (depth (judging es) k)) 0 (λ e. omega arith)) (unfinished-number (mayEnd x))
   whole-number x g (in-object o k) root r = rw (ne-eqb (suc (depth (judging es) k)) 0 (λ e. omega arith)) (unfinished-number (mayEnd x))
 
-  -- behind a value with nothing open the root decides
+  -- after a value with nothing open the root decides
   whole-after : (g : Token (judging es)) (k : Stack (judging es)) (root : Bool) → Begun (judging es) k → AnyRoot es root k
       → cond (eqb (depth (judging es) k) 0) (cond root Is.Valid Is.Invalid) (Is.Unfinished i) ≡ verdictOf es (result (judging es) (at (M.At P.After) g k)) i
   unfolding verdictOf

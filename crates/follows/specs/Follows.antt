@@ -105,7 +105,7 @@ module _ (es : List Entry) where
   AnyRoot root (in-array S k) = NoRoot root k
   AnyRoot root (in-object o k) = NoRoot root k
 
-  -- a root is finished only behind a value
+  -- a root is finished only after a value
   abbrev pub ShowsRoot : Mode → Bool → Stack (judging es) → Type 0
   ShowsRoot (M.At P.Value) root k = NoRoot root k
   ShowsRoot (M.At P.First) root k = NoRoot root k
@@ -117,7 +117,7 @@ module _ (es : List Entry) where
   ShowsRoot (M.Number m) root k = NoRoot root k
   ShowsRoot (M.Word x i) root k = NoRoot root k
 
-  -- with n frames: the state at mode m behind i bytes, beside the characters kept, the root and the buffer
+  -- with n frames: the state at mode m after i bytes, beside the characters kept, the root and the buffer
   pub record Shown (n : ℕ) (m : Mode) (g : Token (judging es)) (k : Stack (judging es)) (i len : ℕ) (root : Bool) (key w : List ℕ) : Type 0 where
     -- the limits on bytes and levels
     pub short : i ≤ longest
@@ -132,7 +132,7 @@ module _ (es : List Entry) where
     pub text : ShowsText m key len (g .string)
     pub number : ShowsNumber m (g .number)
 
-  -- a memory follows a state behind i bytes
+  -- a memory follows a state after i bytes
   pub data Follows (n : ℕ) : Mem → State (judging es) → ℕ → Type 0 where
     follows : {m : Mode} {g : Token (judging es)} {k : Stack (judging es)} {i place len : ℕ} {root : Bool} {key w : List ℕ}
         → Shown n m g k i len root key w
@@ -140,7 +140,7 @@ module _ (es : List Entry) where
 
   -- ---- tracks
 
-  -- a memory keeps a track: it follows the state, or is stopped with the verdict, behind at least one byte
+  -- a memory keeps a track: it follows the state, or is stopped with the verdict, after at least one byte
   pub data Tracks (n : ℕ) : Mem → Track es → Type 0 where
     on-track : {m : Mem} {q : State (judging es)} {i : ℕ} → Follows n m q i → Tracks n m (sound q i)
     off-track : {m : Mem} {v : Verdict} → m .progress .head ≡ false → FaultIs v (m .progress) → 1 ≤ m .progress .pos → Tracks n m (stopped v)

@@ -1,4 +1,4 @@
--- The work buffer under book B of 01, byte by byte, along the steps of a few texts: computed, in one table. Assumes nothing.
+-- The work buffer under book B, byte by byte, along the steps of a few texts: computed, in one table. Assumes nothing.
 use mathlib.Core.Bool.{Bool, true, false, _&&_}
 use mathlib.Core.List.{List, [], _∷_}
 use mathlib.Core.Path.{_≡_, refl}

@@ -116,7 +116,7 @@ part-front p x b m h =
 abbrev put : ℕ → List ℕ → List ℕ → List ℕ
 put a w f = take a w ++ (f ++ drop 96 (drop a w))
 
--- 96 bytes put at a place leave what lies before and behind them
+-- 96 bytes put at a place leave what lies before and after them
 module _ (a : ℕ) (w f : List ℕ) (fits : a + 96 ≤ length w) (long : length f ≡ 96) where
   put-length : length (put a w f) ≡ length w
   put-length = simp (length-append, length-drop, length-take-le a w (omega arith)) (omega arith)

@@ -33,7 +33,7 @@ any-tab-same g h i j (suc n) e =
     ∙ ap (λ (b : Bool). h j || b)
     (any-tab-same g h (suc i) (suc j) n (λ k l. ap g (suc-add i k ∙ sym (add-suc i k)) ∙ e (suc k) (omega arith) ∙ ap h (add-suc j k ∙ sym (suc-add j k))))
 
--- some number of two runs, one behind the other
+-- some number of two runs, one after the other
 pub any-append : {A : Type 0} (g : A → Bool) (xs ys : List A) → any g (xs ++ ys) ≡ (any g xs || any g ys)
 unfolding any
 any-append g [] ys = refl

@@ -1,4 +1,4 @@
--- The edges of a table as its frames read them: 01, "Rule books" and "Runs". Stated. Assumes nothing.
+-- The edges of a table as its frames read them: REQUIREMENT.md, sections 3 and 4. Stated. Assumes nothing.
 use mathlib.Core.Bool.{Bool, _&&_}
 use mathlib.Core.List.{List}
 use Prim.Native.Nat.{ℕ, _+_, _*_, min}

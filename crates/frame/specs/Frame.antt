@@ -1,4 +1,4 @@
--- The frames of a work buffer and the parts of a frame: 01, "Frames". Stated. Assumes nothing.
+-- The frames of a work buffer and the parts of a frame: REQUIREMENT.md, section 5. Stated. Assumes nothing.
 use mathlib.Core.Bool.{Bool, cond, _&&_}
 use mathlib.Core.List.{List, [], _++_}
 use Prim.Native.Nat.{ℕ, _+_, _*_, _-_, _/_, min}

@@ -1,4 +1,4 @@
--- What opening, a finished key, a finished value and closing do to a frame: 01, "Frames". Stated. Assumes nothing.
+-- What opening, a finished key, a finished value and closing do to a frame: REQUIREMENT.md, section 5. Stated. Assumes nothing.
 use mathlib.Core.Bool.{Bool, true, false, cond, _&&_}
 use mathlib.Core.List.{List, _∷_, _++_}
 use Prim.Native.Nat.{ℕ, zero, suc, _+_, _*_, _^_}
@@ -73,7 +73,8 @@ unfoldable pub ruleSet : (ℕ → Bool) → ℕ → ℕ
 ruleSet p zero = 0
 ruleSet p (suc n) = cond (p n) (2 ^ n + ruleSet p n) (ruleSet p n)
 
--- the rules that the value of a frame fits, rule N at bit N: of an object by the walk over its keys, and none with byte 2 at 1; of an array by its states
+-- the rules that the value of a frame fits, rule N at bit N: of an object by the walk over its keys, and none with byte 2 at 1; of an array by its
+-- states
 unfoldable pub closed : Edges → List ℕ → List ℕ → List ℕ → ℕ
 closed t forms ends f =
     cond (isObject f)

@@ -1,4 +1,4 @@
-// Closing: 01, "Frames".
+// Closing: REQUIREMENT.md, section 5.
 use crate::FRAME;
 use crate::edge;
 use crate::open;

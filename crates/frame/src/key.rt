@@ -1,4 +1,4 @@
-// A finished key: 01, "Frames".
+// A finished key: REQUIREMENT.md, section 5.
 use table::bits;
 ghost use mathlib.Core.Path.{_≡_};
 ghost use lib.ListN.{length};

@@ -1,4 +1,4 @@
-// Opening: 01, "Frames".
+// Opening: REQUIREMENT.md, section 5.
 use crate::FRAME;
 use table::bits;
 use table::bytes;

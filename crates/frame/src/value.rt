@@ -1,4 +1,4 @@
-// A finished value: 01, "Frames".
+// A finished value: REQUIREMENT.md, section 5.
 use crate::FRAME;
 use crate::edge;
 use crate::mask;

@@ -1,5 +1,5 @@
 -- The machine accepts every text of the grammar, with its meaning: `accepted-of-text`. By induction on the grammar: from the place where a
--- phrase begins, the machine comes to the place behind it, the phrase's meaning joined to the innermost open value. Assumes nothing.
+-- phrase begins, the machine comes to the place after it, the phrase's meaning joined to the innermost open value. Assumes nothing.
 use mathlib.Core.Bool.{Bool, true, false, not}
 use mathlib.Core.List.{List, [], _∷_}
 use mathlib.Core.Path.{_≡_, refl}
@@ -31,9 +31,9 @@ use Rattle.json.proofs.NumberLaws.{NumberFrom, ends-here, goes-on, Star
 use Rattle.json.proofs.StringLaws.{move-of-goes as string-move-of-goes, move-of-ends as string-move-of-ends}
 use Rattle.json.proofs.CharLaws.{Continues, closes, goes, ends, continues-of-chars}
 
--- ---- what stands behind a value
+-- ---- what stands after a value
 
--- no number goes on with a byte that may stand behind a value
+-- no number goes on with a byte that may stand after a value
 data Behaved (b : ℕ) (st : Step) : Type 0 where
   is-fault : st .act ≡ A.Fault → Behaved b st
   separates : Separates b → Behaved b st
@@ -62,7 +62,7 @@ behaved T.Object b =
 abbrev EndsNone : Step → Type 0
 EndsNone st = st .ends ≡ false
 
--- what stands behind a value ends no number of its own
+-- what stands after a value ends no number of its own
 pub ends-none : (top : Top) (b : ℕ) → afterValue top b .ends ≡ false
 unfolding afterRoot afterElement afterPair
 ends-none T.Bare b = cond-elim EndsNone (isBlank b) (λ _. refl) (λ _. refl)
@@ -105,7 +105,7 @@ module _ (𝕄 : Meaning) where
   pub fault-accepts-none : (s : List ℕ) {w : Result} {X : Type 0} → Accepts 𝕄 fault s w → X
   fault-accepts-none s e = none-neq-some (rw (fault-runs s) at e)
 
-  -- behind a value, whatever the token before it left
+  -- after a value, whatever the token before it left
   abbrev pub Behind : Stack 𝕄 → List ℕ → Result → Type 0
   Behind k s w = (g : Token 𝕄) → Accepts 𝕄 (at (M.At P.After) g k) s w
 
@@ -155,7 +155,7 @@ module _ (𝕄 : Meaning) where
   topOf-finish v (in-array a k) = refl
   topOf-finish v (in-object o k) = refl
 
-  -- a number that may end is a value behind which the bytes go on
+  -- a number that may end is a value after which the bytes go on
   number-ends : (n : NumberMode) (g : Token 𝕄) (k : Stack 𝕄) (r : List ℕ) {w : Result} → T (mayEnd n)
       → Behind (finish 𝕄 (of-number (g .number)) k) r w → Accepts 𝕄 (at (M.Number n) g k) r w
   number-ends n g k [] h x = rw (true-of-T (mayEnd n) h) (x g)

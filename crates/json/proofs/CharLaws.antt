@@ -43,7 +43,7 @@ six-lt : (x b n : ℕ) → x < n → T (isTail b) → sixMore x b < n * 64
 unfolding sixMore
 six-lt x b n h t = let hi = high-of-within 0x80 0xBF b t in omega arith
 
--- two bytes, and three, behind the bits of a first byte
+-- two bytes, and three, after the bits of a first byte
 two-bytes : (x b c : ℕ) → x < 0x200 → T (isTail b) → T (isTail c) → tailBits (tailBits x b) c ≡ sixMore (sixMore x b) c
 two-bytes x b c h s t = rw (six-of-tail x b (omega arith) s) (six-of-tail (sixMore x b) c (omega (arith, six-lt x b 0x200 h s)) t)
 

@@ -140,7 +140,7 @@ module _ (𝕄 : Meaning) where
   data Closes (k : Stack 𝕄) (s : List ℕ) : Type 0 where
     closes-with : (w : Result) → Behind 𝕄 k s w → Closes k s
 
-  -- behind a finished value
+  -- after a finished value
   close-all : (k : Stack 𝕄) (v : Result) → Closes (finish 𝕄 v k) (closing k)
   unfolding closing step afterElement afterPair isBlank
   close-all bare v = closes-with v (λ g. refl)
@@ -192,7 +192,7 @@ module _ (𝕄 : Meaning) where
     hope-by : (q : State 𝕄) (b : ℕ) → Hope (step 𝕄 q b) → Hope q
     hope-by q b (hope s w x) = hope (b ∷ s) w x
 
-    -- behind a finished value
+    -- after a finished value
     hope-behind : (k : Stack 𝕄) (v : Result) → Hope (at (M.At P.After) g (finish 𝕄 v k))
     hope-behind k v = go (close-all k v)
       where

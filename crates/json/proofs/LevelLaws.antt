@@ -107,7 +107,7 @@ letter-outside d W.False (suc (suc (suc (suc (suc i))))) h = absurd (omega arith
 
 -- ---- strings
 
--- behind a backslash, or not
+-- after a backslash, or not
 stringScan : StringMode → ℕ → Scan
 stringScan S.Char n = in-string n
 stringScan S.Escape n = in-escape n
@@ -235,7 +235,7 @@ module _ (𝕄 : Meaning) where
   scanOf fault = outside 0
   scanOf (at m g k) = scanAt m (depth 𝕄 k)
 
-  -- a state behind byte b, where the scan stood at x
+  -- a state after byte b, where the scan stood at x
   abbrev Kept : Scan → ℕ → State 𝕄 → Type 0
   Kept x b q = isFault 𝕄 q ≡ false → scanByte x b ≡ scanOf q
 
@@ -350,7 +350,7 @@ module _ (𝕄 : Meaning) where
   step-kept (at (M.Number n) g k) b h e = number-kept g k (Number.moved n b)
   step-kept (at (M.Word w i) g k) b h e = word-kept g w i k b
 
-  -- a fault is behind every later byte
+  -- a fault stays over every later byte
   pub fault-stays : (p : List ℕ) (q : State 𝕄) → isFault 𝕄 q ≡ true → isFault 𝕄 (run 𝕄 q p) ≡ true
   unfolding step
   fault-stays [] q e = e

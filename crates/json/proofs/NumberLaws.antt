@@ -15,7 +15,7 @@ use Rattle.json.specs.declared.number.NumberMove.the-variants as NM
 
 -- ---- the moves that stay in a number
 
--- behind the first part, the byte leads to the second
+-- after the first part, the byte leads to the second
 pub data Goes : NumberMode → ℕ → NumberMode → Type 0 where
   minus-int : {b : ℕ} → T (isDigit1-9 b) → Goes N.Minus b N.Int
   minus-zero : Goes N.Minus 0x30 N.Zero
@@ -33,7 +33,7 @@ pub data Goes : NumberMode → ℕ → NumberMode → Type 0 where
   sign-digit : {b : ℕ} → T (isDigit b) → Goes N.Sign b N.Exp
   exp-digit : {b : ℕ} → T (isDigit b) → Goes N.Exp b N.Exp
 
--- what completes a number behind a part of it
+-- what completes a number after a part of it
 pub data NumberFrom : NumberMode → List ℕ → Type 0 where
   ends-here : {n : NumberMode} → T (mayEnd n) → NumberFrom n []
   goes-on : {n m : NumberMode} {b : ℕ} {ds : List ℕ} → Goes n b m → NumberFrom m ds → NumberFrom n (b ∷ ds)
@@ -179,7 +179,7 @@ exp-of-e h (goes-on (e-digit g) n) = exp h no-sign (some-digits g (digits-of-exp
 exp-of-e h (goes-on e-plus n) = exp h plus-sign (digits-of-sign n)
 exp-of-e h (goes-on e-minus n) = exp h minus-sign (digits-of-sign n)
 
--- digits, and the rest of a number behind them
+-- digits, and the rest of a number after them
 data DigitsExp : List ℕ → Type 0 where
   digits-exp : {d e : List ℕ} → Digits d → Exp e → DigitsExp (d ++ e)
 

@@ -28,35 +28,35 @@ mutual
     blank-value : {b : ℕ} {s r : List ℕ} {v : Json} → T (isBlank b) → AtValue s v r → AtValue (b ∷ s) v r
     here-value : {s r : List ℕ} {v : Json} → FromValue s v r → AtValue s v r
 
-  -- behind `[`
+  -- after `[`
   pub data AtFirstElement : List ℕ → Values → List ℕ → Type 0 where
     blank-first : {b : ℕ} {s r : List ℕ} {vs : Values} → T (isBlank b) → AtFirstElement s vs r → AtFirstElement (b ∷ s) vs r
     close-first : {r : List ℕ} → AtFirstElement (0x5D ∷ r) no-values r
     value-first : {s t r : List ℕ} {v : Json} {vs : Values} → FromValue s v t → AfterElement t vs r → AtFirstElement s (values v vs) r
 
-  -- behind an element
+  -- after an element
   pub data AfterElement : List ℕ → Values → List ℕ → Type 0 where
     blank-element : {b : ℕ} {s r : List ℕ} {vs : Values} → T (isBlank b) → AfterElement s vs r → AfterElement (b ∷ s) vs r
     close-array : {r : List ℕ} → AfterElement (0x5D ∷ r) no-values r
     comma-element : {s t r : List ℕ} {v : Json} {vs : Values} → AtValue s v t → AfterElement t vs r → AfterElement (0x2C ∷ s) (values v vs) r
 
-  -- behind `{`
+  -- after `{`
   pub data AtFirstKey : List ℕ → Pairs → List ℕ → Type 0 where
     blank-first-key : {b : ℕ} {s r : List ℕ} {ps : Pairs} → T (isBlank b) → AtFirstKey s ps r → AtFirstKey (b ∷ s) ps r
     close-first-key : {r : List ℕ} → AtFirstKey (0x7D ∷ r) no-pairs r
     quote-first-key : {s n t r : List ℕ} {v : Json} {ps : Pairs} → Chars s n t → AtColon t v ps r → AtFirstKey (0x22 ∷ s) (pairs n v ps) r
 
-  -- behind a comma in an object
+  -- after a comma in an object
   pub data AtKey : List ℕ → Pairs → List ℕ → Type 0 where
     blank-key : {b : ℕ} {s r : List ℕ} {ps : Pairs} → T (isBlank b) → AtKey s ps r → AtKey (b ∷ s) ps r
     quote-key : {s n t r : List ℕ} {v : Json} {ps : Pairs} → Chars s n t → AtColon t v ps r → AtKey (0x22 ∷ s) (pairs n v ps) r
 
-  -- behind a key
+  -- after a key
   pub data AtColon : List ℕ → Json → Pairs → List ℕ → Type 0 where
     blank-colon : {b : ℕ} {s r : List ℕ} {v : Json} {ps : Pairs} → T (isBlank b) → AtColon s v ps r → AtColon (b ∷ s) v ps r
     here-colon : {s t r : List ℕ} {v : Json} {ps : Pairs} → AtValue s v t → AfterPair t ps r → AtColon (0x3A ∷ s) v ps r
 
-  -- behind a pair
+  -- after a pair
   pub data AfterPair : List ℕ → Pairs → List ℕ → Type 0 where
     blank-pair : {b : ℕ} {s r : List ℕ} {ps : Pairs} → T (isBlank b) → AfterPair s ps r → AfterPair (b ∷ s) ps r
     close-object : {r : List ℕ} → AfterPair (0x7D ∷ r) no-pairs r

@@ -48,7 +48,7 @@ drop-all (suc n) (b ∷ l) h = drop-all n l (omega arith)
 module _ (𝕄 : Meaning) where
   open Meaning 𝕄 using (Result, InArray, InObject, of-word, string-start, string-char, of-string, number-start, number-byte, of-number, array-start, array-element, of-array, object-start, object-key, object-value, of-object)
 
-  -- behind a value that has joined the stack: the bytes finish the open values, and the whole value is the last
+  -- after a value that has joined the stack: the bytes finish the open values, and the whole value is the last
   data After : Stack 𝕄 → List ℕ → Result → Type 0 where
     after-whole : {s : List ℕ} {w : Result} → Ending s → After (whole w) s w
     after-element : {a : InArray} {k : Stack 𝕄} {s r : List ℕ} {vs : Values} {w : Result} → AfterElement s vs r
@@ -138,7 +138,7 @@ module _ (𝕄 : Meaning) where
   data Held (k : Stack 𝕄) (s : List ℕ) (w : Result) : Type 0 where
     held : {v : Json} {r : List ℕ} → FromValue s v r → After (finish 𝕄 (meaning 𝕄 v) k) r w → Held k s w
 
-  -- a key goes on with these bytes, behind its opening quotation mark
+  -- a key goes on with these bytes, after its opening quotation mark
   data Quoted (o : InObject) (k : Stack 𝕄) (s : List ℕ) (w : Result) : Type 0 where
     quoted : {n t r : List ℕ} {v : Json} {ps : Pairs} → Chars s n t → AtColon t v ps r
         → After (finish 𝕄 (of-object (members 𝕄 (pairs n v ps) o)) k) r w → Quoted o k s w
@@ -324,7 +324,7 @@ module _ (𝕄 : Meaning) where
         on-last : drop i l ≡ b ∷ [] → Rest (at (M.At P.After) g (finish 𝕄 (of-word (wordOf y)) k)) s w → Rest (at (M.Word y i) g k) (b ∷ s) w
         on-last e (rest-after x) = rest-word {x = y} {i = i} {s = b ∷ s} {r = s} (rw e (follow follow-none)) x
 
-  -- what may follow a step's state may, behind its byte, follow the state before it
+  -- what may follow a step's state may, after its byte, follow the state before it
   sound-step : (q : State 𝕄) (b : ℕ) (s : List ℕ) (w : Result) → Proper 𝕄 q → Rest (step 𝕄 q b) s w → Rest q (b ∷ s) w
   unfolding step
   sound-step fault b s w h x = no-rest x

@@ -303,7 +303,7 @@ char-moved b =
     space-unescaped : T (isUnescaped 0x20)
     space-unescaped = unfold isUnescaped within in tt
 
--- a byte behind a backslash, by what it stands for
+-- a byte after a backslash, by what it stands for
 data EscapeView : ℕ → ℕ → Type 0 where
   no-escape : {b : ℕ} → EscapeView b 0
   is-escape : {b c : ℕ} → Escaped b c → EscapeView b c

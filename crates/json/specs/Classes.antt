@@ -1,4 +1,4 @@
--- The class of each byte: 01, "Bytes and grammar"; RFC 8259, sections 2 and 7; RFC 3629, section 4. Stated; the numbers of the classes are the
+-- The class of each byte: REQUIREMENT.md, section 2; RFC 8259, sections 2 and 7; RFC 3629, section 4. Stated; the numbers of the classes are the
 -- table's own. Assumes nothing.
 use mathlib.Core.Bool.{Bool, cond, _||_}
 use Prim.Native.Nat.{ℕ}

@@ -1,5 +1,5 @@
--- Bytes, and what they are: 01, "Bytes and grammar" and "An example day", those examples that ask for no book; then bytes of our own, for the
--- slips that the grammar rules out. Stated. Assumes nothing.
+-- Bytes, and what they are: REQUIREMENT.md, sections 2 and 8, those examples that ask for no book; then bytes of our own, for the slips that the
+-- grammar rules out. Stated. Assumes nothing.
 use mathlib.Core.List.{List, [], _∷_}
 use Prim.Native.Nat.{ℕ}
 use Rattle.json.specs.Tree.{true-word, Json, word, string, number, array, object, no-values, values, no-pairs, pairs}
@@ -99,7 +99,7 @@ rows =
     ∷ unfinished (0x7B ∷ 0x22 ∷ 0x61 ∷ 0x22 ∷ 0x3A ∷ [])
     -- LF
     ∷ unfinished (0x0A ∷ [])
-    -- [1, 2.0e+3 ] behind a blank
+    -- [1, 2.0e+3 ] after a blank
     ∷ tells spaced (list2 one two-thousand)
     -- {"n\u0061me":"a","corners":[[1,2]]}: the key is `name`
     ∷ tells escaped-key (object (pairs name (string (0x61 ∷ [])) (pairs corners (list1 (list2 one two)) no-pairs)))

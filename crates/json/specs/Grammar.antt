@@ -1,6 +1,6 @@
--- JSON texts: RFC 8259, sections 2 to 5. `Value s v r`: s is a value that says v, followed by r; so for each phrase. A text is blanks, one
--- value, blanks, with no byte order mark before them. The fault place is that of 01, "Bytes and grammar": it knows no length limit,
--- frames or book. Stated. Assumes nothing.
+-- JSON texts: RFC 8259, sections 2 to 5. `Value s v r`: s is a value that says v, followed by r; so for each phrase. A text is blanks, one value,
+-- blanks, with no byte order mark before them. The fault place is that of REQUIREMENT.md, section 2: it knows no length limit, frames or book. Stated.
+-- Assumes nothing.
 use mathlib.Core.List.{List, [], _∷_, _++_}
 use Prim.Native.Nat.{ℕ, suc, _<_}
 use lib.Dec.{T}
@@ -58,7 +58,7 @@ Text s v = Element s v []
 abbrev pub Begins : List ℕ → Type 0
 Begins p = (s : List ℕ) × (v : Json) × Text (p ++ s) v
 
--- 01: the fault place is the offset of the first byte after which no text begins with the bytes so far
+-- the fault place is the offset of the first byte after which no text begins with the bytes so far
 pub record FaultAt (p : List ℕ) (i : ℕ) : Type 0 where
   pub inside : i < length p
   pub before : Begins (take i p)

@@ -1,5 +1,5 @@
--- Open levels of the bytes so far, for refusal 12 of 01, "The stream": a level is opened by `[` or `{` and closed by `]` or `}`, outside strings.
--- Stated for bytes that some text begins with; for others it is not asked. Assumes nothing.
+-- Open levels of the bytes so far, for refusal 12 of REQUIREMENT.md, section 6: a level is opened by `[` or `{` and closed by `]` or `}`, outside
+-- strings. Stated for bytes that some text begins with; for others it is not asked. Assumes nothing.
 use mathlib.Core.Bool.{Bool, cond, _||_}
 use mathlib.Core.List.{List, [], _∷_}
 use Prim.Native.Nat.{ℕ, _+_, _-_}
@@ -13,7 +13,7 @@ isOpening b = eqb b 0x5B || eqb b 0x7B
 unfoldable pub isClosing : ℕ → Bool
 isClosing b = eqb b 0x5D || eqb b 0x7D
 
--- outside strings, in a string, behind a backslash in a string; with the levels open
+-- outside strings, in a string, after a backslash in a string; with the levels open
 pub data Scan : Type 0 where
   outside in-string in-escape : ℕ → Scan
 

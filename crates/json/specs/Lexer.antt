@@ -55,7 +55,7 @@ charStart C.LeadF1 = SM.Go S.Tail3
 charStart C.LeadF4 = SM.Go S.SecondF4
 charStart C.Never = SM.Fault
 
--- the character that a byte behind a backslash stands for; 0 for none
+-- the character that a byte after a backslash stands for; 0 for none
 unfoldable pub unescape : ℕ → ℕ
 unescape b =
     cond (eqb b 0x22) 0x22
@@ -67,7 +67,7 @@ unescape b =
     (cond (eqb b 0x72) 0x0D
     (cond (eqb b 0x74) 0x09 0)))))))
 
--- the byte behind a backslash
+-- the byte after a backslash
 unfoldable pub escapeMove : ℕ → StringMove
 escapeMove b = cond (eqb b 0x75) (SM.Go S.Unit1) (cond (eqb (unescape b) 0) SM.Fault SM.Char)
 
@@ -85,11 +85,11 @@ hexOf b =
 unfoldable pub anyHex : ℕ → StringMove → StringMove
 anyHex h m = cond (ltb h 16) m SM.Fault
 
--- the first digit of a code unit: behind a D the second settles whether it is a surrogate
+-- the first digit of a code unit: after a D the second settles whether it is a surrogate
 unfoldable pub unit1 : ℕ → StringMove
 unit1 h = cond (eqb h 13) (SM.Go S.UnitD) (anyHex h (SM.Go S.Unit2))
 
--- behind a D: 0 to 7 no surrogate, 8 to B a high one; a low one stands nowhere alone
+-- after a D: 0 to 7 no surrogate, 8 to B a high one; a low one stands nowhere alone
 unfoldable pub unitD : ℕ → StringMove
 unitD h = cond (ltb h 8) (SM.Go S.Unit3) (cond (ltb h 12) (SM.Go S.High3) SM.Fault)
 
@@ -139,7 +139,7 @@ stringMove S.SecondF4 b = ranged 0x80 0x8F b (SM.Go S.Tail2)
 unfoldable pub leadBits : ℕ → ℕ
 leadBits b = cond (ltb b 0xC0) 0 (cond (ltb b 0xE0) (b - 0xC0) (cond (ltb b 0xF0) (b - 0xE0) (b - 0xF0)))
 
--- six more bits, of a byte behind the first
+-- six more bits, of a byte after the first
 unfoldable pub tailBits : ℕ → ℕ → ℕ
 tailBits bits b = bits % 0x8000 * 64 + b % 64
 
@@ -228,7 +228,7 @@ charOf S.SecondF4 bits high b = 0
 
 -- ---- numbers
 
--- behind digits that an exponent may follow
+-- after digits that an exponent may follow
 unfoldable pub orExp : ℕ → NumberMove
 orExp b = cond (isE b) (NM.Go N.E) NM.End
 
@@ -264,7 +264,7 @@ numberMove N.E b = afterE b
 numberMove N.Sign b = digitOnly b N.Exp
 numberMove N.Exp b = afterExp b
 
--- a number may end behind this part
+-- a number may end after this part
 abbrev pub mayEnd : NumberMode → Bool
 mayEnd N.Minus = false
 mayEnd N.Zero = true
@@ -345,13 +345,13 @@ unfoldable pub afterPair : ℕ → Step
 afterPair b =
     cond (isBlank b) (stay P.After) (cond (eqb b 0x2C) (stay P.Key) (cond (eqb b 0x7D) (stepTo (M.At P.After) A.Close) faultStep))
 
--- behind a value, by what it stands in
+-- after a value, by what it stands in
 abbrev pub afterValue : Top → ℕ → Step
 afterValue T.Bare b = afterRoot b
 afterValue T.Array b = afterElement b
 afterValue T.Object b = afterPair b
 
--- behind an opening byte; no reader stands there with nothing open
+-- after an opening byte; no reader stands there with nothing open
 abbrev pub atFirst : Top → ℕ → Step
 atFirst T.Bare b = atFirstElement b
 atFirst T.Array b = atFirstElement b
@@ -376,7 +376,7 @@ textStep (SM.Go s) = stepTo (M.Text s) A.Pass
 textStep SM.Char = stepTo (M.Text S.Char) A.TextChar
 textStep SM.Close = stepTo (M.At P.After) A.TextEnd
 
--- a number ends before the byte, which then does what it does behind a value
+-- a number ends before the byte, which then does what it does after a value
 abbrev pub endedBefore : Step → Step
 endedBefore st = record { mode = st .mode; ends = true; act = st .act }
 

@@ -1,6 +1,5 @@
--- Strings: RFC 8259, section 7, with UTF-8 by RFC 3629. Stricter, by 01, "Bytes and grammar": an escaped surrogate stands only as a high one
--- (D800 to DBFF) followed by an escaped low one (DC00 to DFFF). `Char s c r`: s is the character number c, followed by r. Stated.
--- Assumes nothing.
+-- Strings: RFC 8259, section 7, with UTF-8 by RFC 3629. Stricter, by REQUIREMENT.md, section 2: an escaped surrogate stands only as a high one (D800
+-- to DBFF) followed by an escaped low one (DC00 to DFFF). `Char s c r`: s is the character number c, followed by r. Stated. Assumes nothing.
 use mathlib.Core.Bool.{Bool, not, _||_}
 use mathlib.Core.List.{List, [], _∷_}
 use Prim.Native.Nat.{ℕ, _+_, _-_, _*_}
@@ -12,7 +11,7 @@ use Rattle.json.specs.Utf8.{Utf8}
 unfoldable pub isUnescaped : ℕ → Bool
 isUnescaped b = within 0x20 0x21 b || within 0x23 0x5B b || within 0x5D 0x7F b
 
--- the byte behind a backslash, and the character that the two stand for
+-- the byte after a backslash, and the character that the two stand for
 pub data Escaped : ℕ → ℕ → Type 0 where
   quotation-mark : Escaped 0x22 0x22
   reverse-solidus : Escaped 0x5C 0x5C

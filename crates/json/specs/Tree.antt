@@ -1,5 +1,5 @@
--- What a JSON text says: RFC 8259, sections 3 to 7; 01, "Bytes and grammar". A tree with the resolved characters of strings and keys,
--- the bytes of numbers as written, elements and pairs in their order. Stated. Assumes nothing.
+-- What a JSON text says: RFC 8259, sections 3 to 7; REQUIREMENT.md, section 2. A tree with the resolved characters of strings and keys, the bytes of
+-- numbers as written, elements and pairs in their order. Stated. Assumes nothing.
 use mathlib.Core.List.{List}
 use Prim.Native.Nat.{ℕ}
 
@@ -20,7 +20,7 @@ mutual
     no-values : Values
     values : Json → Values → Values
 
-  -- the pairs of an object: key, value, the pairs behind them
+  -- the pairs of an object: key, value, the pairs after them
   pub data Pairs : Type 0 where
     no-pairs : Pairs
     pairs : List ℕ → Json → Pairs → Pairs

@@ -10,7 +10,7 @@ use Rattle.json.specs.Bytes.{within}
 abbrev pub isTail : ℕ → Bool
 isTail b = within 0x80 0xBF b
 
--- the bits so far, and the six bits of a byte behind the first
+-- the bits so far, and the six bits of a byte after the first
 unfoldable pub sixMore : ℕ → ℕ → ℕ
 sixMore bits b = bits * 64 + (b - 0x80)
 

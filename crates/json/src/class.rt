@@ -1,4 +1,4 @@
-// The class of each byte: 01, "Bytes and grammar".
+// The class of each byte: REQUIREMENT.md, section 2.
 
 pub enum Class {
     // 00 to 1F, the breaks aside
@@ -17,7 +17,7 @@ pub enum Class {
     Digit,
     // any other byte from 21 to 7F
     Other,
-    // 80 to BF: stands behind the first byte of a UTF-8 sequence
+    // 80 to BF: stands after the first byte of a UTF-8 sequence
     Tail,
     // the first byte of a UTF-8 sequence, by the rows of RFC 3629, section 4
     LeadC2,

@@ -7,13 +7,13 @@ use super::word::Word;
 pub enum Awaited {
     // a value
     Value,
-    // what may stand behind the opening byte of an array or object
+    // what may stand after the opening byte of an array or object
     First,
-    // a key, behind a comma
+    // a key, after a comma
     Key,
     // a colon
     Colon,
-    // what may stand behind a value
+    // what may stand after a value
     After,
 }
 

@@ -1,6 +1,6 @@
 // Numbers: RFC 8259, section 6.
 
-// Behind which part of a number the next byte stands.
+// After which part of a number the next byte stands.
 pub enum NumberMode {
     Minus,
     Zero,
@@ -12,7 +12,7 @@ pub enum NumberMode {
     Exp,
 }
 
-// What a byte does behind a part of a number.
+// What a byte does after a part of a number.
 pub enum NumberMove {
     Fault,
     Go(NumberMode),

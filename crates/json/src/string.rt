@@ -4,9 +4,9 @@
 pub enum StringMode {
     // a character, or the closing quotation mark
     Char,
-    // the byte behind a backslash
+    // the byte after a backslash
     Escape,
-    // a hexadecimal digit of an escaped code unit: the first; the second, where the first is not D; the second behind a D; the third; the fourth
+    // a hexadecimal digit of an escaped code unit: the first; the second, where the first is not D; the second after a D; the third; the fourth
     Unit1,
     Unit2,
     UnitD,
@@ -25,7 +25,7 @@ pub enum StringMode {
     Tail1,
     Tail2,
     Tail3,
-    // the second byte behind a first byte that narrows it
+    // the second byte after a first byte that narrows it
     SecondE0,
     SecondED,
     SecondF0,

@@ -1,4 +1,4 @@
--- Bits of a list of bytes: 01, "Frames": bit i is 2 ^ (i mod 8) of byte i / 8. Stated. Assumes nothing.
+-- Bits of a list of bytes: REQUIREMENT.md, section 5: bit i is 2 ^ (i mod 8) of byte i / 8. Stated. Assumes nothing.
 use mathlib.Core.Bool.{Bool, cond}
 use mathlib.Core.List.{List}
 use Prim.Native.Nat.{ℕ, zero, suc, _/_, _%_, _^_}

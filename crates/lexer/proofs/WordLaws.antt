@@ -20,7 +20,7 @@ go-true true true false e = cc
 go-true true false false e = cc
 go-true false u false e = cc
 
--- behind a letter that is not the last one there is another
+-- after a letter that is not the last one there is another
 pub letter-lt-of-go : (s : List ℕ) (i b : ℕ) → letterMove s i b ≡ WM.Go → i + 1 < length s
 unfolding letterMove
 letter-lt-of-go s i b e =

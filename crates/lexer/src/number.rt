@@ -1,4 +1,4 @@
-// Numbers: what a byte does behind each part of one.
+// Numbers: what a byte does after each part of one.
 ghost use mathlib.Core.Bool.{cond};
 ghost use mathlib.Core.Path.{_≡_};
 ghost use Rattle.json.specs.Bytes.{within};
@@ -41,7 +41,7 @@ fn is_e(b: u8) -> bool
     b == 0x45
 }
 
-// Behind digits that an exponent may follow.
+// After digits that an exponent may follow.
 fn or_exp(b: u8) -> NumberMove
     ensures { λ r. ⌜ r ≡ orExp b ⌝ }
 {
@@ -51,7 +51,7 @@ fn or_exp(b: u8) -> NumberMove
     NumberMove::End
 }
 
-// Behind the minus sign.
+// After the minus sign.
 fn after_minus(b: u8) -> NumberMove
     ensures { λ r. ⌜ r ≡ afterMinus b ⌝ }
 {
@@ -64,7 +64,7 @@ fn after_minus(b: u8) -> NumberMove
     NumberMove::Fault
 }
 
-// Behind a leading 0.
+// After a leading 0.
 fn after_zero(b: u8) -> NumberMove
     ensures { λ r. ⌜ r ≡ afterZero b ⌝ }
 {
@@ -74,7 +74,7 @@ fn after_zero(b: u8) -> NumberMove
     or_exp(b)
 }
 
-// Behind e or E.
+// After e or E.
 fn after_e(b: u8) -> NumberMove
     ensures { λ r. ⌜ r ≡ afterE b ⌝ }
 {
@@ -100,7 +100,7 @@ fn digit_or(b: u8, n: NumberMode, other: NumberMove) -> NumberMove
     other
 }
 
-// What byte b does behind part n of a number.
+// What byte b does after part n of a number.
 pub fn number_move(n: NumberMode, b: u8) -> NumberMove
     ensures { λ r. ⌜ r ≡ numberMove n b ⌝ }
 {
@@ -116,7 +116,7 @@ pub fn number_move(n: NumberMode, b: u8) -> NumberMove
     }
 }
 
-// A number may end behind part n.
+// A number may end after part n.
 pub fn may_end(n: NumberMode) -> bool
     ensures { λ r. ⌜ r ≡ mayEnd n ⌝ }
 {

@@ -105,7 +105,7 @@ fn at_value(b: u8) -> Step
     value_start(b)
 }
 
-// Behind the opening byte of an array.
+// After the opening byte of an array.
 fn at_first_element(b: u8) -> Step
     ensures { λ r. ⌜ r ≡ atFirstElement b ⌝ }
 {
@@ -118,7 +118,7 @@ fn at_first_element(b: u8) -> Step
     value_start(b)
 }
 
-// Behind the opening byte of an object.
+// After the opening byte of an object.
 fn at_first_key(b: u8) -> Step
     ensures { λ r. ⌜ r ≡ atFirstKey b ⌝ }
 {
@@ -134,7 +134,7 @@ fn at_first_key(b: u8) -> Step
     fault_step()
 }
 
-// Behind a comma of an object.
+// After a comma of an object.
 fn at_key(b: u8) -> Step
     ensures { λ r. ⌜ r ≡ atKey b ⌝ }
 {
@@ -147,7 +147,7 @@ fn at_key(b: u8) -> Step
     fault_step()
 }
 
-// Behind a key.
+// After a key.
 fn at_colon(b: u8) -> Step
     ensures { λ r. ⌜ r ≡ atColon b ⌝ }
 {
@@ -160,7 +160,7 @@ fn at_colon(b: u8) -> Step
     fault_step()
 }
 
-// Behind the value of the whole text.
+// After the value of the whole text.
 fn after_root(b: u8) -> Step
     ensures { λ r. ⌜ r ≡ afterRoot b ⌝ }
 {
@@ -170,7 +170,7 @@ fn after_root(b: u8) -> Step
     fault_step()
 }
 
-// Behind an element of an array.
+// After an element of an array.
 fn after_element(b: u8) -> Step
     ensures { λ r. ⌜ r ≡ afterElement b ⌝ }
 {
@@ -186,7 +186,7 @@ fn after_element(b: u8) -> Step
     fault_step()
 }
 
-// Behind a pair of an object.
+// After a pair of an object.
 fn after_pair(b: u8) -> Step
     ensures { λ r. ⌜ r ≡ afterPair b ⌝ }
 {
@@ -202,7 +202,7 @@ fn after_pair(b: u8) -> Step
     fault_step()
 }
 
-// Behind a value, by what it stands in.
+// After a value, by what it stands in.
 fn after_value(top: Top, b: u8) -> Step
     ensures { λ r. ⌜ r ≡ afterValue top b ⌝ }
 {
@@ -213,7 +213,7 @@ fn after_value(top: Top, b: u8) -> Step
     }
 }
 
-// Behind an opening byte, by what it opened.
+// After an opening byte, by what it opened.
 fn at_first(top: Top, b: u8) -> Step
     ensures { λ r. ⌜ r ≡ atFirst top b ⌝ }
 {
@@ -274,7 +274,7 @@ fn ended_before(st: Step) -> Step
     }
 }
 
-// Byte b behind part n of a number.
+// Byte b after part n of a number.
 fn number_step(n: NumberMode, top: Top, b: u8) -> Step
     ensures { λ r. ⌜ r ≡ numberStep (numberMove n b) top b ⌝ }
 {

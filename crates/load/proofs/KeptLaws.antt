@@ -73,7 +73,7 @@ module _ (es : List Entry) (e : Entry) where
     forms-last : Each (FormKept es) es → Each (FormKept (es ++ (e ∷ []))) (es ++ (e ∷ []))
     forms-last k = each-append (FormKept (es ++ (e ∷ []))) es (e ∷ []) (each-map (FormKept es) _ formKept-last es k) (formKept-new, tt)
 
-    -- the forms of a table behind the entry
+    -- the forms of a table after the entry
     ruleForm-set : (forms : List ℕ) → length forms ≡ 32 → ruleOf e < 32 → (n : ℕ) → getD forms n 0 ≡ ruleForm es n
         → getD (set forms (ruleOf e) (formCode (formIn e))) n 0 ≡ ruleForm (es ++ (e ∷ [])) n
     ruleForm-set forms l r n q = go (eqb (ruleOf e) n) refl ∙ sym (ruleForm-last es e n)

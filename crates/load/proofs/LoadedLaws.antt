@@ -1,4 +1,5 @@
--- What a loaded table is: its numbers in their ranges and within their limits, and holding the entries of the book, of which no two clash. Assumes nothing.
+-- What a loaded table is: its numbers in their ranges and within their limits, and holding the entries of the book, of which no two clash. Assumes
+-- nothing.
 use mathlib.Core.Bool.{Bool, true, false, not, cond, _||_}
 use mathlib.Core.List.{List, [], _∷_, _++_, append-nil, append-assoc}
 use mathlib.Core.Path.{_≡_, refl, sym, ap, _∙_}

@@ -93,7 +93,7 @@ clashEdges fs a b = clashCodes (getD fs (a .rule) 0) (a .rule) (b .rule) (a .nex
 unfoldable clashesEdges : List ℕ → Edge → Edge → Bool
 clashesEdges fs b a = clashEdges fs a b || clashEdges fs b a
 
--- the line of the first edge that clashes with one up to it, behind those seen
+-- the line of the first edge that clashes with one up to it, after those seen
 unfoldable firstLate : List ℕ → List Edge → List Edge → ℕ
 firstLate fs seen [] = 0
 firstLate fs seen (x ∷ xs) = cond (any (clashesEdges fs x) (seen ++ (x ∷ []))) (x .line) (firstLate fs (seen ++ (x ∷ [])) xs)

@@ -36,7 +36,7 @@ tab-ext f g i (suc n) h =
     let b : tab f (suc i) n ≡ tab g (suc i) n = tab-ext f g (suc i) n (λ k l m. h k (omega arith) (omega arith)) in
     rw (a, b)
 
--- one entry more, behind entries that stay
+-- one entry more, after entries that stay
 tab-add : {A : Type 0} (f g : ℕ → A) (n : ℕ) (x : A) → ((k : ℕ) → k < n → f k ≡ g k) → f n ≡ x → tab f 0 (n + 1) ≡ tab g 0 n ++ (x ∷ [])
 tab-add f g n x h e =
     let a : tab f 0 n ≡ tab g 0 n = tab-ext f g 0 n (λ k l m. h k (omega arith)) in

@@ -43,7 +43,7 @@ loaded t = loadedAs Accepted t
 abbrev pub refusal : BookAnswer → Loaded
 refusal a = loadedAs a emptyTable
 
--- the rest of the book behind line n, where the line is taken
+-- the rest of the book after line n, where the line is taken
 unfoldable pub takeOn : ℕ → Taken → (Table → Loaded) → Loaded
 takeOn n v rest = cond (eqb (v .fault) 0) (rest (v .table)) (refusal (lineRefusal (v .fault) n))
 

@@ -8,7 +8,7 @@ ghost use Rattle.load.specs.Step.{loadedAs};
 mod read; // read.rt: a book line by line, refusals 1 to 7
 mod check; // check.rt: the checks after all lines, refusals 8 and 9
 
-// What load says of a book: accepted, or a refusal with its line where 01 gives it one.
+// What load says of a book: accepted, or a refusal, with its line where it has one.
 pub enum BookAnswer {
     Accepted,
     // 1: empty, or over 65,536 bytes
@@ -33,7 +33,7 @@ pub enum BookAnswer {
     NotAscending(usize),
 }
 
-// The number of a refusal in 01; 0 for a book that is accepted.
+// The number of a refusal; 0 for a book that is accepted.
 pub fn number_of(a: BookAnswer) -> u8
     ensures { λ r. ⌜ r ≡ numbered a .number ⌝ }
 {
@@ -52,7 +52,7 @@ pub fn number_of(a: BookAnswer) -> u8
     }
 }
 
-// The line of a refusal in 01; 0 where it gives none.
+// The line of a refusal; 0 where it has none.
 pub fn line_of(a: BookAnswer) -> usize
     ensures { λ r. ⌜ r ≡ numbered a .line ⌝ }
 {

@@ -55,7 +55,7 @@ fn take_line(table: &mut [u8; 7920], n: u16, l: &[u8]) -> u8
     store::take_entry(table, n, j, &l[a..e])
 }
 
-// The lines behind the names line.
+// The lines after the names line.
 fn take_lines(table: &mut [u8; 7920], b: &[u8]) -> BookAnswer
     requires { ⌜ (31 ≤ length (now b)) × (length (now b) ≤ 65536) ⌝ }
     ensures { λ r. ⌜ loadedAs r (tableIn (now (table .exit))) ≡ takeLines 2 emptyTable (split 10 (drop 31 (now (b .entry)))) ⌝ }

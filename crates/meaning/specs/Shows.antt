@@ -1,6 +1,6 @@
--- What a frame shows of an open value, and a finished value of the kinds that it fits: the frames of 01, "Frames", beside the sets of states, keys
--- and edges that `runs` keeps. Derived, nothing to believe: `shows-array` and `shows-object` of `CloseLaws` join what a frame is closed with to
--- what `runs` finds, after the steps of `OpenLaws` and `ValueLaws`. Assumes nothing.
+-- What a frame shows of an open value, and a finished value of the kinds that it fits: the frames of REQUIREMENT.md, section 5, beside the sets of
+-- states, keys and edges that `runs` keeps. Derived, nothing to believe: `shows-array` and `shows-object` of `CloseLaws` join what a frame is closed
+-- with to what `runs` finds, after the steps of `OpenLaws` and `ValueLaws`. Assumes nothing.
 use mathlib.Core.Bool.{Bool, true, false, cond}
 use mathlib.Core.List.{List, []}
 use mathlib.Core.Path.{_≡_}

@@ -86,7 +86,7 @@ key-step t n y root key w b m h f p l e =
     ∙ ap (λ (k : Mode). advance (moved y b (M.Key S.Char) (y .level) (keyLen (y .len) (charIn k (y .bits) (y .high) b))) (keyTask (y .len) (charIn k (y .bits) (y .high) b))) m)
     ∙ key-char y t b root key w (ltb (y .len) 32) refl (plain-below b l e)
 
--- the record behind such a character
+-- the record after such a character
 key-place : (x : Progress) (m : Mode) (bits p len q more b : ℕ) (root : Bool) (key next w : List ℕ) → m ≡ M.Key S.Char → bump p ≡ q → leadBits b ≡ 0
     → next ≡ keptIn key len b → more ≡ keyLen len b
     → mem (moved (placed x m bits (x .high) p len) b (M.Key S.Char) (x .level) (keyLen len b)) root (keptIn key len b) w

@@ -8,7 +8,7 @@ use Rattle.pick.specs.Pick.{pickOf}
 abbrev bytes : List ℕ
 bytes = 0x7A ∷ 0x1E ∷ 0x5B ∷ 0x1E ∷ 0x1E ∷ 0x31 ∷ []
 
--- the head, the record behind it, the record behind the empty part, and no more
+-- the head, the record after it, the record after the empty part, and no more
 pub examples : (pickOf bytes 0 ≡ 0x7A ∷ []) × (pickOf bytes 1 ≡ 0x5B ∷ []) × (pickOf bytes 2 ≡ 0x31 ∷ []) × (pickOf bytes 3 ≡ [])
 unfolding cutAtRS nonempties pickOf
 examples = (refl, refl, refl, refl)

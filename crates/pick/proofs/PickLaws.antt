@@ -22,7 +22,7 @@ use Rattle.pick.specs.Pick.{pickOf, isHead, HasVerdict}
 -- ---- records and verdicts stand in the same order
 
 module _ (J : Judge) where
-  -- verdict k of parts behind an RS is that of their record k
+  -- verdict k of parts after an RS is that of their record k
   given-at : (ps : List (List ℕ)) (k : ℕ) (d : Verdict) → k < length (nonempties ps) → getD (givenAll J ps) k d ≡ J false (getD (nonempties ps) k [])
   unfolding givenAll nonempties
   given-at [] k d h = absurd (omega (arith, h))

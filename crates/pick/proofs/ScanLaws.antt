@@ -95,7 +95,7 @@ module _ (s : List ℕ) (n start left i : ℕ) (x : Scanned s n start left i) (i
       let e : suc i ≡ i + 1 = omega arith in
       rw e at (ap (λ r. pickFrom part r left) (sym (drop-cons s i 0 inside))) ∙ x .gives
 
-  -- an RS: the record that it ends comes before those behind it
+  -- an RS: the record that it ends comes before those after it
   gives-RS : eqb b 0x1E ≡ true → (y : Bool) → nonempty part ≡ y
       → getD (cond y (part ∷ nonempties (cutAtRS rest .first ∷ cutAtRS rest .behind)) (nonempties (cutAtRS rest .first ∷ cutAtRS rest .behind))) left []
       ≡ pickOf s n

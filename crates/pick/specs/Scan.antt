@@ -3,7 +3,7 @@ use mathlib.Core.Bool.{Bool, cond, _&&_}
 use Prim.Native.Nat.{ℕ, _-_}
 use lib.Dec.{eqb, ltb}
 
--- an RS at i behind at least one byte of the part that begins at start
+-- an RS at i after at least one byte of the part that begins at start
 unfoldable pub endsPart : ℕ → ℕ → ℕ → Bool
 endsPart b start i = eqb b 0x1E && ltb start i
 

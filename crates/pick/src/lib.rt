@@ -3,7 +3,7 @@ ghost use mathlib.Core.Path.{_≡_};
 ghost use Rattle.pick.specs.Pick.{pickOf};
 ghost use Rattle.pick.specs.Scan.{endsPart, isIt, counted, partStart};
 
-// An RS behind at least one byte of the part that begins at start.
+// An RS after at least one byte of the part that begins at start.
 fn ends_part(b: u8, start: usize, i: usize) -> bool
     ensures { λ r. ⌜ r ≡ endsPart b start i ⌝ }
 {
@@ -36,7 +36,7 @@ fn count_part(ended: bool, left: usize) -> usize
     left
 }
 
-// Where the part behind byte i begins.
+// Where the part after byte i begins.
 fn part_start(b: u8, start: usize, behind: usize) -> usize
     ensures { λ r. ⌜ r ≡ partStart b start behind ⌝ }
 {
@@ -47,7 +47,7 @@ fn part_start(b: u8, start: usize, behind: usize) -> usize
 }
 
 // The record that has verdict n, counted from 0, as a part of the caller's slice; an empty part where none has. Ruled out: a pick that counts
-// empty parts, and one that forgets the record behind the last RS.
+// empty parts, and one that forgets the record after the last RS.
 pub fn pick(s: &[u8], n: usize) -> &[u8]
     ensures { λ r. ⌜ now r ≡ pickOf (now (s .entry)) n ⌝ }
 {

@@ -11,7 +11,7 @@ ghost use Rattle.piece.specs.Went.{StepsAs, WentTo};
 use json::lexer::Step;
 use progress::Progress;
 
-// An RS behind at least one byte of a record.
+// An RS after at least one byte of a record.
 fn ends_record(x: Progress, b: u8) -> bool
     ensures { λ r. ⌜ r ≡ endsRecord x b ⌝ }
 {

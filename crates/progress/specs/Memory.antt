@@ -1,5 +1,5 @@
 -- What a byte does to all that a reader remembers of the open record: what is known of it, whether its root fits rule 0, the characters of its
--- key, and the frames in the lent buffer: 01, "Frames". Derived: crate follows joins it to the track of crate verdict. Assumes nothing.
+-- key, and the frames in the lent buffer: REQUIREMENT.md, section 5. Derived: crate follows joins it to the track of crate verdict. Assumes nothing.
 use mathlib.Core.Bool.{Bool, true, false, cond, _&&_}
 use mathlib.Core.List.{List, [], _∷_}
 use Prim.Native.Nat.{ℕ, _+_, _-_}
@@ -74,7 +74,7 @@ advancedAt n m b = advanced (m .progress) n b (stepOf (m .progress .mode) (topAt
 unfoldable pub stepMem : Table → ℕ → Mem → ℕ → Mem
 stepMem t n m b = perform (advancedAt n m b .task) t m (advancedAt n m b .progress)
 
--- an RS behind at least one byte of a record ends it
+-- an RS after at least one byte of a record ends it
 unfoldable pub endsRecord : Progress → ℕ → Bool
 endsRecord x b = eqb b 0x1E && ltb 0 (x .pos)
 

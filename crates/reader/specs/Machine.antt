@@ -1,6 +1,6 @@
--- What feed and close give and leave in the buffer, whole: REQUIREMENT.md, section 7. Derived: the contracts of `feed` and `close` say that the
--- code gives exactly this; `demand-3` joins counts and answers to the stream on paper, `lent` the buffer to section 5, `tally-of-calls` the tally to
--- the verdicts, and `unchanged-of-refused` tells of refused calls. Assumes nothing.
+-- What feed and close give and leave in the buffer, whole: REQUIREMENT.md, section 7. Derived: the contracts of `feed` and `close` say that the code
+-- gives exactly this; `demand-3` joins counts and answers to the stream on paper, `lent` the buffer to section 5, `tally-of-calls` the tally to the
+-- verdicts, and `unchanged-of-refused` tells of refused calls. Assumes nothing.
 use mathlib.Core.Bool.{Bool, true, false, cond}
 use mathlib.Core.List.{List}
 use Prim.Native.Nat.{ℕ}

@@ -1,5 +1,5 @@
--- Why start, feed and close are refused, and in which order the reasons count: 01, "The stream", Start, Feed, Close. Each call has a ladder of
--- rungs, and its first rung that does not hold refuses it. Stated. Assumes nothing.
+-- Why start, feed and close are refused, and in which order the reasons count: REQUIREMENT.md, section 7. Each call has a ladder of rungs, and its
+-- first rung that does not hold refuses it. Stated. Assumes nothing.
 use mathlib.Core.Bool.{Bool, true, false, cond, _&&_}
 use mathlib.Core.List.{List, [], _∷_}
 use Prim.Native.Nat.{ℕ, _*_}
@@ -12,7 +12,7 @@ use Rattle.reader.specs.declared.Refusal.the-variants as No
 use Rattle.reader.specs.declared.Gate.{Gate}
 use Rattle.reader.specs.declared.Gate.the-variants as Is
 
--- what 01 calls each refusal
+-- the number of each refusal
 abbrev pub refusalNumber : Refusal → ℕ
 refusalNumber No.SmallBuffer = 21
 refusalNumber No.ShortBuffer = 22
@@ -62,7 +62,7 @@ startGate t n = firstRefusal (tableRung t ∷ oneFrameRung n ∷ [])
 unfoldable pub callGate : Bool → ℕ → Table → ℕ → Gate
 callGate within frames t n = firstRefusal (tableRung t ∷ readerRung within ∷ framesRung frames n ∷ [])
 
--- ---- behind a gate
+-- ---- after a gate
 
 -- what a call gives: where its gate is open what it does, else what its refusal says
 abbrev pub through : {A : Type 0} → Gate → (Refusal → A) → A → A

@@ -1,5 +1,5 @@
--- What the judging program does with the bytes that arrive, on slices: 01, "An example day". Derived: `text-of-stream` of the proofs joins it to the
--- stream on paper. Assumes nothing.
+-- What the judging program does with the bytes that arrive, on slices: REQUIREMENT.md, section 8. Derived: `text-of-stream` of the proofs joins it to
+-- the stream on paper. Assumes nothing.
 use mathlib.Core.Bool.{Bool, true, false, cond}
 use mathlib.Core.List.{List, [], _++_}
 use mathlib.Core.Path.{_≡_}
@@ -18,7 +18,7 @@ use Rattle.reader.specs.declared.Answer.{Answer}
 use Rattle.reader.specs.declared.Answer.the-variants as Says
 use Rattle.reader.specs.Machine.{Outcome, feedOf, closeOf}
 
--- the reader and the work buffer behind some feeds, the bytes that they read, the lines of their verdicts, and what the last one answered
+-- the reader and the work buffer after some feeds, the bytes that they read, the lines of their verdicts, and what the last one answered
 pub record Reported : Type 0 where
   pub reader : Reader
   pub work : List ℕ
@@ -30,7 +30,7 @@ pub record Reported : Type 0 where
 abbrev pub stops : Outcome → Reported
 stops o = record { reader = o .reader; work = o .work; read = o .count; text = []; answer = o .answer }
 
--- the line of a verdict, then those of the feeds behind it; its feed read i bytes
+-- the line of a verdict, then those of the feeds after it; its feed read i bytes
 abbrev pub lineThen : ℕ → Verdict → Reported → Reported
 lineThen i v x = record { reader = x .reader; work = x .work; read = i + x .read; text = lineOf v ++ x .text; answer = x .answer }
 

@@ -30,7 +30,7 @@ module _ {es : List Entry} (sound : Sound es) where
       ltb-true (numberOf (keysOf es) k) (numberOf (keysOf es) l)
       (not-false (ltb (numberOf (keysOf es) k) (numberOf (keysOf es) l)) (rw (eq-eqb r r refl, eq-eqb m m refl) at (sound .ascending i j)))
 
-  -- behind an edge the key numbers of a run are above the edge's
+  -- after an edge the key numbers of a run are above the edge's
   pub number-lt-of-run : {r q m : ℕ} {k l : List ℕ} {t : ValueKind} {v : Json} {ps : Pairs} → edge r obj q k t m ∈ es → ObjectRun es r m ps
       → Among l v ps → numberIn es k < numberIn es l
   number-lt-of-run i (object-edge j f run) first = number-lt-of-edges i j

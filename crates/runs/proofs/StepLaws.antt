@@ -16,7 +16,7 @@ use Rattle.runs.specs.Walk.{States, OpenObject, InKeys, keyCount, number
 module _ (es : List Entry) where
   -- ---- numbers
 
-  -- a key is one of the keys, or has the number behind them
+  -- a key is one of the keys, or has the number after them
   pub numberIn-le : (k : List ℕ) → numberIn es k ≤ keyCount es
   unfolding numberIn keyCount
   numberIn-le k = numberOf-le (keysOf es) k
@@ -51,7 +51,7 @@ module _ (es : List Entry) where
   unfolding useKey
   useKey-unseen o c S e = rw e
 
-  -- nor does a walk go on behind the last key that was seen
+  -- nor does a walk go on after the last key that was seen
   pub walk-more : (o : OpenObject) (i n m : ℕ) (S : States) → ((c : ℕ) → i + n ≤ c → o .seen c ≡ false) → walk es o i (n + m) S ≡ walk es o i n S
   walk-more o i n zero S h = ap (λ (c : ℕ). walk es o i c S) (add-zero n)
   walk-more o i n (suc m) S h =

@@ -42,7 +42,7 @@ module _ (es : List Entry) (o : OpenObject) where
     seen : {k : List ℕ} {v : Json} → Among k v ps → T (o .seen (numberIn es k))
     met : (c : ℕ) → i ≤ c → T (o .seen c) → SeenBy es c ps
 
-  -- where key i was not seen, the same pairs are left behind it
+  -- where key i was not seen, the same pairs are left after it
   left-unseen : {i n : ℕ} {ps : Pairs} → o .seen i ≡ false → Left i (suc n) ps → Left (suc i) n ps
   left-unseen {i} {n} {ps} e l = record {
     above = λ {k} {v} a. let h : i ≤ numberIn es k = l .above a in let g = apart a in omega arith;
@@ -54,7 +54,7 @@ module _ (es : List Entry) (o : OpenObject) where
       apart : {k : List ℕ} {v : Json} → Among k v ps → numberIn es k ≡ i → ⊥
       apart a p = rw (p, e) at (l .seen a)
 
-  -- where the pair with key i is taken out, the others are left behind it
+  -- where the pair with key i is taken out, the others are left after it
   left-taken : {i n : ℕ} {k : List ℕ} {v : Json} {ps qs : Pairs} → Insert k v ps qs → numberIn es k ≡ i
       → ((l : List ℕ) (u : Json) → Among l u ps → suc i ≤ numberIn es l) → Left i (suc n) qs → Left (suc i) n ps
   left-taken {i} {n} {k} {v} {ps} {qs} j e up l = record {
@@ -84,7 +84,7 @@ module _ (es : List Entry) (o : OpenObject) where
     once : KeyTwice ps → ⊥
     takes : {e r q m : ℕ} {k : List ℕ} {t : ValueKind} → EdgeFrom 0 es e (edge r obj q k t m) → T (o .fitting e) → i ≤ numberIn es k → Taking k t ps
 
-  -- the same behind a key that was not seen
+  -- the same after a key that was not seen
   toRun-unseen : {i : ℕ} {ps : Pairs} → LeftToRun i ps → LeftToRun (suc i) ps
   toRun-unseen {i} l = record {
     good = λ {k} {v} a. l .good a;
@@ -109,7 +109,7 @@ module _ (es : List Entry) (o : OpenObject) where
           go (inl (q, _)) = let d : numberIn es k ≡ numberIn es x = ap (numberIn es) q in absurd (omega arith)
           go (inr b) = taking b w
 
-  -- behind a pair that is taken out the key numbers are above its own
+  -- after a pair that is taken out the key numbers are above its own
   above-taken : {i n : ℕ} {k : List ℕ} {v : Json} {ps qs : Pairs} → Insert k v ps qs → numberIn es k ≡ i → Left i (suc n) qs → LeftToRun i qs
       → (x : List ℕ) (u : Json) → Among x u ps → suc i ≤ numberIn es x
   above-taken {i} {k} {ps} j e l m x u a = let h : i ≤ numberIn es x = l .above (among-insert j a) in let g = apart in omega arith
@@ -219,7 +219,7 @@ judged-of-among : {es : List Entry} {k : List ℕ} {v : Json} {ps : Pairs} → A
 judged-of-among (judged-pair j js) first = j
 judged-of-among (judged-pair j js) (later a) = judged-of-among js a
 
--- what is kept of an object behind its last pair
+-- what is kept of an object after its last pair
 abbrev kept : List Entry → Pairs → OpenObject
 kept es ps = members (judging es) ps (atOpening es)
 

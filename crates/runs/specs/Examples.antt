@@ -1,5 +1,5 @@
--- Books and values, each with its verdict: REQUIREMENT.md, section 8, those examples that are trees; then a book of our own, for the slips that are
--- to be ruled out. Stated. Assumes nothing.
+-- Books and values, each with its verdict: REQUIREMENT.md, section 8, those examples that are trees; then a book of our own, for the slips that are to
+-- be ruled out. Stated. Assumes nothing.
 use mathlib.Core.Bool.{Bool, true, false}
 use mathlib.Core.List.{List, [], _∷_}
 use Prim.Native.Nat.{ℕ}

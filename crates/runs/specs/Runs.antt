@@ -1,4 +1,4 @@
--- Which values fit which kinds, and which texts are valid: 01, "Runs", and demand 2, over the entries of a book and the tree of a text.
+-- Which values fit which kinds, and which texts are valid: REQUIREMENT.md, section 4, and demand 2, over the entries of a book and the tree of a text.
 -- Stated. Assumes nothing.
 use mathlib.Core.Bool.{Bool, not, _||_}
 use mathlib.Core.List.{List, List·Memᴰ}
@@ -80,7 +80,7 @@ mutual
     order-no-values : OrderValues no-values no-values
     order-values : {v w : Json} {vs ws : Values} → Order v w → OrderValues vs ws → OrderValues (values v vs) (values w ws)
 
-  -- an order of the pairs behind the first, with the first, its value in some order, put in somewhere
+  -- an order of the pairs after the first, with the first, its value in some order, put in somewhere
   pub data OrderPairs : Pairs → Pairs → Type 0 where
     order-no-pairs : OrderPairs no-pairs no-pairs
     order-pairs : {k : List ℕ} {v w : Json} {ps qs rs : Pairs} → Order v w → OrderPairs ps qs → Insert k w qs rs → OrderPairs (pairs k v ps) rs

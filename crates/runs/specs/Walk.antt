@@ -1,5 +1,5 @@
 -- What a reader finds of a text from left to right, as a meaning: which kinds a finished value fits; sets of states in an open array; in an open
--- object what its frame keeps: 01, "Frames". Derived: `Judging.fits-iff-judged` joins it to `Runs.FitsInSomeOrder`. Assumes nothing.
+-- object what its frame keeps: REQUIREMENT.md, section 5. Derived: `Judging.fits-iff-judged` joins it to `Runs.FitsInSomeOrder`. Assumes nothing.
 use mathlib.Core.Bool.{Bool, true, false, not, cond, _&&_, _||_}
 use mathlib.Core.List.{List, [], _∷_, _++_}
 use Prim.Native.Nat.{ℕ, zero, suc, _<_, _≤_}
@@ -117,7 +117,7 @@ module _ (es : List Entry) where
   unfoldable pub numberIn : List ℕ → ℕ
   numberIn k = numberOf (keysOf es) k
 
-  -- the numbers that an open object keeps are numbers of keys, but that an unknown current key has the number behind them
+  -- the numbers that an open object keeps are numbers of keys, but that an unknown current key has the number after them
   pub record InKeys (o : OpenObject) : Type 0 where
     pub current-le : o .current ≤ keyCount
     pub seen-lt : (c : ℕ) → T (o .seen c) → c < keyCount

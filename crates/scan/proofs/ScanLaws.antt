@@ -43,7 +43,7 @@ module _ (f : ℕ → Bool) (s : List ℕ) (i : ℕ) (b : Bool) (inv : all f (dr
 
 -- ---- numbers
 
--- digits behind a number only make it larger
+-- digits after a number only make it larger
 pub numberFrom-ge : (a : ℕ) (s : List ℕ) → a ≤ numberFrom a s
 unfolding numberFrom
 numberFrom-ge a [] = omega arith
@@ -64,7 +64,7 @@ module _ (acc limit b : ℕ) where
   pub grow-stop : limit ≤ acc → acc ≡ cond (ltb acc limit) (acc * 10 + (b - 48)) acc
   grow-stop h = rw (le-ltb acc limit h)
 
--- the digits from place i on, behind digits that mean a, come to r under the limit m
+-- the digits from place i on, after digits that mean a, come to r under the limit m
 module _ (s : List ℕ) (m a i r : ℕ) (inv : capped m (numberFrom a (drop i s)) ≡ r) where
   pub value-more : (n : ℕ) → n ≡ cond (ltb a m) (a * 10 + (getD s i 0 - 48)) a → i < length s → capped m (numberFrom n (drop (i + 1) s)) ≡ r
   unfolding numberFrom

@@ -84,7 +84,7 @@ sameAt t c e =
 unfoldable pub hasCell : Table → Cell → Bool
 hasCell t c = some (sameAt t c) 0 (t .edges)
 
--- the key of n bytes with number k is a new one behind m keys
+-- the key of n bytes with number k is a new one after m keys
 unfoldable pub isNew : ℕ → ℕ → ℕ → Bool
 isNew n k m = not (eqb n 0) && eqb k m
 

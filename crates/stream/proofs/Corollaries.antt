@@ -92,7 +92,7 @@ module _ {Book : Table → List Entry → Type 0} {Tracks : (es : List Entry) �
       → verdictsIn (answers r cs) ≡ verdictsIn (answers q ds)
   same-verdicts-of-same-bytes x y = verdicts-of-stream x ∙ sym (verdicts-of-stream y)
 
-  -- a record p behind an RS has the verdict that it has alone, whatever the bytes a before the RS; here z stands behind the RS that ends it
+  -- a record p after an RS has the verdict that it has alone, whatever the bytes a before the RS; here z stands after the RS that ends it
   pub record-alone : {r : Reader} {cs : List Call} {v : Verdict} (a p z : List ℕ) → nonempty p ≡ true → noRS p ≡ true → Judged es n p v
       → StreamOf Book es n r cs (a ++ (0x1E ∷ (p ++ (0x1E ∷ z))))
       → verdictsIn (answers r cs) ≡ verdictsOf (judgeOf es n) a ++ (v ∷ verdictsBehind (judgeOf es n) z)

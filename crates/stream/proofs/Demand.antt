@@ -25,7 +25,7 @@ use Rattle.stream.proofs.CallLaws.{reading, saying, Good, good-of-fresh
 
 -- ---- one accepted call
 
--- the outcome of a call is what the paper says, and the memory behind it follows the paper
+-- the outcome of a call is what the paper says, and the memory after it follows the paper
 pub record Alike (es : List Entry) (Along : Mem → Track es → Type 0) (n : ℕ) (o : Outcome) (said : Said) : Type 0 where
   pub count : o .count ≡ said .count
   pub answer : o .answer ≡ said .answer
@@ -97,7 +97,7 @@ module _ {Book : Table → List Entry → Type 0} {Tracks : (es : List Entry) �
           fair = f .2;
         }
 
-    -- behind a call that it refuses the stream is fair from the same reader on
+    -- after a call that it refuses the stream is fair from the same reader on
     pub fair-of-refused : accepted n c ≡ false → Fair Book es n k r cs
     unfolding Fair
     fair-of-refused e =
@@ -135,7 +135,7 @@ module _ {Book : Table → List Entry → Type 0} {Tracks : (es : List Entry) �
 
 module _ {Book : Table → List Entry → Type 0} {Tracks : (es : List Entry) → ℕ → Mem → Track es → Type 0} (facts : Reading Book Tracks)
     (n : ℕ) (least : 1 ≤ n) (most : n ≤ 64) where
-  -- the streams behind the first, whose beginning lies behind r
+  -- the streams after the first, which begin after r
   abbrev Later : Reader → List (List Call) → Type 0
   Later r [] = T true
   Later r (s ∷ ss) = Answered Book n (after r s) ss

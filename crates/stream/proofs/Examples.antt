@@ -20,12 +20,12 @@ module _ (J : Judge) where
   unfolding cutAtRS givenAll bytes
   verdicts-example = refl
 
-  -- the first feed ends with the head, at the RS behind it
+  -- the first feed ends with the head, at the RS after it
   head-example : goes J opening 0 bytes ≡ record { paper = record { head = false; part = [] }; count = 2; answer = Says.Judged (J true (0x7A ∷ [])) }
   unfolding goes bytes
   head-example = refl
 
-  -- the rest is fed: the record ends at the RS behind it
+  -- the rest is fed: the record ends at the RS after it
   record-example : goes J (record { head = false; part = [] }) 0 (0x5B ∷ 0x1E ∷ 0x1E ∷ 0x31 ∷ [])
       ≡ record { paper = record { head = false; part = [] }; count = 2; answer = Says.Judged (J false (0x5B ∷ [])) }
   unfolding goes

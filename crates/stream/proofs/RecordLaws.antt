@@ -13,7 +13,7 @@ use Rattle.stream.specs.Paper.{Judge, Paper, nonempty, Said, goes, ends}
 use Rattle.laws.proofs.TestLaws.{true-neq-false}
 use Rattle.stream.specs.Records.{Parts, withByte, cutAtRS, noRS, nonempties, recordsOf, given, givenAll, verdictsOf, verdictsBehind, andThen}
 
--- ---- what stands behind an RS
+-- ---- what stands after an RS
 
 module _ (b : ℕ) (s : List ℕ) where
   pub cutAtRS-of-RS : eqb b 0x1E ≡ true → cutAtRS (b ∷ s) ≡ record { first = []; behind = cutAtRS s .first ∷ cutAtRS s .behind }
@@ -58,19 +58,19 @@ module _ (J : Judge) where
   unfolding givenAll
   givenAll-cutAtRS s = refl
 
-  -- the verdicts before an RS, then those behind it: neither depends on the other side
+  -- the verdicts before an RS, then those after it: neither depends on the other side
   pub verdictsOf-append : (a s : List ℕ) → verdictsOf J (a ++ (0x1E ∷ s)) ≡ verdictsOf J a ++ verdictsBehind J s
   verdictsOf-append a s =
       rw (cutAtRS-append a s, givenAll-append (cutAtRS a .behind) (cutAtRS s .first ∷ cutAtRS s .behind), givenAll-cutAtRS s)
       (given-append true (cutAtRS a .first) (givenAll J (cutAtRS a .behind)) (verdictsBehind J s))
 
-  -- the same of bytes that stand behind an RS themselves
+  -- the same of bytes that stand after an RS themselves
   pub verdictsBehind-append : (a s : List ℕ) → verdictsBehind J (a ++ (0x1E ∷ s)) ≡ verdictsBehind J a ++ verdictsBehind J s
   verdictsBehind-append a s =
       rw (cutAtRS-append a s, givenAll-append (cutAtRS a .behind) (cutAtRS s .first ∷ cutAtRS s .behind), givenAll-cutAtRS s)
       (given-append false (cutAtRS a .first) (givenAll J (cutAtRS a .behind)) (verdictsBehind J s))
 
--- a record behind an RS
+-- a record after an RS
 cutAtRS-of-noRS : (p : List ℕ) → noRS p ≡ true → cutAtRS p ≡ record { first = p; behind = [] }
 unfolding cutAtRS all
 cutAtRS-of-noRS [] h = refl
@@ -118,7 +118,7 @@ module _ (J : Judge) where
 -- ---- the paper
 
 module _ (J : Judge) where
-  -- the verdicts of the bytes behind what the paper holds
+  -- the verdicts of the bytes after what the paper holds
   abbrev pub verdictsFrom : Paper → List ℕ → List Verdict
   verdictsFrom p s = given J (p .head) (p .part ++ cutAtRS s .first) (givenAll J (cutAtRS s .behind))
 
@@ -141,12 +141,12 @@ module _ (J : Judge) where
       go true = refl
       go false = refl
 
-  -- the bytes behind the next one
+  -- the bytes after the next one
   drop-next : (i : ℕ) (whole : List ℕ) (b : ℕ) (s : List ℕ) → drop i whole ≡ b ∷ s → drop (i + 1) whole ≡ s
   drop-next i whole b s e = sym (drop-drop 1 i whole) ∙ ap (drop 1) e
 
   module _ (whole u : List ℕ) where
-    -- the verdicts are what the paper says to a piece, and then those of the unread rest and the bytes behind the piece
+    -- the verdicts are what the paper says to a piece, and then those of the unread rest and the bytes after the piece
     abbrev Given : Paper → List ℕ → Said → Type 0
     Given p s said = verdictsFrom p (s ++ u) ≡ andThen (said .answer) (verdictsFrom (said .paper) (drop (said .count) whole ++ u))
 
@@ -166,7 +166,7 @@ module _ (J : Judge) where
     given-of-piece [] p i e = rw e
     given-of-piece (b ∷ s) p i e = given-of-byte p i b s e (λ p i e. given-of-piece s p i e) (eqb b 0x1E) refl (nonempty (p .part)) refl
 
-  -- a feed gives the verdict that the paper says, and the unread rest stands before the bytes behind the piece
+  -- a feed gives the verdict that the paper says, and the unread rest stands before the bytes after the piece
   pub from-feed : (p : Paper) (s u : List ℕ)
       → verdictsFrom p (s ++ u) ≡ andThen (goes J p 0 s .answer) (verdictsFrom (goes J p 0 s .paper) (drop (goes J p 0 s .count) s ++ u))
   from-feed p s u = given-of-piece s u s p 0 refl

@@ -61,7 +61,7 @@ tallyAfter-andThen Says.Quiet vs y = refl
 tallyAfter-andThen (Says.Judged v) vs y = refl
 tallyAfter-andThen (Says.Refused k) vs y = refl
 
--- the reader behind any calls has counted every verdict that they gave
+-- the reader after any calls has counted every verdict that they gave
 pub tally-of-calls : (cs : List Call) (r : Reader) → after r cs .tally ≡ tallyAfter (verdictsIn (answers r cs)) (r .tally)
 unfolding after answers verdictsIn tallyAfter
 tally-of-calls [] r = refl

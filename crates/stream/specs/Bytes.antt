@@ -1,4 +1,4 @@
--- What demand 3 needs to know of single bytes behind an RS: the memory follows the track of crate verdict. Derived: crate follows proves it.
+-- What demand 3 needs to know of single bytes after an RS: the memory follows the track of crate verdict. Derived: crate follows proves it.
 -- Assumes nothing.
 use mathlib.Core.Bool.{false}
 use mathlib.Core.List.{List}

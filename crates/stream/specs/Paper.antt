@@ -1,4 +1,4 @@
--- The stream on paper: 01, "The stream". It is told what start and each call after it are handed, the reader aside. Stated. Assumes nothing.
+-- The stream on paper: REQUIREMENT.md, section 7. It is told what start and each call after it are handed, the reader aside. Stated. Assumes nothing.
 use mathlib.Core.Bool.{Bool, true, false, cond}
 use mathlib.Core.List.{List, [], _∷_, _++_}
 use mathlib.Core.Path.{_≡_}
@@ -53,7 +53,7 @@ pub record Said : Type 0 where
   pub count : ℕ
   pub answer : Answer
 
--- a feed goes through its piece, i bytes of which are behind it. A byte other than RS joins the part. An RS first gives a nonempty part its
+-- a feed goes through its piece; i bytes of it are read. A byte other than RS joins the part. An RS first gives a nonempty part its
 -- verdict and empties it, then ends the head; after a verdict the feed ends
 unfoldable pub goes : Judge → Paper → ℕ → List ℕ → Said
 goes J p i [] = record { paper = p; count = i; answer = Says.Quiet }

@@ -1,5 +1,5 @@
--- A stream by its bytes: RS splits it into parts, each nonempty one a record with one verdict, and calls hand its bytes over piece by piece: 01,
--- "The stream" and "The stream on paper". Stated. Assumes nothing.
+-- A stream by its bytes: RS splits it into parts, each nonempty one a record with one verdict, and calls hand its bytes over piece by piece:
+-- REQUIREMENT.md, sections 6 and 7. Stated. Assumes nothing.
 use mathlib.Core.Bool.{Bool, true, false, cond, not}
 use mathlib.Core.List.{List, [], _∷_, _++_}
 use mathlib.Core.Path.{_≡_}
@@ -21,12 +21,12 @@ use Rattle.stream.specs.Claim.{run, accepted, nothing, Fair}
 
 -- ---- the records of a stream
 
--- the parts that RS splits bytes into: those before the first RS, and those behind each RS
+-- the parts that RS splits bytes into: those before the first RS, and those after each RS
 pub record Parts : Type 0 where
   pub first : List ℕ
   pub behind : List (List ℕ)
 
--- a byte before parts: an RS makes them stand behind it, any other byte joins the first
+-- a byte before parts: an RS makes them stand after it, any other byte joins the first
 abbrev pub withByte : ℕ → Parts → Parts
 withByte b x = cond (eqb b 0x1E) (record { first = []; behind = x .first ∷ x .behind }) (record { first = b ∷ x .first; behind = x .behind })
 
@@ -47,11 +47,11 @@ nonempties (p ∷ ps) = cond (nonempty p) (p ∷ nonempties ps) (nonempties ps)
 abbrev pub recordsOf : List ℕ → List (List ℕ)
 recordsOf s = nonempties (cutAtRS s .first ∷ cutAtRS s .behind)
 
--- a nonempty part is a record with one verdict, an empty part has none; vs are the verdicts behind it
+-- a nonempty part is a record with one verdict, an empty part has none; vs are the verdicts after it
 abbrev pub given : Judge → Bool → List ℕ → List Verdict → List Verdict
 given J head p vs = cond (nonempty p) (J head p ∷ vs) vs
 
--- the verdicts of parts behind an RS, in stream order
+-- the verdicts of parts after an RS, in stream order
 unfoldable pub givenAll : Judge → List (List ℕ) → List Verdict
 givenAll J [] = []
 givenAll J (p ∷ ps) = given J false p (givenAll J ps)
@@ -60,7 +60,7 @@ givenAll J (p ∷ ps) = given J false p (givenAll J ps)
 abbrev pub verdictsOf : Judge → List ℕ → List Verdict
 verdictsOf J s = given J true (cutAtRS s .first) (givenAll J (cutAtRS s .behind))
 
--- the verdicts of bytes behind an RS
+-- the verdicts of bytes after an RS
 abbrev pub verdictsBehind : Judge → List ℕ → List Verdict
 verdictsBehind J s = given J false (cutAtRS s .first) (givenAll J (cutAtRS s .behind))
 
@@ -81,7 +81,7 @@ unfoldable pub tallyAfter : List Verdict → Tally → Tally
 tallyAfter [] y = y
 tallyAfter (v ∷ vs) y = tallyAfter vs (tallied v y)
 
--- calls from a reader on, with n frames, that hand over bytes and then close. The unread rest of a piece comes first in what the calls behind it
+-- calls from a reader on, with n frames, that hand over bytes and then close. The unread rest of a piece comes first in what the calls after it
 -- hand over; a refused call hands over nothing
 pub data Hands (n : ℕ) : Reader → List Call → List ℕ → Type 0 where
   closed : {r : Reader} {t : Table} {w : List ℕ} → accepted n (close t w) ≡ true → Hands n r (close t w ∷ []) []

@@ -1,5 +1,5 @@
--- The keys of a table and the number of a key: 01, "Rule books", keys are numbered by first appearance, and "Frames", 255 for an unknown one.
--- Stated. Assumes nothing.
+-- The keys of a table and the number of a key: REQUIREMENT.md, section 3, keys are numbered by where they first stand, and section 5, 255 for an
+-- unknown one. Stated. Assumes nothing.
 use mathlib.Core.Bool.{cond}
 use mathlib.Core.List.{List, [], _∷_}
 use Prim.Native.Nat.{ℕ, suc, _*_}

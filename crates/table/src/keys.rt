@@ -8,7 +8,7 @@ ghost use Rattle.table.specs.Keys.{keyAt, tableKeys, numberOf, keyFound}
 use crate::bytes;
 use crate::flat;
 
-// The place behind the last of n bytes from place a on, at most the end of the bytes of keys.
+// The place after the last of n bytes from place a on, at most the end of the bytes of keys.
 fn end_of(a: usize, n: u8) -> usize
     requires { ⌜ a ≤ 7696 ⌝ }
     ensures { λ r. ⌜ (r ≡ min (a + n) 7696) × (a ≤ r) ⌝ }

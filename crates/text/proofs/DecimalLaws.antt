@@ -34,7 +34,7 @@ digits-not : (p n : ℕ) (ps : List ℕ) → n < p → digits (p ∷ ps) n ≡ d
 unfolding digits digitIf
 digits-not p n ps h = rw (lt-leb p n h)
 
--- all digits from a power on that the number reaches, behind digits that mean a
+-- all digits from a power on that the number reaches, after digits that mean a
 number-of-all : {p : ℕ} {ps : List ℕ} → Down p ps → (a n : ℕ) → p ≤ n → numberFrom a (digits ps n) ≡ a * (10 * p) + n % (10 * p)
 unfolding digits numberFrom
 number-of-all none a n h = omega arith

@@ -1,4 +1,4 @@
--- The lines of 01's example day and of its other verdicts, tried. Assumes nothing.
+-- The lines of the example day and of the other verdicts, tried. Assumes nothing.
 use mathlib.Core.List.{[], _∷_, _++_}
 use mathlib.Core.Path.{_≡_, refl}
 use Rattle.laws.specs.Ascii.{ascii}

@@ -7,7 +7,7 @@ use lib.Dec.{leb}
 use lib.ListN.{length}
 use lib.Seq.{sets}
 
--- the buffer o with bs from the place at on, and the place behind them
+-- the buffer o with bs from the place at on, and the place after them
 pub record Put (o : List ℕ) (at : ℕ) (bs : List ℕ) (now : List ℕ) (behind : ℕ) : Type 0 where
   pub bytes : now ≡ sets o at bs
   pub place : behind ≡ at + length bs
@@ -20,7 +20,7 @@ room = 64
 unfoldable pub hasRoom : ℕ → ℕ → Bool
 hasRoom n at = leb (at + room) n
 
--- the buffer and the place behind what is put there; without room for a line nothing is put
+-- the buffer and the place after what is put there; without room for a line nothing is put
 pub record Written : Type 0 where
   pub out : List ℕ
   pub at : ℕ

@@ -1,4 +1,4 @@
--- The text of the judging program: 01, "An example day". Stated. Assumes nothing.
+-- The text of the judging program: REQUIREMENT.md, section 8. Stated. Assumes nothing.
 use mathlib.Core.Bool.{cond}
 use mathlib.Core.List.{List, [], _∷_, _++_}
 use Prim.Native.Nat.{ℕ, _+_, _/_, _%_}

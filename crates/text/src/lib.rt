@@ -1,4 +1,4 @@
-// The text of the judging program, as bytes in a lent buffer. Each function answers the place behind what it wrote; where the buffer has less
+// The text of the judging program, as bytes in a lent buffer. Each function answers the place after what it wrote; where the buffer has less
 // than 64 bytes from the place on, it writes nothing.
 ghost use mathlib.Core.Path.{_≡_};
 ghost use Rattle.verdict.specs.Verdict.{shown};

@@ -1,4 +1,4 @@
-// Words and numbers put into a buffer byte by byte. Each function answers the place behind what it put.
+// Words and numbers put into a buffer byte by byte. Each function answers the place after what it put.
 ghost use mathlib.Core.Path.{_≡_};
 ghost use mathlib.Core.List.{[], _∷_};
 ghost use Prim.Native.Nat.{_+_, _≤_, _<_};

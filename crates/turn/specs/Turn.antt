@@ -1,4 +1,5 @@
--- One byte that ends no record, with any step of it. Derived: with the byte's own step it is `stepMem` of crate progress (`turned-stepMem`). Assumes nothing.
+-- One byte that ends no record, with any step of it. Derived: with the byte's own step it is `stepMem` of crate progress (`turned-stepMem`). Assumes
+-- nothing.
 use mathlib.Core.Bool.{Bool, cond}
 use mathlib.Core.List.{List}
 use mathlib.Core.Path.{_≡_}

@@ -150,7 +150,7 @@ fn pair(calls: &[u8], i: usize) -> usize {
     two(calls[i], calls[i + 1])
 }
 
-// The calls, each behind five bytes: which, a number, and the length of its bytes.
+// The calls, each after five bytes: which, a number, and the length of its bytes.
 fn run(calls: &[u8], work: &mut [u8]) {
     let n = calls.len();
     let mut table = [0u8; 7920];

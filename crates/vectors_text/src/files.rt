@@ -1,4 +1,4 @@
-// The files that data/names lists, as they stand behind an RS, under data/book.txt with 64 frames: read in pieces as large as the buffer, and
+// The files that data/names lists, as they stand after an RS, under data/book.txt with 64 frames: read in pieces as large as the buffer, and
 // again in pieces of 1, 2, 3 and 7 bytes. A line for each verdict of a file, one more for each size of piece that has other verdicts, and in the
 // end how many files are JSON.
 ghost use Prim.Native.Nat.{_<_, _≤_};

@@ -1,4 +1,4 @@
-// Records around the limits of length and depth, which are made here: the verdicts of each, behind a label with its length, or with its levels
+// Records around the limits of length and depth, which are made here: the verdicts of each, after a label with its length, or with its levels
 // and the bytes of the buffer.
 use crate::long;
 use crate::nest;

@@ -114,7 +114,7 @@ pub fn run_three<'a>(
     run_two(t, work, space, label, first, unit, last);
 }
 
-// A record that is too long, and one behind it.
+// A record that is too long, and one after it.
 pub fn pair(t: &[u8; 7920], work: &mut [u8; WORK], space: &mut [u8; 65536]) {
     fill(space, b"[\"a\",1],");
     let began = verdicts::begin(t, work);
@@ -125,7 +125,7 @@ pub fn pair(t: &[u8; 7920], work: &mut [u8; WORK], space: &mut [u8; 65536]) {
     verdicts::say_all(b"too-long-then-sound", vs);
 }
 
-// A head that would be too long for a record, and a record behind it.
+// A head that would be too long for a record, and a record after it.
 pub fn head(t: &[u8; 7920], work: &mut [u8; WORK], space: &mut [u8; 65536]) {
     fill(space, b" ");
     let began = verdicts::begin(t, work);

@@ -151,7 +151,7 @@ pub fn run_texts(t: &[u8; 7920]) {
     run_text(t, &mut work, b"[]{");
 }
 
-// Arrays left open, and behind them 64 that are closed.
+// Arrays left open, and after them 64 that are closed.
 fn pair(t: &[u8; 7920], work: &mut [u8; 2 * WORK], label: &[u8], levels: usize) {
     let began = verdicts::begin(t, work);
     let first = verdicts::feed_all(t, began, work, b"\x1e");
@@ -163,7 +163,7 @@ fn pair(t: &[u8; 7920], work: &mut [u8; 2 * WORK], label: &[u8], levels: usize) 
     verdicts::say_all(label, vs);
 }
 
-// A record that fails, and one behind it: the second is judged as it is alone.
+// A record that fails, and one after it: the second is judged as it is alone.
 pub fn pairs(t: &[u8; 7920], work: &mut [u8; 2 * WORK]) {
     pair(t, work, b"alone", 0);
     pair(t, work, b"broken-off-then-sound", 64);

@@ -55,7 +55,7 @@ fn and_one(vs: Verdicts, v: Verdict) -> Verdicts {
     }
 }
 
-// The stream behind a call that answered a. No call should be refused here: one that is says so.
+// The stream after a call that answered a. No call should be refused here: one that is says so.
 fn noted(r: Reader, vs: Verdicts, a: Answer) -> Stream {
     match a {
         Answer::Quiet => Stream {
@@ -88,7 +88,7 @@ pub fn begin<'a>(t: &'a [u8; 7920], work: &'a [u8]) -> Stream {
     noted(r, none, a)
 }
 
-// The whole piece: what feed leaves unread behind a verdict is fed again.
+// The whole piece: what feed leaves unread after a verdict is fed again.
 pub fn feed_all<'a>(t: &'a [u8; 7920], s: Stream, work: &mut [u8], piece: &'a [u8]) -> Stream {
     let mut now = s;
     let mut at: usize = 0;
@@ -160,7 +160,7 @@ pub fn is_json(vs: Verdicts) -> bool {
     false
 }
 
-// A line for each verdict, behind a label; `none` where there is no record, and `more` where there are more than 16.
+// A line for each verdict, after a label; `none` where there is no record, and `more` where there are more than 16.
 pub fn say_all(label: &[u8], vs: Verdicts) {
     let n = vs.count;
     if n == 0 {

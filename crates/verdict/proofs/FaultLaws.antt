@@ -1,4 +1,4 @@
--- The faults of a part, byte by byte: while the first i bytes have none, every fault stands at byte i or behind it, and the test that stops there
+-- The faults of a part, byte by byte: while the first i bytes have none, every fault stands at byte i or after it, and the test that stops there
 -- names the one of least rank. Assumes nothing.
 use mathlib.Core.List.{List}
 use mathlib.Core.Logic.{⊎-elim}
@@ -26,7 +26,7 @@ le-of-not-lt : {i j : ℕ} → (j < i → ⊥) → i ≤ j
 le-of-not-lt {i} {j} f = omega (arith, lt-of-not-le f)
 
 module _ {n : ℕ} {p : List ℕ} where
-  -- every fault stands behind the bytes that have none, and is a byte of the part
+  -- every fault stands after the bytes that have none, and is a byte of the part
   pub le-of-fault : {i j : ℕ} {w : Verdict} → Clean n p i → Fault n p w j → i ≤ j
   le-of-fault c (too-long h) = c .short
   le-of-fault {i} {j} c (malformed x) = le-of-not-lt (λ h. x .behind (begins-of-take (suc j) i p h (c .begins)))

@@ -38,7 +38,7 @@ run-snoc : (𝕄 : Meaning) (p : List ℕ) (b : ℕ) (q : State 𝕄) → run �
 run-snoc 𝕄 [] b q = refl
 run-snoc 𝕄 (a ∷ p) b q = run-snoc 𝕄 p b (step 𝕄 q a)
 
--- p goes on with byte b at i, and with s behind it
+-- p goes on with byte b at i, and with s after it
 record Next (p : List ℕ) (i b : ℕ) (s : List ℕ) : Type 0 where
   inside : i < length p
   byte : take (suc i) p ≡ take i p ++ (b ∷ [])
@@ -79,7 +79,7 @@ module _ {es : List Entry} (sound-book : Sound es) (n : ℕ) (p : List ℕ) wher
   unfolding trackEnd
   finds-stopped {v} s j = rw (track-stopped es n v s) j
 
-  -- the state behind the first i bytes
+  -- the state after the first i bytes
   abbrev stateAt : ℕ → State (judging es)
   stateAt i = run (judging es) (start (judging es)) (take i p)
 

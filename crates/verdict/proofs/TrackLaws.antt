@@ -19,7 +19,7 @@ module _ (es : List Entry) (n : ℕ) where
   unfolding trackByte
   trackByte-short q b h = rw lt-ltb
 
-  -- behind them it is too far
+  -- after them it is too far
   pub trackByte-long : {i : ℕ} (q : State (judging es)) (b : ℕ) → longest ≤ i → trackByte es n (sound q i) b ≡ stopped Is.TooLong
   unfolding trackByte
   trackByte-long q b h = rw le-ltb
@@ -39,7 +39,7 @@ module _ (es : List Entry) (n : ℕ) where
   unfolding trackTo
   trackTo-sound q i e h = rw (e, le-ltb, add-one i)
 
-  -- behind a fault every byte is passed over
+  -- after a fault every byte is passed over
   pub track-stopped : (v : Verdict) (s : List ℕ) → track es n (stopped v) s ≡ stopped v
   unfolding trackByte
   track-stopped v [] = refl

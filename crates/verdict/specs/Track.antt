@@ -20,7 +20,7 @@ module _ (es : List Entry) where
     sound : State (judging es) → ℕ → Track
     stopped : Verdict → Track
 
-  -- the state behind byte i, where more than n levels are too deep
+  -- the state after byte i, where more than n levels are too deep
   unfoldable pub trackTo : ℕ → State (judging es) → ℕ → Track
   trackTo n q i = cond (isFault (judging es) q) (stopped (Is.Malformed i)) (cond (ltb n (depthOf (judging es) q)) (stopped (Is.TooDeep i)) (sound q (i + 1)))
 

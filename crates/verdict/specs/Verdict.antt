@@ -1,4 +1,4 @@
--- The verdict of a part: 01, "The stream", Record numbers and The stream on paper; demand 2. Stated. Assumes nothing.
+-- The verdict of a part: REQUIREMENT.md, section 6, and demand 2. Stated. Assumes nothing.
 use mathlib.Core.List.{List}
 use mathlib.Core.Path.{_≡_}
 use Prim.Native.Nat.{ℕ, suc, _≤_, _<_}
@@ -11,7 +11,7 @@ use Rattle.runs.specs.Runs.{Valid}
 use Rattle.verdict.specs.declared.Verdict.{Verdict}
 use Rattle.verdict.specs.declared.Verdict.the-variants as Is
 
--- ---- what 01 calls each verdict
+-- ---- the words and numbers of each verdict
 
 -- valid, invalid or refused
 pub data Word : Type 0 where

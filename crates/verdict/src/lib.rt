@@ -1,4 +1,4 @@
-// The verdict of a record: 01, "The stream".
+// The verdict of a record: REQUIREMENT.md, section 6.
 ghost use mathlib.Core.Path.{_≡_};
 ghost use Rattle.verdict.specs.Verdict.{shown};
 

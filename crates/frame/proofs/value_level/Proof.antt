@@ -1,4 +1,5 @@
--- `value_level` meets its contract: without a frame nothing is written, and the frame that is lent comes back as the operation made it. Assumes nothing.
+-- `value_level` meets its contract: without a frame nothing is written, and the frame that is lent comes back as the operation made it. Assumes
+-- nothing.
 use Rattle.frame.proofs.LevelLaws.{fits-of-place, none-of-place, putFrame-none, putFrame-of-lent}
 use Rattle.frame.specs.Edges.{edgesIn}
 use Rattle.frame.specs.Ops.{valued}

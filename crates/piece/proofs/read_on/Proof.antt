@@ -1,4 +1,4 @@
--- `read_on` meets its contract: what is behind the bytes passed over gives what the whole gives. Assumes nothing.
+-- `read_on` meets its contract: what is after the bytes passed over gives what the whole gives. Assumes nothing.
 use Rattle.piece.proofs.PieceLaws.{step-passed, went-all, went-on}
 use borrow.Author.Needs.{needs}
 use Rattle.piece.proofs.read_on.Statement.{statement}

@@ -1,4 +1,4 @@
--- `value` meets its contract: the digits that are left, behind what the others mean, come to the whole number under the limit. Assumes nothing.
+-- `value` meets its contract: the digits that are left, after what the others mean, come to the whole number under the limit. Assumes nothing.
 use mathlib.Core.Path.{_≡_, refl}
 use Prim.Native.Nat.{_-_}
 use lib.ListN.{length, drop}

@@ -1,4 +1,5 @@
--- `read::take_lines` meets its contract: the lines that are left, into the table so far, give what all give. Each line has at least its LF, so that its number stays below its place. Assumes nothing.
+-- `read::take_lines` meets its contract: the lines that are left, into the table so far, give what all give. Each line has at least its LF, so that
+-- its number stays below its place. Assumes nothing.
 use mathlib.Core.Path.{_≡_}
 use Prim.Native.Nat.{_≤_, _+_, _-_}
 use lib.ListN.{length, drop}

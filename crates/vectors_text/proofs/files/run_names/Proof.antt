@@ -1,4 +1,4 @@
--- `files::run_names` is safe and ends: each line ends behind its beginning. Assumes nothing.
+-- `files::run_names` is safe and ends: each line ends after its beginning. Assumes nothing.
 use Prim.Native.Nat.{_≤_, _-_}
 use lib.ListN.{length}
 use mathlib.Core.Path.{_≡_}

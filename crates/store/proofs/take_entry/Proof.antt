@@ -1,5 +1,4 @@
 -- `take_entry` meets its contract: an entry within the limits of its fields is what its parts take. Assumes nothing.
-use native.Mathlib.Omega.{arith}
 use Rattle.store.proofs.StoreLaws.{takeEntry-form, takeEntry-edge, takeEntry-end, proper-rule, proper-state, proper-len, proper-code}
 use borrow.Author.Needs.{needs}
 use Rattle.store.proofs.take_entry.Statement.{statement}

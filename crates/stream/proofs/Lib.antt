@@ -15,4 +15,5 @@ pub mod TaskLaws
 pub mod NumberLaws
 pub mod SoundLaws
 pub mod LentLaws
+pub mod LentExamples
 pub mod Examples

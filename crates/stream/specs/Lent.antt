@@ -1,6 +1,7 @@
--- What feed and close write in the lent buffer: REQUIREMENT.md, section 5, its sentences on opening, closing, numbers, faulty bytes, RS and close; and
--- that nothing is written past the frames or in the frame of a level that is not open. Each sentence is about `feedOf` and `closeOf`, for every reader,
--- table, buffer and byte, made-up readers and refused calls too. Stated; `lent` of `LentLaws` proves all of `Lent`. Assumes nothing.
+-- What feed and close write in the lent buffer: REQUIREMENT.md, section 5, its sentences on opening, finished keys and values, closing, numbers, faulty
+-- bytes, RS and close; and that nothing is written past the frames or in the frame of a level that is not open. Each sentence is about `feedOf` and
+-- `closeOf`, for every reader, table, buffer and byte, made-up readers and refused calls too. Stated; `lent` of `LentLaws` proves all of `Lent`.
+-- Assumes nothing.
 use mathlib.Core.Bool.{Bool, true, false}
 use mathlib.Core.List.{List, [], _∷_, _++_}
 use mathlib.Core.Logic.{_⊎_}
@@ -49,7 +50,7 @@ pub record Spares (P : ℕ → Type 0) (w v : List ℕ) : Type 0 where
 abbrev pub withValue : Table → List ℕ → ℕ → Finished → List ℕ
 withValue t w l v = putFrame w l (valued (edgesIn t) (t .«edge_kind») (t .forms) v (frameAt w l))
 
--- the buffer with a key finished in it: its characters, of which len count
+-- the buffer with a key finished there, of which len characters are kept
 abbrev pub withKey : Table → List ℕ → ℕ → List ℕ → ℕ → List ℕ
 withKey t w l key len = putFrame w l (keyed (keyFound t key len) (frameAt w l))
 

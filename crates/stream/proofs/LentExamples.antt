@@ -14,11 +14,13 @@ use Rattle.table.specs.Table.{Table}
 use Rattle.table.specs.Limits.{withinLimits}
 use Rattle.frame.specs.Frame.{hasFrame, frameAt, isObject}
 use Rattle.progress.specs.declared.Fault.the-variants as F
-use Rattle.progress.specs.Progress.{bump, sound, advanced, judged}
+use Rattle.progress.specs.Count.{bump}
+use Rattle.progress.specs.Progress.{sound, advanced, judged}
 use Rattle.progress.specs.Memory.{topAt, closeAt, stepMem, endsRecord, runMem}
 use Rattle.reader.specs.declared.Reader.{Reader}
 use Rattle.reader.specs.Refusals.{fitReader, firstRefusal, callGate}
-use Rattle.reader.specs.Machine.{Outcome, zeroTally, feeding, feedOf, closing, closeOf}
+use Rattle.reader.specs.Tally.{zeroTally}
+use Rattle.reader.specs.Machine.{Outcome, feeding, feedOf, closing, closeOf}
 use Rattle.stream.specs.Lent.{levelOf, modeOf, inToken, faultyIn, byteFed, EndsToken}
 
 -- a table without entries, and a buffer with an array open in its first frame

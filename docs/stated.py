@@ -1,7 +1,8 @@
-"""Holds STATED.md and CLAIMS.md against the heads of the files in crates/*/specs/.
+"""Holds STATED.md, CLAIMS.md and DEVELOPING.md against the heads of the files in crates/*/specs/ and the code.
 
 A head says either Stated or Derived. STATED.md lists the stated files, each with its lines. A stated file uses definitions of stated files
 alone, but for the names that STATED.md lists as standing for what the code gives. The column 'stated in' of CLAIMS.md names stated files alone.
+DEVELOPING.md lists the functions with a `requires` that another crate can name.
 Prints what is not so, and ends with status 1 where anything is not."""
 import pathlib
 import re
@@ -74,6 +75,23 @@ for line in (ROOT / "docs/CLAIMS.md").read_text().splitlines():
         for name in re.findall(r"`([^`]+\.antt)`", cells[1]):
             if name not in stated:
                 wrong.append(f"CLAIMS.md: stated in {name}, which is no stated file")
+
+asking = set()
+for path in sorted(ROOT.glob("crates/*/src/lib.rt")):
+    crate = path.parts[-3]
+    files = {"": path}
+    for module in re.findall(r"^pub mod (\w+);", path.read_text(), re.M):
+        files[f"{module}::"] = path.with_name(f"{module}.rt")
+    for module, file in files.items():
+        for function in re.finditer(r"^( *)pub (?:extern \"C\" )?fn (\w+)(.*?)\n\1\{", file.read_text(), re.M | re.S):
+            if re.search(r"^ *requires ", function.group(3), re.M):
+                asking.add(f"{crate}::{module}{function.group(2)}")
+told = set()
+for cell in re.findall(r"^\| (`\w+::[^|]*) \|", (ROOT / "docs/DEVELOPING.md").read_text(), re.M):
+    names = re.findall(r"`([^`]+)`", cell)
+    told |= {name if "::" in name else f"{names[0].rpartition('::')[0]}::{name}" for name in names}
+for name in sorted(asking ^ told):
+    wrong.append(f"DEVELOPING.md: {name} {'is missing' if name in asking else 'has no requires'}")
 
 for line in wrong:
     print(line)

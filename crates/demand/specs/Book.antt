@@ -1,4 +1,4 @@
--- The books that demand 3 speaks of: those that load accepts. Stated. Assumes nothing.
+-- The books that demand 3 speaks of, those that load accepts: REQUIREMENT.md, section 1. Stated. Assumes nothing.
 use mathlib.Core.List.{List}
 use mathlib.Core.Path.{_≡_}
 use Prim.Native.Nat.{ℕ}

@@ -1,4 +1,4 @@
--- Entries that show verdicts. Stated. Assumes nothing.
+-- Entries that show verdicts: docs/LIBRARY.md. Stated. Assumes nothing.
 use mathlib.Core.List.{List, [], _∷_}
 use Prim.Native.Nat.{ℕ}
 use Rattle.verdict.specs.declared.Verdict.{Verdict}

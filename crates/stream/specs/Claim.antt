@@ -1,5 +1,5 @@
--- Demand 3: after an accepted start, any list of feeds and closes, refused ones included, each handed the reader that the one before returned and
--- otherwise any table, buffer and piece. Stated. Assumes nothing.
+-- Demand 3: REQUIREMENT.md, sections 1 and 7. After an accepted start, any list of feeds and closes, refused ones included, each handed the reader
+-- that the one before returned and otherwise any table, buffer and piece. Stated. Assumes nothing.
 use mathlib.Core.Bool.{Bool, true, false, cond}
 use mathlib.Core.List.{List, [], _∷_}
 use mathlib.Core.Path.{_≡_}

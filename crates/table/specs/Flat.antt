@@ -1,4 +1,4 @@
--- A table as the bytes that a caller lends: where each of its arrays stands, and the table that the bytes mean. Stated. Assumes nothing.
+-- A table as the bytes that a caller lends, docs/LIMITS.md: where each of its arrays stands, and the table that the bytes mean. Stated. Assumes nothing.
 use mathlib.Core.List.{List, [], _∷_}
 use Prim.Native.Nat.{ℕ, _+_, _*_}
 use lib.ListN.{getD, take, drop, replicate}

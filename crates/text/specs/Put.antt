@@ -1,4 +1,4 @@
--- Bytes put into a lent buffer from a place on. Stated. Assumes nothing.
+-- Bytes put into a lent buffer from a place on, as the lines of REQUIREMENT.md, section 8, are. Stated. Assumes nothing.
 use mathlib.Core.Bool.{Bool, cond}
 use mathlib.Core.List.{List}
 use mathlib.Core.Path.{_≡_}

@@ -55,7 +55,7 @@ module _ (es : List Entry) (n : ℕ) (least : 1 ≤ n) (most : n ≤ 64) where
       → verdictsIn (answers r cs) ≡ verdictsOf (judgeOf es n) a ++ (v ∷ verdictsBehind (judgeOf es n) z)
   record-alone a p z full plain j x = of-bytes.record-alone reading es n least most a p z full plain j x
 
-  -- the same of a last record, which the close ends
+  -- a last record, which the close ends, has the verdict that it has alone, after those of what stands before it
   pub last-record-alone : {r : Reader} {cs : List Call} {v : Verdict} (a p : List ℕ) → nonempty p ≡ true → noRS p ≡ true → Judged es n p v
       → StreamOf Book es n r cs (a ++ (0x1E ∷ p)) → verdictsIn (answers r cs) ≡ verdictsOf (judgeOf es n) a ++ (v ∷ [])
   last-record-alone a p full plain j x = of-bytes.last-record-alone reading es n least most a p full plain j x

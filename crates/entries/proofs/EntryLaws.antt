@@ -44,7 +44,7 @@ byte : (o : List ℕ) (at b behind : ℕ) → at + 1 ≡ behind → Put o at (b 
 byte o at b behind e = rw e at (put-byte o at b)
 
 module _ (o : List ℕ) (i word number : ℕ) where
-  -- its first four bytes
+  -- the output with the first four bytes of entry i
   abbrev first : List ℕ
   first = set (set (set (set o (16 * i) word) (16 * i + 1) number) (16 * i + 2) 0) (16 * i + 3) 0
 

@@ -84,7 +84,7 @@ module _ {es : List Entry} (sound-book : Sound es) (n : ℕ) (p : List ℕ) wher
   stateAt i = run (judging es) (start (judging es)) (take i p)
 
   module _ {i b : ℕ} {s : List ℕ} (c : Clean n p i) (x : Next p i b s) (more : Clean n p (suc i) → Finds s (sound (stateAt (suc i)) (suc i))) where
-    -- where some text begins with the bytes up to this one, the levels decide
+    -- where some text begins with the bytes up to byte i, the levels decide
     finds-alive : i < longest → isFault (judging es) (stateAt (suc i)) ≡ false → Finds s (trackTo es n (stateAt (suc i)) i)
     finds-alive l f = by-levels (decLt n (openLevels (take (suc i) p)))
       where
@@ -99,7 +99,7 @@ module _ {es : List Entry} (sound-book : Sound es) (n : ℕ) (p : List ℕ) wher
             rw (trackTo-sound es n (stateAt (suc i)) i f (omega (arith, e)))
             (more (clean-suc c (x .inside) l (begins-of-alive (judging es) (take (suc i) p) f) (omega arith)))
 
-    -- else it is malformed
+    -- within the most bytes: where no text begins with the bytes up to byte i the part is malformed, else the levels decide
     finds-to : i < longest → Finds s (trackTo es n (stateAt (suc i)) i)
     finds-to l = by-fault (isFault (judging es) (stateAt (suc i))) refl
       where
@@ -109,7 +109,7 @@ module _ {es : List Entry} (sound-book : Sound es) (n : ℕ) (p : List ℕ) wher
             (finds-stopped s (judged-malformed c (x .inside) l (λ g. true≢false (sym f ∙ alive-of-begins (judging es) (take (suc i) p) g))))
         by-fault false f = finds-alive l f
 
-    -- where there are not too many bytes
+    -- where byte i is one too many the part is too long, else the byte is read
     finds-byte : Finds s (trackByte es n (sound (stateAt i) i) b)
     finds-byte = by-length (decLt i longest)
       where

@@ -37,7 +37,7 @@ of-each P (y ∷ l) h (List·Memᴰ·tail i) = of-each P l (h .1) i
 
 -- ---- the keys of a book
 
--- the key of an entry, where it has one, is such as lines say
+-- a key has at most 32 characters, each below 128
 abbrev PlainKey : List ℕ → Type 0
 PlainKey k = (length k ≤ 32) × T (all (λ (c : ℕ). ltb c 128) k)
 

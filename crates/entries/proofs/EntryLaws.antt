@@ -57,7 +57,7 @@ module _ (o : List ℕ) (i word number : ℕ) where
   pub length-mid : (mid bs : List ℕ) (at k : ℕ) → Put first at bs mid k → length mid ≡ length o
   length-mid mid bs at k p = length-of-put first at bs mid k p ∙ length-first
 
-  -- there is room for the last eight bytes
+  -- there is room for the last eight bytes of entry i
   pub room-mid : (mid bs : List ℕ) (at k : ℕ) → Put first at bs mid k → i < length o / 16 → 16 * i + 8 + 8 ≤ length mid
   room-mid mid bs at k p h = omega (arith, length-mid mid bs at k p, h)
 

@@ -91,7 +91,7 @@ pub getD-frameAt : (w : List ℕ) (l i : ℕ) → hasFrame (length w) l ≡ true
 unfolding frameAt
 getD-frameAt w l i e h = rw e (getD-take 96 (drop (frameStart l) w) i 0 h ∙ getD-drop (frameStart l) w i 0)
 
--- the kind is that of the byte at the place
+-- the kind of a frame is that of the byte at its place
 pub kindNumber-of-place : (w : List ℕ) (l a : ℕ) → a ≡ framePlace (length w) l → a < length w → kindNumber (frameAt w l) ≡ cond (eqb (getD w a 0) 1) 1 2
 unfolding kindNumber isObject
 kindNumber-of-place w l a p h =

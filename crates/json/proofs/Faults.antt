@@ -53,7 +53,7 @@ D-hex : hexOf 0x44 ≡ 13
 D-hex = unfold hexOf in refl
 
 module _ (r : List ℕ) where
-  -- whatever the registers hold
+  -- from the mode m on some bytes complete the string, whatever the registers hold
   FromMode : StringMode → Type 0
   FromMode m = (x h : ℕ) → CompletedString m x h r
 

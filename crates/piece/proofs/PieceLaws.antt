@@ -93,6 +93,6 @@ module _ (s : List ℕ) (i at end : ℕ) (x y z : Progress) (top : Top) (st : St
 
 -- ---- what the test of a table tells
 
--- at most 128 keys
+-- a table that passes the test has at most 128 keys
 pub keys-le : (t : Table) → withinLimits t ≡ true → t .keys ≤ 128
 keys-le t e = withinLimits-sound t (T-of-true (withinLimits t) e) .keys

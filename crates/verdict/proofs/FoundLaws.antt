@@ -70,11 +70,11 @@ module _ {es : List Entry} (sound-book : Sound es) (n : ℕ) (p : List ℕ) wher
 
   -- ---- from byte i on
 
-  -- where the bytes s are left, the machine finds the verdict from here
+  -- where the bytes s are left, the machine finds the verdict of the part from the track t on
   abbrev Finds : List ℕ → Track es → Type 0
   Finds s t = Judged es n p (trackEnd es (track es n t s))
 
-  -- at a fault its verdict is found, whatever follows
+  -- at a fault the verdict for it is found, whatever bytes follow
   finds-stopped : {v : Verdict} (s : List ℕ) → Judged es n p v → Finds s (stopped v)
   unfolding trackEnd
   finds-stopped {v} s j = rw (track-stopped es n v s) j
@@ -122,7 +122,7 @@ module _ {es : List Entry} (sound-book : Sound es) (n : ℕ) (p : List ℕ) wher
             let g : longest ≤ i = omega arith in
             rw (trackByte-long es n (stateAt i) b g) (finds-stopped s (judged-too-long c (x .inside) g))
 
-  -- as long as the bytes so far have no fault
+  -- as long as the bytes so far have no fault, the machine finds the verdict of the part
   finds-from : (s : List ℕ) (i : ℕ) → drop i p ≡ s → Clean n p i → Finds s (sound (stateAt i) i)
   unfolding trackEnd
   finds-from [] i e c =

@@ -65,7 +65,7 @@ cases =
     ∷ case 7 4 (namesLine ++ (ascii "0 arr 0 - end -\n0 arr 0 - int 0\n0 arr 0 - end -\n"))  -- 7: an end line repeated
     ∷ case 0 0 (namesLine ++ (ascii "0 obj 0 a int 1\n0 obj 0 a int 2\n"))  -- lines that differ in next alone
     ∷ case 8 0 (namesLine)  -- 8: no lines
-    ∷ case 8 0 (namesLine ++ (ascii "1 obj 0 - end -\n"))  -- 8: rule 0 has none
+    ∷ case 8 0 (namesLine ++ (ascii "1 obj 0 - end -\n"))  -- 8: rule 0 has no lines
     ∷ case 8 3 (namesLine ++ (ascii "0 obj 0 - end -\n0 obj 0 a r2 1\n0 obj 0 b r3 1\n"))  -- 8: a reference without lines, on the first such line
     ∷ case 8 3 (namesLine ++ (ascii "0 obj 0 a int 0\n0 obj 0 b r3 1\n"))  -- 8 before 9
     ∷ case 9 5 (namesLine ++ (ascii "0 obj 0 a int 1\n0 obj 0 b int 2\n0 obj 1 b int 2\n0 obj 2 b int 3\n0 obj 2 a int 3\n"))  -- 9: the later line of a pair
@@ -107,7 +107,7 @@ entriesB =
     ∷ end-state 2 arr 2
     ∷ []
 
--- load gives them for its bytes
+-- load gives the entries of book B for its bytes
 pub loads-bookB : loads bookB ≡ record { number = 0; line = 0; entries = entriesB }
 unfolding same all any isEmpty onto split between isNumber numberFrom number isForm formOf isKey keyOf behindR isPlain isKind kindIn smallKind formed small entryOf sayFields sayParts sayLine ruleOf formIn sameForm sameEntry changesForm isEdge edgeCount tooMany faultOf readOn readLines readBook firstLine hasRule dangles clashes firstClash checkBook checked loads withKey keysFrom keysOf numberOf clash codeOf
 loads-bookB = refl

@@ -40,7 +40,7 @@ any-append f (x ∷ l) r = go (f x) (any-append f l r)
     go true e = refl
     go false e = e
 
--- of one member more
+-- a test holds of some member of a list with x at its end exactly where it holds of some member of the list or of x
 pub any-last : {A : Type 0} (f : A → Bool) (l : List A) (x : A) → any f (l ++ (x ∷ [])) ≡ (any f l || f x)
 unfolding any
 any-last f l x = any-append f l (x ∷ []) ∙ rw (or-false (f x))

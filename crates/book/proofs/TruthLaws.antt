@@ -6,7 +6,7 @@ use native.Mathlib.Omega.{arith}
 use lib.Dec.{eqb}
 use borrow.Author.Tests.{eq-eqb, ne-eqb, eqb-true, eqb-false}
 
--- a test is not both
+-- a test is not both true and false
 pub true-not-false : {A : Type 0} (b : Bool) → b ≡ true → b ≡ false → A
 true-not-false b p q = absurd (let z : _≡_ {A = ℕ} 0 1 = cc in omega arith)
 

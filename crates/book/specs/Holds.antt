@@ -41,7 +41,7 @@ edgeAt t e = record {
 unfoldable pub tableEdges : Table → List Edge
 tableEdges t = tab (edgeAt t) 0 (t .edges)
 
--- ---- the same of a book
+-- ---- what stands in a book
 
 -- the number of a key; 128 for none
 unfoldable pub keyNumber : List (List ℕ) → List ℕ → ℕ
@@ -76,9 +76,9 @@ endsAt r q (end-state r′ f q′) = eqb r′ r && eqb q′ q
 
 -- a table holds the entries of a book
 pub record Holds (t : Table) (es : List Entry) : Type 0 where
-  -- its keys, numbered by first appearance
+  -- the table's keys are those of the book, numbered by first appearance
   pub keyed : tableKeys t ≡ keysOf es
-  -- its edges, numbered in book order, each with its rule, state, key number, kind, next and line
+  -- the table's edges are those of the book, numbered in book order, each with its rule, state, key number, kind, next and line
   pub edged : tableEdges t ≡ edgesOf es
   -- the form of each rule
   pub formed : (r : ℕ) → r < 32 → getD (t .forms) r 0 ≡ ruleForm es r

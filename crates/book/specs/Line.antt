@@ -51,7 +51,7 @@ dash = ascii "-"
 unfoldable pub isForm : List ℕ → Bool
 isForm s = same s word-obj || same s word-arr
 
--- the form that such a field names
+-- the form that a form field names
 unfoldable pub formOf : List ℕ → Form
 formOf s = cond (same s word-obj) obj arr
 
@@ -59,7 +59,7 @@ formOf s = cond (same s word-obj) obj arr
 abbrev pub isVisible : ℕ → Bool
 isVisible = between 0x21 0x7E
 
--- key: 1 to 32 such bytes, not `-` alone
+-- key: 1 to 32 bytes that a key may have, not `-` alone
 unfoldable pub isKey : List ℕ → Bool
 isKey s = leb 1 (length s) && (leb (length s) 32 && (all isVisible s && not (same s dash)))
 
@@ -80,7 +80,7 @@ isPlain s = same s word-null || (same s word-true || (same s word-false || (same
 unfoldable pub isKind : List ℕ → Bool
 isKind s = isPlain s || isNumber (behindR s)
 
--- the kind that such a field names
+-- the kind that a value field names
 unfoldable pub kindIn : List ℕ → ValueKind
 kindIn s =
     cond (same s word-null) (Plain Null)
@@ -97,7 +97,7 @@ smallKind (Rule n) = ltb n 32
 
 -- ---- six fields: rule, form, state, key, value, next
 
--- the line is well formed; any other is refusal 3
+-- the line is well formed; any other line is refusal 3
 unfoldable pub formed : List ℕ → List ℕ → List ℕ → List ℕ → List ℕ → List ℕ → Bool
 formed r f q k v m =
     isNumber r
@@ -107,11 +107,11 @@ formed r f q k v m =
     (same k dash && same m dash)
     (isKind v && (isNumber m && cond (same f word-obj) (isKey k) (same k dash)))))
 
--- its numbers are within their limits; any other is refusal 4
+-- the numbers of a line are within their limits; any other line is refusal 4
 unfoldable pub small : List ℕ → List ℕ → List ℕ → List ℕ → Bool
 small r q v m = ltb (number r) 32 && (ltb (number q) 16 && cond (same v word-end) true (smallKind (kindIn v) && ltb (number m) 16))
 
--- what it says
+-- what a line says: an end state, or an edge
 unfoldable pub entryOf : List ℕ → List ℕ → List ℕ → List ℕ → List ℕ → List ℕ → Entry
 entryOf r f q k v m =
     cond (same v word-end)

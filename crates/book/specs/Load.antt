@@ -41,7 +41,7 @@ unfoldable pub isEdge : Entry → Bool
 isEdge (edge r f q k v m) = true
 isEdge (end-state r f q) = false
 
--- how many are edges
+-- how many entries are edges
 unfoldable pub edgeCount : List Entry → ℕ
 edgeCount [] = 0
 edgeCount (e ∷ es) = cond (isEdge e) (suc (edgeCount es)) (edgeCount es)
@@ -61,7 +61,7 @@ pub data Read : Type 0 where
   refused : ℕ → ℕ → Read
   entries : List Entry → Read
 
--- what a line comes to after the entries so far, and then the rest of the book; n is its line
+-- what a line comes to after the entries so far, and then the rest of the book; n is the line's number
 unfoldable pub readOn : List Entry → ℕ → Said → (Entry → Read) → Read
 readOn es n (bad k) rest = refused k n
 readOn es n (good e) rest = cond (eqb (faultOf es e) 0) (rest e) (refused (faultOf es e) n)
@@ -85,7 +85,7 @@ readBook b =
 
 -- ---- after all lines
 
--- the line of the first entry of which p holds, the first entry being on line n; 0 where none is
+-- the line of the first entry of which p holds, the first entry being on line n; 0 where p holds of none
 unfoldable pub firstLine : (Entry → Bool) → ℕ → List Entry → ℕ
 firstLine p n [] = 0
 firstLine p n (e ∷ es) = cond (p e) n (firstLine p (suc n) es)

@@ -5,7 +5,7 @@ use Prim.Native.Nat.{ℕ, _+_, _*_, _-_}
 use lib.Dec.{leb, eqb}
 use Rattle.laws.specs.Lists.{all}
 
--- there is nothing in it
+-- a byte string is empty
 unfoldable pub isEmpty : List ℕ → Bool
 isEmpty [] = true
 isEmpty (b ∷ s) = false

@@ -37,7 +37,7 @@ of-each P (y ∷ l) h (List·Memᴰ·tail i) = of-each P l (h .1) i
 
 -- ---- the keys of a book
 
--- the key of an entry, where it has one, is such as lines say
+-- a key has at most 32 characters, each below 128
 abbrev PlainKey : List ℕ → Type 0
 PlainKey k = (length k ≤ 32) × T (all (λ (c : ℕ). ltb c 128) k)
 
@@ -110,14 +110,14 @@ module _ {t : Table} {es : List Entry} (book : Book t es) where
   loading : Loading (tableOf es) es
   loading = rw (← (book .entries)) (loads-kept (book .bytes))
 
-  -- its table keeps its entries
+  -- the table of an accepted book keeps its entries
   pub carries-of-book : Carries t es
   carries-of-book = rw (sym (book .table) ∙ table-of-entries (book .bytes) (book .loaded) (book .gave) ∙ ap tableOf (book .entries)) (carries-of-loading es loading)
 
   pub plain-of-book : PlainKeys es
   plain-of-book = plain-of-loading es loading
 
-  -- and its entries are sound
+  -- the entries of an accepted book are sound
   pub sound-of-book : Sound es
   sound-of-book =
       record {
@@ -128,10 +128,10 @@ module _ {t : Table} {es : List Entry} (book : Book t es) where
       apart : Each (λ u. Each (λ z. clash (keysOf es) u z ≡ false) es) es
       apart = rw (← (book .entries)) (loads-apart (book .bytes))
 
-  -- its states are those from 0 to 15
+  -- the states of an accepted book are those from 0 to 15
   pub below-of-book : StatesBelow16 es
   below-of-book = record { next-below = λ i. of-each Proper es (loading .proper) i .next }
 
-  -- so an object within a text that is valid by it has at most 15 pairs
+  -- an object within a text that is valid by an accepted book has at most 15 pairs
   pub pairs-le-15-of-book : {v : Json} {ps : Pairs} → Valid es v → Within (object ps) v → pairCount ps ≤ 15
   pairs-le-15-of-book g h = pairs-le-15-of-valid sound-of-book below-of-book g h

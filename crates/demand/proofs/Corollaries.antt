@@ -31,16 +31,16 @@ loaded-never-above-limit t w e calls c b r l q said =
     true-not-false _ (loaded-withinLimits b r l) (rw q at (never-above-limit t w e calls c said))
 
 module _ (es : List Entry) (n : ℕ) (least : 1 ≤ n) (most : n ≤ 64) where
-  -- a book that load accepts
+  -- the book of a stream is one that load accepts
   pub book-of-stream : {r : Reader} {cs : List Call} {s : List ℕ} → StreamOf Book es n r cs s → (t : Table) × Book t es
   book-of-stream x = of-bytes.book-of-stream reading es n least most x
 
-  -- one verdict for each record of the bytes, in stream order
+  -- the calls of a stream give one verdict for each record of its bytes, in stream order
   pub verdicts-of-stream : {r : Reader} {cs : List Call} {s : List ℕ} → StreamOf Book es n r cs s
       → verdictsIn (answers r cs) ≡ verdictsOf (judgeOf es n) s
   verdicts-of-stream x = of-bytes.verdicts-of-stream reading es n least most x
 
-  -- by the judge of parts
+  -- the judge of a stream gives each part its verdict
   pub judge-of-stream : {r : Reader} {cs : List Call} {s : List ℕ} → StreamOf Book es n r cs s → Judges es n (judgeOf es n)
   judge-of-stream x = judges-exist (of-bytes.sound-of-stream reading es n least most x) n
 
@@ -55,7 +55,7 @@ module _ (es : List Entry) (n : ℕ) (least : 1 ≤ n) (most : n ≤ 64) where
       → verdictsIn (answers r cs) ≡ verdictsOf (judgeOf es n) a ++ (v ∷ verdictsBehind (judgeOf es n) z)
   record-alone a p z full plain j x = of-bytes.record-alone reading es n least most a p z full plain j x
 
-  -- the same of a last record, which the close ends
+  -- a last record, which the close ends, has the verdict that it has alone, after those of what stands before it
   pub last-record-alone : {r : Reader} {cs : List Call} {v : Verdict} (a p : List ℕ) → nonempty p ≡ true → noRS p ≡ true → Judged es n p v
       → StreamOf Book es n r cs (a ++ (0x1E ∷ p)) → verdictsIn (answers r cs) ≡ verdictsOf (judgeOf es n) a ++ (v ∷ [])
   last-record-alone a p full plain j x = of-bytes.last-record-alone reading es n least most a p full plain j x

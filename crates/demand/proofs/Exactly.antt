@@ -96,7 +96,7 @@ module _ (es : List Entry) (n : ℕ) (least : 1 ≤ n) (most : n ≤ 64) {r : Re
   pub tooLong-exactly-when : GivenAfter a r cs Is.TooLong ↔ ((longest < length p) × Earliest n p Is.TooLong longest)
   tooLong-exactly-when = Iff·trans (given-iff-judged Is.TooLong) tooLong-iff
 
-  -- 14 with place i: the record has none of these three faults and is no whole text, and its length is i
+  -- 14 with place i: the record is not malformed, too deep or too long, it is no whole text, and its length is i
   pub unfinished-exactly-when : (i : ℕ) → GivenAfter a r cs (Is.Unfinished i) ↔ ((i ≡ length p) × Faultless n p × ((t : Json) → Text p t → ⊥))
   unfinished-exactly-when i = Iff·trans (given-iff-judged (Is.Unfinished i)) (unfinished-iff i)
 

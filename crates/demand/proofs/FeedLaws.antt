@@ -23,7 +23,7 @@ use Rattle.stream.proofs.FreshLaws.{le-count-of-run}
 -- ---- a feed by its three ways: it is refused, ends a record, or reads its piece
 
 module _ (r : Reader) (t : Table) (w s : List ℕ) where
-  -- how far it reads where it is let in
+  -- how far a feed that is let in reads
   abbrev ran : Ran
   ran = runMem t (r .frames) (memoryOf r w) 0 s
 

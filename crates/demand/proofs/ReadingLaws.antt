@@ -47,7 +47,7 @@ module _ (t : Table) (es : List Entry) (book : Book t es) (n : ℕ) where
     hands : Hands n r calls s
     verdicts : vs ≡ verdictsIn (answers r calls)
 
-  -- whatever the buffer was held for, as long as it is w
+  -- calls that hand over s with the verdicts vs, whatever the stream holds so far: nothing, or the table t and the buffer w
   abbrev Called : Reader → List ℕ → List ℕ → List Verdict → Type 0
   Called r w s vs = (h : Held Book) → Same Book h (close t w) → Calls h r s vs
 
@@ -90,7 +90,7 @@ module _ (t : Table) (es : List Entry) (book : Book t es) (n : ℕ) where
         let c = called-of-reads r w s vs long p nothing tt in
         c .verdicts ∙ verdicts-of-stream es n least most (record { fresh = f; fair = c .fair; hands = c .hands })
 
-    -- ---- no call of such a caller is refused
+    -- ---- no feed and no close with a good reader and a buffer with its frames is refused
 
     module _ (r : Reader) (w : List ℕ) (g : Good n r) (long : 96 * n ≤ length w) where
       served : (c : Call) → accepted n c ≡ true → (k : Refusal) → run r c .answer ≡ Says.Refused k → ⊥
@@ -112,7 +112,7 @@ module _ (b : List ℕ) (l : Loaded) (loaded : LoadsAs b l) (t : Table) (e : l .
   pub book-of-loaded : loads b .number ≡ 0 → Book t (loads b .entries)
   book-of-loaded ok = record { bytes = b; loaded = l; gave = loaded; accepted = ok; table = e; entries = refl }
 
-  -- with a frame or more its start is not refused
+  -- with a table that load gave and a buffer of a frame or more start is not refused
   pub start-quiet : (w : List ℕ) → 96 ≤ length w → startOf t w .answer ≡ Says.Quiet
   unfolding startOf
   start-quiet w h = rw (start-open-of-room t (length w) (rw e at (loaded-withinLimits b l loaded)) h)

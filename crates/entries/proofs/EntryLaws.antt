@@ -44,7 +44,7 @@ byte : (o : List ℕ) (at b behind : ℕ) → at + 1 ≡ behind → Put o at (b 
 byte o at b behind e = rw e at (put-byte o at b)
 
 module _ (o : List ℕ) (i word number : ℕ) where
-  -- its first four bytes
+  -- the output with the first four bytes of entry i
   abbrev first : List ℕ
   first = set (set (set (set o (16 * i) word) (16 * i + 1) number) (16 * i + 2) 0) (16 * i + 3) 0
 
@@ -57,7 +57,7 @@ module _ (o : List ℕ) (i word number : ℕ) where
   pub length-mid : (mid bs : List ℕ) (at k : ℕ) → Put first at bs mid k → length mid ≡ length o
   length-mid mid bs at k p = length-of-put first at bs mid k p ∙ length-first
 
-  -- there is room for the last eight bytes
+  -- there is room for the last eight bytes of entry i
   pub room-mid : (mid bs : List ℕ) (at k : ℕ) → Put first at bs mid k → i < length o / 16 → 16 * i + 8 + 8 ≤ length mid
   room-mid mid bs at k p h = omega (arith, length-mid mid bs at k p, h)
 

@@ -11,7 +11,7 @@ use lib.Seq.{take-all}
 use borrow.Author.Tests.{eq-eqb, ne-eqb, eqb-false, lt-ltb, le-ltb, ltb-true}
 use Rattle.entries.specs.Feeds.{pieceOf, pieceEnd}
 
--- ---- where it ends
+-- ---- where the piece ends
 
 module _ (size read n : ℕ) where
   pub end-whole : size ≡ 0 → n ≡ pieceEnd size read n
@@ -30,7 +30,7 @@ module _ (size read n : ℕ) where
     unfolding pieceEnd
     end-cut h = rw (ne-eqb size 0 some, le-ltb (n - read) (size - read % size) h)
 
--- ---- its bytes
+-- ---- the bytes of a piece
 
 module _ (size read : ℕ) (s : List ℕ) where
   pub piece-is : read ≤ length s → take (pieceEnd size read (length s) - read) (drop read s) ≡ pieceOf size read (drop read s)

@@ -35,7 +35,7 @@ little (suc k) n = n % 256 ∷ little k (n / 256)
 unfoldable pub bytesOf : Entry → List ℕ
 bytesOf e = e .word ∷ e .number ∷ 0 ∷ 0 ∷ (little 4 (e .place) ++ little 8 (e .read))
 
--- the output with entry i, where it has these 16 bytes
+-- the output with entry i in the 16 bytes from 16 i on, where the output has these
 unfoldable pub withEntry : List ℕ → ℕ → Entry → List ℕ
 withEntry o i e = cond (ltb i (length o / 16)) (sets o (16 * i) (bytesOf e)) o
 

@@ -44,11 +44,11 @@ pub record Fed : Type 0 where
 unfoldable pub pieceOf : ℕ → ℕ → List ℕ → List ℕ
 pieceOf size read s = cond (eqb size 0) s (take (size - read % size) s)
 
--- where that piece ends in a stream of n bytes
+-- where the unread bytes up to the next cut end, in a stream of n bytes
 unfoldable pub pieceEnd : ℕ → ℕ → ℕ → ℕ
 pieceEnd size read n = cond (eqb size 0) n (cond (ltb (n - read) (size - read % size)) n (read + (size - read % size)))
 
--- no entry of a feed: all is read, or it is refused, which changes nothing
+-- the feeds are over, with no entry more: all is read, or a feed is refused, which changes nothing
 abbrev pub stopped : Reader → List ℕ → ℕ → Fed
 stopped r w read = record { reader = r; work = w; read = read; entries = [] }
 

@@ -126,7 +126,7 @@ module _ (t : Table) (es : List Entry) (book : Book t es) (n : ℕ) (least : 1 �
       (shown-of-feeds k (o .reader) (o .work) (read + o .count) (drop (o .count) (b ∷ s)) (good-of-feed t es book n least most r w g long (pieceOf size read (b ∷ s)))
       (rw (length-of-feed r t w (pieceOf size read (b ∷ s))) long) less)
 
-  -- from a fresh reader on
+  -- from a fresh reader on, the entries show the verdicts of the bytes
   shown-of-stream : (r : Reader) (w s : List ℕ) → Fresh n r → 96 * n ≤ length w
       → Shows (streamed t size r w s .entries) (verdictsOf (judgeOf es n) s)
   unfolding streamed

@@ -29,7 +29,7 @@ plain-entriesB = record {
 plain-b : PlainKeys (loads bookB .entries)
 plain-b = rw loads-bookB plain-entriesB
 
--- crate meaning has such a table
+-- by a table that keeps book B a part is judged as by its track; crate meaning has such a table
 pub judged-b : {t : Table} → Carries t (loads bookB .entries) → (p : List ℕ) → NoRS p
     → judged (readPart t 64 (freshMem false (replicate 6144 0)) p .progress) (readPart t 64 (freshMem false (replicate 6144 0)) p .root)
     ≡ trackEnd (loads bookB .entries) (track (loads bookB .entries) 64 (trackStart (loads bookB .entries)) p)

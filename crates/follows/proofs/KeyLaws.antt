@@ -25,7 +25,7 @@ use Rattle.follows.specs.Follows.{PlainKeys, NoKey, KeyKept, all-kept, n
 
 -- ---- one more character
 
--- what no key begins with stays so
+-- where no key begins with some characters, none begins with them and one more
 noKey-last : (s : List ℕ) (c : ℕ) → NoKey s → NoKey (s ++ (c ∷ []))
 noKey-last s c (inl h) = inl (rw length-append (omega arith))
 noKey-last s c (inr h) =
@@ -38,7 +38,7 @@ noKey-high s c e =
     (rw (any-last (λ (x : ℕ). not (ltb x 128)) s c)
     (T-or-right (any (λ (x : ℕ). not (ltb x 128)) s) (not (ltb c 128)) (T-of-true (not (ltb c 128)) (rw e))))
 
--- one above 127 makes it no key
+-- a character above 127 makes the characters of the open key no key
 pub keyKept-high : (key s : List ℕ) (c : ℕ) → ltb c 128 ≡ false → KeyKept key 33 (s ++ (c ∷ []))
 keyKept-high key s c e = none-kept refl (noKey-high s c e)
 
@@ -50,7 +50,7 @@ module _ {key : List ℕ} {len : ℕ} {s : List ℕ} where
       (rw (add-one len, take-suc-set key len c (omega arith)) (ap (λ (x : List ℕ). x ++ (c ∷ [])) p))
   keyKept-put c long h (none-kept e p) = absurd (omega arith)
 
-  -- so does one too many
+  -- a character after 32 others makes the characters of the open key no key
   pub keyKept-full : (c : ℕ) → 32 ≤ len → KeyKept key len s → KeyKept key 33 (s ++ (c ∷ []))
   keyKept-full c h (all-kept e l p) = none-kept refl (inl (rw length-append (omega arith)))
   keyKept-full c h (none-kept e p) = none-kept refl (noKey-last s c p)

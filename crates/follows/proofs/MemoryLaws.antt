@@ -30,7 +30,7 @@ pub one-le-bump : (p : ℕ) → 1 ≤ bump p
 unfolding bump
 one-le-bump p = cond-elim (λ (x : ℕ). 1 ≤ x) (ltb p 4294967295) (λ h. omega arith) (λ h. omega (arith, nltb→le p 4294967295 h))
 
--- below the largest number it counts
+-- a count below the largest number becomes one more
 pub bump-below : (i : ℕ) → i < 4294967295 → bump i ≡ suc i
 unfolding bump
 bump-below i h = rw (lt-ltb i 4294967295 h, add-one i)

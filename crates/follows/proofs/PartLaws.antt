@@ -33,11 +33,11 @@ module _ {t : Table} {es : List Entry} (kept : Carries t es) (plain : PlainKeys 
   tracks-more m s [] h r = r
   tracks-more m s (b ∷ p) h r = tracks-more (stepMem t n m b) (trackByte es n s b) p (h .1) (tracks-step kept plain n few m s b (h .0) r)
 
-  -- from a fresh memory on, in any buffer with room for the frames
+  -- a fresh memory keeps the track of a part over its bytes, in any buffer with room for the frames
   pub tracks-part : (w p : List ℕ) → 96 * n ≤ length w → NoRS p → Tracks es n (readPart t n (freshMem false w) p) (track es n (trackStart es) p)
   tracks-part w p long h = tracks-more (freshMem false w) (trackStart es) p h (tracks-start es n w long)
 
-  -- so its verdict is that of the part
+  -- the verdict of a memory that was fresh before a part is that of the part's track
   pub judged-part : (w p : List ℕ) → 96 * n ≤ length w → NoRS p
       → judged (readPart t n (freshMem false w) p .progress) (readPart t n (freshMem false w) p .root) ≡ trackEnd es (track es n (trackStart es) p)
   judged-part w p long h =
@@ -56,7 +56,7 @@ module _ (t : Table) (n : ℕ) where
   head-part m [] h = refl
   head-part m (b ∷ p) h = head-part (stepMem t n m b) p (h .1) ∙ counts-stepMem t n m b (h .0) .head
 
-  -- whose verdict is 15, whatever was read
+  -- the verdict of the head is 15, whatever was read
   pub judged-head : (m : Mem) (p : List ℕ) → NoRS p → m .progress .head ≡ true → judged (readPart t n m p .progress) (readPart t n m p .root) ≡ Is.Head
   unfolding judged
   judged-head m p h e = rw (head-part m p h, e)
@@ -79,7 +79,7 @@ module _ (t : Table) (n : ℕ) where
   one-le-pos m b p h =
       one-le-pos-more (stepMem t n m b) p (h .1) (omega (arith, counts-stepMem t n m b (h .0) .pos, one-le-bump (m .progress .pos)))
 
-  -- so the count of a fresh memory, in the head or not, tells whether a part is empty
+  -- the count of a memory that was fresh before a part, in the head or not, tells whether the part is empty
   pub pos-part : (head : Bool) (w p : List ℕ) → NoRS p → ltb 0 (readPart t n (freshMem head w) p .progress .pos) ≡ nonempty p
   pos-part head w [] h = refl
   pos-part head w (b ∷ p) h = lt-ltb 0 (readPart t n (freshMem head w) (b ∷ p) .progress .pos) (one-le-pos (freshMem head w) b p h)

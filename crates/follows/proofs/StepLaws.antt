@@ -279,7 +279,7 @@ module _ {t : Table} {es : List Entry} (kept : Carries t es) (plain : PlainKeys 
   -- ---- a byte that ends a number
 
   module _ (x : NumberMode) (s : Known (M.Number x)) where
-    -- the kinds that it fits
+    -- the kinds that the number fits
     abbrev numberFits : ValueKind → Bool
     numberFits = ofScalar (cond (g .number) K.Int K.Num)
 

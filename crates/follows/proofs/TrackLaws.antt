@@ -58,7 +58,7 @@ stopped-step t es n n′ m Is.TooLong b e (off-track h f p) = rw (e, h, f) (off-
 stopped-step t es n n′ m (Is.Unfinished i) b e (off-track h f p) = absurd f
 stopped-step t es n n′ m Is.Head b e (off-track h f p) = absurd f
 
--- it stays so with any root, key and buffer too
+-- a memory that keeps a stopped track keeps it with any root, key and buffer
 pub stopped-anywhere : (es : List Entry) (n : ℕ) (m : Mem) (v : Verdict) → Tracks es n m (stopped v) → (root : Bool) (key w : List ℕ)
     → Tracks es n (mem (m .progress) root key w) (stopped v)
 stopped-anywhere es n m v (off-track h f p) root key w = off-track h f p

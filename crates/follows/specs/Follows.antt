@@ -36,7 +36,7 @@ pub record PlainKeys (es : List Entry) : Type 0 where
   pub short : {k : List ℕ} → List·Memᴰ k (keysOf es) → length k ≤ 32
   pub low : {k : List ℕ} → List·Memᴰ k (keysOf es) → T (all (λ (c : ℕ). ltb c 128) k)
 
--- characters that no such key begins with: too many, or one of them is above 127
+-- characters that no key of a book begins with: more than 32, or one of them is above 127
 abbrev pub NoKey : List ℕ → Type 0
 NoKey s = (32 < length s) ⊎ T (any (λ (c : ℕ). not (ltb c 128)) s)
 
@@ -69,7 +69,7 @@ abbrev pub lexAt : Mode → ℕ → ℕ → ℕ → ℕ → ℕ → ℕ → Prog
 lexAt m level pos place bits high len =
     record { mode = m; fault = F.Sound; head = false; level = level; pos = pos; place = place; bits = bits; high = high; len = len }
 
--- ---- what is known of a record with one
+-- ---- what is known of a record with a fault
 
 -- the fault of a record that was stopped with a verdict
 abbrev pub FaultIs : Verdict → Progress → Type 0
@@ -125,7 +125,7 @@ module _ (es : List Entry) where
     -- the sizes of the buffer and of the key
     pub long : 96 * n ≤ length w
     pub key-long : length key ≡ 32
-    -- the machine comes to such states only
+    -- the state is one that the machine comes to
     pub proper : ProperAt (judging es) m k
     pub stack : ShowsStack w k
     pub root-shown : ShowsRoot m root k

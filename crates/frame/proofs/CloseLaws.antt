@@ -16,13 +16,13 @@ use Rattle.frame.specs.Ops.{startStates, walked, accepting, ruleSet, clo
 use Rattle.frame.proofs.EdgeLaws.{below-of-hasForm}
 use Rattle.frame.proofs.RuleLaws.{ruleSet-none, accepting-nil, ruleFits-ruleSet, accepting-iff}
 
--- a set of accepting rules has them
+-- the set of the accepting rules has exactly these
 ruleFits-accepting : (forms ends : List ℕ) (form : ℕ) (s : List ℕ) (r : ℕ)
     → ruleFits (ruleSet (accepting forms ends form s) 32) r ≡ accepting forms ends form s r
 ruleFits-accepting forms ends form s r =
     ruleFits-ruleSet (accepting forms ends form s) (λ q t. below-of-hasForm forms form q (accepting-iff forms ends form s q .0 t .0)) r
 
--- the empty set has none
+-- the empty set has no rule
 zero-fits : (r : ℕ) → ruleFits 0 r ≡ false
 unfolding ruleFits
 zero-fits r = rw zero-div (same (ltb r 32))
@@ -32,24 +32,24 @@ zero-fits r = rw zero-div (same (ltb r 32))
     same false = refl
 
 module _ (t : Edges) (forms ends : List ℕ) where
-  -- of no frame
+  -- no rule fits a level without a frame
   pub closed-nil : 0 ≡ closed t forms ends []
   unfolding closed isObject
   closed-nil = sym (ruleSet-none (accepting forms ends 2 []) 32 (accepting-nil forms ends 2))
 
   module _ (f : List ℕ) where
-    -- of an object that met an unknown or repeated key
+    -- no rule fits an object that met an unknown or repeated key
     pub closed-marked : getD f 0 0 ≡ 1 → 0 < getD f 2 0 → 0 ≡ closed t forms ends f
     unfolding closed isObject marked
     closed-marked o m = rw (eq-eqb (getD f 0 0) 1 o, lt-ltb 0 (getD f 2 0) m)
 
-    -- of an object
+    -- the rules that an object without the mark fits are those that accept after the walk
     pub closed-object : (s : List ℕ) (n : ℕ) → getD f 0 0 ≡ 1 → getD f 2 0 ≤ 0 → s ≡ walked t f 0 (startStates forms 1) 128
         → n ≡ ruleSet (accepting forms ends 1 s) 32 → n ≡ closed t forms ends f
     unfolding closed isObject marked
     closed-object s n o m h q = rw (eq-eqb (getD f 0 0) 1 o, le-ltb 0 (getD f 2 0) m, ← h) q
 
-    -- of an array, whose states are the bytes from 32 on
+    -- the rules that an array fits are those that accept by its states, the bytes from 32 on
     pub closed-array : (n : ℕ) → length f ≡ 96 → (getD f 0 0 ≡ 1 → ⊥) → n ≡ ruleSet (accepting forms ends 2 (take 64 (drop 32 f))) 32
         → n ≡ closed t forms ends f
     unfolding closed isObject
@@ -64,7 +64,7 @@ module _ (t : Edges) (forms ends : List ℕ) where
     unfolding closed ruleFits
     ruleFits-closed-marked o m r = rw (o, m) (zero-fits r)
 
-    -- a rule fits an object without it where the rule is of form `obj` and has an end state after the walk
+    -- a rule fits an object without the mark where the rule is of form `obj` and has an end state after the walk
     pub ruleFits-closed-object : isObject f ≡ true → marked f ≡ false → (r : ℕ)
         → ruleFits (closed t forms ends f) r ≡ accepting forms ends 1 (walked t f 0 (startStates forms 1) 128) r
     unfolding closed

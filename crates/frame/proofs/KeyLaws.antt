@@ -26,7 +26,7 @@ pub keyed-again : (f : List ℕ) (k : ℕ) → k < 128 → bitAt f (128 + k) ≡
 unfolding keyed seenIn
 keyed-again f k h e = rw (lt-ltb k 128 h, e)
 
--- a key that was not
+-- a key that was not seen
 pub keyed-new : (f : List ℕ) (k : ℕ) → k < 128 → bitAt f (128 + k) ≡ false → setBit (set f 1 k) (128 + k) ≡ keyed k f
 unfolding keyed seenIn
 keyed-new f k h e = rw (lt-ltb k 128 h, e)

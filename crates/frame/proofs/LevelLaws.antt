@@ -24,7 +24,7 @@ le-of-hasFrame n l e =
     let t = T-of-true (ltb 0 l && leb l (frameCount n)) e in
     (ltb→lt 0 l (T-and-left (ltb 0 l) (leb l (frameCount n)) t), leb→le l (frameCount n) (T-and-right (ltb 0 l) (leb l (frameCount n)) t))
 
--- so that it lies in the buffer
+-- the frame of a level that has one lies in the buffer
 pub fits-of-hasFrame : (n l : ℕ) → hasFrame n l ≡ true → (1 ≤ l) × (frameStart l + 96 ≤ n)
 fits-of-hasFrame n l e = let g = le-of-hasFrame n l e in (omega arith, omega arith)
 
@@ -42,7 +42,7 @@ frame-of-place n l a p h = go (hasFrame n l) refl p
     go true e q = (e, q)
     go false e q = absurd (omega arith)
 
--- and the frame's 96 bytes are there
+-- the buffer has the 96 bytes of a frame from its place on
 pub fits-of-place : (n l a : ℕ) → a ≡ framePlace n l → a < n → a + 96 ≤ n
 fits-of-place n l a p h = let f = frame-of-place n l a p h in let g = fits-of-hasFrame n l (f .0) in omega arith
 
@@ -68,7 +68,7 @@ putFrame-none w f l e = rw e
 -- ---- a frame that was lent as the 96 bytes from its place on
 
 module _ (w : List ℕ) (l a : ℕ) (p : a ≡ framePlace (length w) l) (h : a < length w) where
-  -- they are the frame
+  -- the lent bytes are the frame
   pub frameAt-of-lent : take (a + 96 - a) (drop a w) ≡ frameAt w l
   unfolding frameAt
   frameAt-of-lent =
@@ -76,7 +76,7 @@ module _ (w : List ℕ) (l a : ℕ) (p : a ≡ framePlace (length w) l) (h : a <
       let k : a + 96 - a ≡ 96 = omega arith in
       rw (k, f .0, f .1)
 
-  -- they are back as op made them of the frame
+  -- the lent bytes are given back as op made them of the frame
   pub putFrame-of-lent : (op : List ℕ → List ℕ) (g : List ℕ) → g ≡ op (take (a + 96 - a) (drop a w))
       → take a w ++ (g ++ drop (a + 96 - a) (drop a w)) ≡ putFrame w l (op (frameAt w l))
   unfolding putFrame frameAt
@@ -91,7 +91,7 @@ pub getD-frameAt : (w : List ℕ) (l i : ℕ) → hasFrame (length w) l ≡ true
 unfolding frameAt
 getD-frameAt w l i e h = rw e (getD-take 96 (drop (frameStart l) w) i 0 h ∙ getD-drop (frameStart l) w i 0)
 
--- the kind is that of the byte at the place
+-- the kind of a frame is that of the byte at its place
 pub kindNumber-of-place : (w : List ℕ) (l a : ℕ) → a ≡ framePlace (length w) l → a < length w → kindNumber (frameAt w l) ≡ cond (eqb (getD w a 0) 1) 1 2
 unfolding kindNumber isObject
 kindNumber-of-place w l a p h =
@@ -185,7 +185,7 @@ module _ (w f : List ℕ) (l : ℕ) (long : length f ≡ 96) where
       go true h = putFrame-elim (λ x. take 96 (drop (frameStart m) x) ≡ take 96 (drop (frameStart m) w)) w f l refl (λ e. part h e (decLt m l))
       go false h = refl
 
-  -- and each byte outside the level's frame is as it was
+  -- a frame put at a level leaves each byte outside the level's frame
   pub getD-putFrame-other : (i : ℕ) → (i < frameStart l) ⊎ (frameStart l + 96 ≤ i) → getD (putFrame w l f) i 0 ≡ getD w i 0
   getD-putFrame-other i h =
       putFrame-elim (λ x. getD x i 0 ≡ getD w i 0) w f l refl
@@ -204,7 +204,7 @@ module _ (w f : List ℕ) (l : ℕ) (long : length f ≡ 96) where
       ∙ ap (λ (n : ℕ). getD w n 0) q)
       h)
 
-  -- so is each byte past the frames
+  -- a frame put at a level leaves each byte past the frames
   pub getD-putFrame-past : (i : ℕ) → 96 * frameCount (length w) ≤ i → getD (putFrame w l f) i 0 ≡ getD w i 0
   getD-putFrame-past i h = go (hasFrame (length w) l) refl
     where

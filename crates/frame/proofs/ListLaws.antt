@@ -12,7 +12,7 @@ use lib.Seq.{paste, paste-suc, take-all}
 pub copy-more : (d s : List ℕ) (j : ℕ) → j < length d → j < length s → set (paste d 0 s j) j (getD s j 0) ≡ paste d 0 s (j + 1)
 copy-more d s j h g = rw add-one (ap (λ (i : ℕ). set (paste d 0 s j) i (getD s j 0)) (sym (zero-add j)) ∙ paste-suc d 0 s j 0 (omega arith) g)
 
--- all of it
+-- a list copied whole over another
 pub copy-all : (d s : List ℕ) (n : ℕ) → length d ≤ n → length s ≤ n → paste d 0 s n ≡ s
 copy-all d s n h g =
     let l : length d ≤ 0 + n = omega arith in

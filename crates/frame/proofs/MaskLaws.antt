@@ -38,7 +38,7 @@ plain-code-lt Str c e = omega arith
 plain-code-lt Num c e = omega arith
 plain-code-lt Int c e = omega arith
 
--- their bits are at most 32
+-- the bit of a plain kind's code is at most 32
 pub plain-bit-le : (k : Scalar) (c : ℕ) → c ≡ codeOf (Plain k) → (1 * 2 ^ c) % 2 ^ 64 ≤ 32
 plain-bit-le k c p = let l = plain-code-lt k c p in rw (one-shl 64 c (omega arith)) (pow-mono {i = c} {j = 5} (omega arith))
 
@@ -115,7 +115,7 @@ maskHas-rules rules b c = go (decLt c 6) (decLt c 38) (decLt c 64)
         (ap (λ (m : ℕ). eqb (m % 2) 1) (ap (λ (m : ℕ). 64 * rules / 2 ^ m) (sym k) ∙ rule-bit rules (c - 6) ∙ z))
     go (no g) (no h) (no e) = rw (kindOf-rule c (omega arith), le-ltb c 64 (omega arith), le-ltb (c - 6) 32 (omega arith))
 
--- the same as a shift by the code of rule 0
+-- the mask of an object or array: the set of the rules that it fits, shifted by the code of rule 0
 pub maskHas-rules-shl : (rules k : ℕ) → rules < 2 ^ 32 → k ≡ codeOf (Rule 0) → (c : ℕ) → maskHas ((rules * 2 ^ k) % 2 ^ 64) c ≡ fitsCode (Done.Rules rules) c
 unfolding codeOf
 maskHas-rules-shl rules k b e c =

@@ -21,7 +21,7 @@ pub length-startStates : (forms : List ℕ) (form : ℕ) → length (startStates
 unfolding startStates
 length-startStates forms form = length-setAll (hasForm forms form) (λ r. 16 * r) 32 (replicate 64 0)
 
--- they are state 0 of each rule of the form
+-- the start states of a form are state 0 of each rule of the form
 pub bitAt-startStates : (forms : List ℕ) (form j : ℕ) → T (bitAt (startStates forms form) j) ↔ ((r : ℕ) × T (hasForm forms form r) × (16 * r ≡ j))
 unfolding startStates
 bitAt-startStates forms form j = (

@@ -26,6 +26,6 @@ pub heldIn-of-drop : (f : List ℕ) (i : ℕ) → heldIn f i ≡ bitAt (drop 32 
 unfolding heldIn
 heldIn-of-drop f i = bitAt-drop 32 f (256 + i) i (omega arith)
 
--- also where those bytes were replaced
+-- where the bytes from 32 on were replaced, the bits of edges or states are those of the new ones
 pub heldIn-of-append : (f s : List ℕ) (i : ℕ) → 32 ≤ length f → heldIn (take 32 f ++ s) i ≡ bitAt s i
 heldIn-of-append f s i h = heldIn-of-drop (take 32 f ++ s) i ∙ ap (λ (x : List ℕ). bitAt x i) (drop-at (take 32 f) s 32 (length-take-le 32 f h))

@@ -29,7 +29,7 @@ hasForm-quiet : (forms : List ℕ) (form r : ℕ) → 0 < form → getD forms r 
 unfolding hasForm
 hasForm-quiet forms form r h e = rw (ne-eqb (getD forms r 0) form (λ q. omega arith), and-false)
 
--- eight of them have no states to start in
+-- eight rules without lines have no states to start in
 pub setAll-quiet : (forms : List ℕ) (form r : ℕ) (xs : List ℕ) → 0 < form → ((k : ℕ) → k < 8 → getD forms (r + k) 0 ≡ 0)
     → setAll (hasForm forms form) (λ i. 16 * i) (r + 8) xs ≡ setAll (hasForm forms form) (λ i. 16 * i) r xs
 setAll-quiet forms form r xs h e =

@@ -39,7 +39,7 @@ unfolding any
 any-append g [] ys = refl
 any-append g (x ∷ xs) ys = ap (λ (b : Bool). g x || b) (any-append g xs ys) ∙ sym (or-assoc (g x) (any g xs) (any g ys))
 
--- some number of a run passes
+-- where some number of a run passes a test, there is one that does
 pub some-of-any-tab : (g : ℕ → Bool) (i n : ℕ) → T (any g (tab (λ q. q) i n)) → (q : ℕ) × (i ≤ q) × (q < i + n) × T (g q)
 unfolding any
 some-of-any-tab g i zero t = absurd t
@@ -47,7 +47,7 @@ some-of-any-tab g i (suc n) t =
     T-or-elim (g i) (any g (tab (λ q. q) (suc i) n)) (λ h. (i, omega arith, omega arith, h))
     (λ h. let w = some-of-any-tab g (suc i) n h in (w .0, omega arith, omega arith, w .3)) t
 
--- where some number of a run passes
+-- where a number of a run passes a test, some number of the run does
 pub any-tab-of-some : (g : ℕ → Bool) (i n q : ℕ) → i ≤ q → q < i + n → T (g q) → T (any g (tab (λ q. q) i n))
 unfolding any
 any-tab-of-some g i zero q a b t = absurd (omega arith)
@@ -89,7 +89,7 @@ hasEnd-of-bytes ends s r h g =
 add-lt-next : (n : ℕ) {m : ℕ} → m < 2 ^ n → 2 ^ n + m < 2 ^ suc n
 add-lt-next n {m} h = simp unary-clauses (omega arith)
 
--- it has no bit from n on
+-- the number of a set of rules below n has no bit from n on
 pub ruleSet-lt : (p : ℕ → Bool) (n : ℕ) → ruleSet p n < 2 ^ n
 unfolding ruleSet
 ruleSet-lt p zero = lit< tt

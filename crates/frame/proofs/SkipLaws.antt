@@ -43,12 +43,12 @@ lacks m c h = go (decLt c 64)
     go (yes l) = rw (lt-ltb c 64 l) (ne-eqb (m / 2 ^ c % 2) 1 (λ e. h (rw (mod-eq-of-lt l) e)))
     go (no l) = rw (le-ltb c 64 (omega arith))
 
--- one edge more
+-- one edge more whose kind the mask does not have
 pub kinds-more : (m : ℕ) (kinds : List ℕ) (a b : ℕ) → NoneOf (λ k. maskHas m (getD kinds k 0)) a b → (m / 2 ^ (getD kinds b 0 % 64) % 2 ≡ 1 → ⊥)
     → NoneOf (λ k. maskHas m (getD kinds k 0)) a (b + 1)
 kinds-more m kinds a b none h = none-next (λ k. maskHas m (getD kinds k 0)) a b none (lacks m (getD kinds b 0) h)
 
--- their edges lead to no state
+-- edges whose kinds a mask does not have lead to no state
 pub stepping-skipped : (m : ℕ) (rules states kinds forms f nexts : List ℕ) (a b : ℕ) (xs ys : List ℕ) → a ≤ b
     → NoneOf (λ k. maskHas m (getD kinds k 0)) a b
     → ys ≡ setAll (stepping (maskHas m) rules states kinds forms f) (stateNumber rules nexts) a xs
@@ -59,12 +59,12 @@ stepping-skipped m rules states kinds forms f nexts a b xs ys l none h =
 
 -- ---- other keys
 
--- one edge more
+-- one edge more of another key
 pub keys-more : (keys : List ℕ) (key a b : ℕ) → NoneOf (λ k. eqb (getD keys k 0) key) a b → (getD keys b 0 ≡ key → ⊥)
     → NoneOf (λ k. eqb (getD keys k 0) key) a (b + 1)
 keys-more keys key a b none h = none-next (λ k. eqb (getD keys k 0) key) a b none (ne-eqb (getD keys b 0) key h)
 
--- their edges are not added
+-- edges of other keys are not added
 pub fitting-skipped : (fits : ℕ → Bool) (keys kinds : List ℕ) (key a b : ℕ) (xs ys : List ℕ) → a ≤ b → NoneOf (λ k. eqb (getD keys k 0) key) a b
     → ys ≡ setAll (fitting fits keys kinds key) (λ e. 256 + e) a xs → ys ≡ setAll (fitting fits keys kinds key) (λ e. 256 + e) b xs
 unfolding fitting

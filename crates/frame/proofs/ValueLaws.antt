@@ -40,7 +40,7 @@ states-of-put f s l k = rw (put-states f s l, drop-at (take 32 f) s 32 (length-t
 -- ---- by case
 
 module _ (t : Edges) (kinds forms : List ℕ) (v : Finished) (f : List ℕ) where
-  -- in an object with a known current key; a test of codes that is that of the value serves in its place
+  -- a finished value in an object with a known current key; any test of codes that agrees with the value's will do
   pub valued-known : (fits : ℕ → Bool) (g : List ℕ) → ((c : ℕ) → fits c ≡ fitsCode v c) → getD f 0 0 ≡ 1 → getD f 1 0 < 128
       → g ≡ setAll (fitting fits (t .keys) kinds (getD f 1 0)) (λ e. 256 + e) (edgeCount (t .count)) f → g ≡ valued t kinds forms v f
   unfolding valued withEdges isObject currentKey
@@ -48,12 +48,12 @@ module _ (t : Edges) (kinds forms : List ℕ) (v : Finished) (f : List ℕ) wher
       let e : fits ≡ fitsCode v = λ i c. same c i in
       rw (eq-eqb (getD f 0 0) 1 o, lt-ltb (getD f 1 0) 128 k, lt-ltb (getD f 1 0) 128 k, ← e) h
 
-  -- in an object with an unknown current key
+  -- a finished value in an object with an unknown current key changes nothing
   pub valued-unknown : getD f 0 0 ≡ 1 → 128 ≤ getD f 1 0 → f ≡ valued t kinds forms v f
   unfolding valued withEdges isObject currentKey
   valued-unknown o k = rw (eq-eqb (getD f 0 0) 1 o, le-ltb (getD f 1 0) 128 k)
 
-  -- in an array
+  -- a finished value in an array
   pub valued-array : (fits : ℕ → Bool) (g next : List ℕ) → ((c : ℕ) → fits c ≡ fitsCode v c) → (getD f 0 0 ≡ 1 → ⊥)
       → next ≡ setAll (stepping fits (t .rules) (t .states) kinds forms f) (stateNumber (t .rules) (t .nexts)) (edgeCount (t .count)) (replicate 64 0)
       → g ≡ take 32 f ++ next → g ≡ valued t kinds forms v f
@@ -62,7 +62,7 @@ module _ (t : Edges) (kinds forms : List ℕ) (v : Finished) (f : List ℕ) wher
       let e : fits ≡ fitsCode v = λ i c. same c i in
       rw (ne-eqb (getD f 0 0) 1 o, ← e, ← h) q
 
-  -- in an array whose old states were kept apart, and cleared before the new ones were added
+  -- a finished value in an array whose old states were kept apart, and cleared before the new ones were added
   pub valued-cleared : (fits : ℕ → Bool) (old clear next : List ℕ) → ((c : ℕ) → fits c ≡ fitsCode v c) → (getD f 0 0 ≡ 1 → ⊥) → length f ≡ 96
       → old ≡ f → clear ≡ replicate (length (take 64 (drop 32 f))) 0
       → next ≡ setAll (stepping fits (t .rules) (t .states) kinds forms old) (stateNumber (t .rules) (t .nexts)) (edgeCount (t .count)) (take 64 (drop 32 (put f clear)))

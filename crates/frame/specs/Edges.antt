@@ -26,7 +26,7 @@ edgesOf n rules states keys nexts = record { count = n; rules = rules; states = 
 abbrev pub edgesIn : Table → Edges
 edgesIn t = edgesOf (t .edges) (t .«edge_rule») (t .«edge_state») (t .«edge_key») (t .«edge_next»)
 
--- at most 512 of them count
+-- how many of n edges count: at most 512
 abbrev pub edgeCount : ℕ → ℕ
 edgeCount n = min n 512
 
@@ -44,15 +44,15 @@ fitsCode v code = fitsKind (kindOf code) v
 
 -- ---- tests of edge e, of which the first two take the kinds that a value fits as a test of their codes
 
--- it is one of key k, and the value fits its kind
+-- edge e is one of key k, and the value fits its kind
 unfoldable pub fitting : (ℕ → Bool) → List ℕ → List ℕ → ℕ → ℕ → Bool
 fitting fits keys kinds k e = eqb (getD keys e 0) k && fits (getD kinds e 0)
 
--- the value fits its kind, its rule is of form `arr`, and its state is one of the array f
+-- the value fits the kind of edge e, the rule of the edge is of form `arr`, and its state is one of the array f
 unfoldable pub stepping : (ℕ → Bool) → List ℕ → List ℕ → List ℕ → List ℕ → List ℕ → ℕ → Bool
 stepping fits rules states kinds forms f e =
     fits (getD kinds e 0) && (hasForm forms 2 (getD rules e 0) && heldIn f (stateNumber rules states e))
 
--- it is one of key k, it is among the fitting edges of the object f, and its state is one of s
+-- edge e is one of key k, is among the fitting edges of the object f, and its state is one of s
 unfoldable pub walking : List ℕ → List ℕ → List ℕ → List ℕ → List ℕ → ℕ → ℕ → Bool
 walking rules states keys f s k e = eqb (getD keys e 0) k && (heldIn f e && bitAt s (stateNumber rules states e))

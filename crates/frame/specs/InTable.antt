@@ -19,7 +19,7 @@ leadsTo t = stateNumber (t .«edge_rule») (t .«edge_next»)
 abbrev pub fittingIn : Table → ℕ → ℕ → ℕ → Bool
 fittingIn t m k = fitting (maskHas m) (t .«edge_key») (t .«edge_kind») k
 
--- the mask m has the kind of edge e, and it leaves a state of the array f
+-- the mask m has the kind of edge e, and the edge is one of an `arr` rule and leaves a state of the array f
 abbrev pub steppingIn : Table → ℕ → List ℕ → ℕ → Bool
 steppingIn t m f = stepping (maskHas m) (t .«edge_rule») (t .«edge_state») (t .«edge_kind») (t .forms) f
 

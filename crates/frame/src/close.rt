@@ -26,7 +26,7 @@ fn key_states<'a>(frame: &'a [u8], from: &'a [u8], table: &'a [u8; 7920], key: u
     next
 }
 
-// The same for a key that was seen; one that was not changes nothing.
+// The states that the object's fitting edges of the key lead to, where the key was seen; a key that was not seen changes nothing.
 fn key_if<'a>(on: bool, frame: &'a [u8], from: [u8; 64], table: &'a [u8; 7920], key: u8) -> [u8; 64]
     ensures { λ r. ⌜ r ≡ cond on (keyStates (edgesIn (tableIn (now (table .entry)))) (now (frame .entry)) from key) from ⌝ }
 {

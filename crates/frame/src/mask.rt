@@ -55,7 +55,7 @@ pub fn mask_has(mask: u64, code: u8) -> bool
     false
 }
 
-// The first edge from `from` on whose kind the mask may have, or n. It has none of the kinds between. A code above 63, which no
+// The first edge from `from` on whose kind the mask may have, or n. The mask has the kind of no edge between. A code above 63, which no
 // mask has, may stop the search or not: so its last six bits are test enough.
 pub fn skip(table: &[u8; 7920], m: u64, from: usize, n: usize) -> usize
     requires { ⌜ (from ≤ n) × (n ≤ 512) ⌝ }

@@ -91,7 +91,7 @@ module _ (w x y z : ℕ) (hw : w < 16) (hx : x < 16) (hy : y < 16) (hz : z < 16)
   unit-sum : hexMore (hexMore (hexMore w x) y) z ≡ w * 0x1000 + x * 0x100 + y * 16 + z
   unit-sum = unfold hexMore in omega arith
 
-  -- whether it is a surrogate is settled by its first two digits
+  -- whether a code unit is a surrogate is settled by its first two digits
   no-surrogate : (w ≡ 13 → ⊥) → T (not (within 0xD800 0xDFFF (hexMore (hexMore (hexMore w x) y) z)))
   no-surrogate n = rw unit-sum (outside-of-not-within 0xD800 0xDFFF _ (λ l h. n (omega arith)))
 
@@ -104,7 +104,7 @@ module _ (w x y z : ℕ) (hw : w < 16) (hx : x < 16) (hy : y < 16) (hz : z < 16)
   low-surrogate : w ≡ 13 → 12 ≤ x → T (within 0xDC00 0xDFFF (hexMore (hexMore (hexMore w x) y) z))
   low-surrogate e l = rw unit-sum (within-of-le 0xDC00 0xDFFF _ (omega arith) (omega arith))
 
-  -- and the other way
+  -- the first two digits of a code unit: after a D one below 8 where it is no surrogate; D and 8 to B of a high one, D and C to F of a low one
   below-of-no-surrogate : w ≡ 13 → T (not (within 0xD800 0xDFFF (hexMore (hexMore (hexMore w x) y) z))) → (8 ≤ x → ⊥)
   below-of-no-surrogate e n l =
       T-not (within 0xD800 0xDFFF (w * 0x1000 + x * 0x100 + y * 16 + z)) (rw unit-sum at n) (within-of-le 0xD800 0xDFFF _ (omega arith) (omega arith))

@@ -28,7 +28,7 @@ abbrev pub found : Row → Option ℕ × Option Json
 found x =
     (placeFrom treeMeaning (start treeMeaning) (bytes x), result treeMeaning (run treeMeaning (start treeMeaning) (bytes x)))
 
--- what a row says of the two
+-- what a row says of the fault place and the result
 abbrev pub said : Row → Option ℕ × Option Json
 said (faults p i) = (some i, none)
 said (unfinished p) = (none, none)

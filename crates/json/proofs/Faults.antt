@@ -53,7 +53,7 @@ D-hex : hexOf 0x44 ≡ 13
 D-hex = unfold hexOf in refl
 
 module _ (r : List ℕ) where
-  -- whatever the registers hold
+  -- from the mode m on some bytes complete the string, whatever the registers hold
   FromMode : StringMode → Type 0
   FromMode m = (x h : ℕ) → CompletedString m x h r
 
@@ -367,7 +367,7 @@ module _ (𝕄 : Meaning) where
         behind = λ b. true-neq-false (sym (r .behind) ∙ alive-of-begins (take (suc i) p) b);
       }
 
-  -- where it finds none, some text begins with the bytes
+  -- where the machine finds no fault, some text begins with the bytes
   pub begins-of-no-place : (p : List ℕ) → placeFrom 𝕄 (start 𝕄) p ≡ none → Begins p
   begins-of-no-place p e = begins-of-alive p (alive-of-no-place p (start 𝕄) refl e)
 

@@ -16,7 +16,7 @@ and-assoc : (a b c : Bool) → (a && b) && c ≡ a && (b && c)
 and-assoc true b c = refl
 and-assoc false b c = refl
 
--- the test holds so far exactly when it held before and holds of each
+-- a test holds so far exactly when it held before and holds of each member
 pub fold-and : (f : ℕ → Bool) (b : Bool) (xs : List ℕ) → fold (λ (a : Bool) (x : ℕ). a && f x) b xs ≡ b && all f xs
 unfolding all
 fold-and f b [] = sym (and-true b)
@@ -28,6 +28,6 @@ fold-snoc-from : (s k : List ℕ) → fold (λ (a : List ℕ) (c : ℕ). a ++ (c
 fold-snoc-from s [] = sym (append-nil s)
 fold-snoc-from s (c ∷ k) = fold-snoc-from (s ++ (c ∷ [])) k ∙ append-assoc s (c ∷ []) k
 
--- one after the other they make the list
+-- the members of a list, put one after the other, make the list
 pub fold-snoc : (k : List ℕ) → fold (λ (a : List ℕ) (c : ℕ). a ++ (c ∷ [])) [] k ≡ k
 fold-snoc k = fold-snoc-from [] k

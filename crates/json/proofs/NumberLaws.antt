@@ -53,7 +53,7 @@ e-elim : (P : ℕ → Type 0) → P 0x65 → P 0x45 → (b : ℕ) → T (isE b) 
 unfolding isE
 e-elim P p q b = T-or-elim (eqb b 0x65) (eqb b 0x45) (λ h. rw (eqb→eq b 0x65 h) p) (λ h. rw (eqb→eq b 0x45 h) q)
 
--- the lexer makes each of these moves
+-- the lexer goes on with each byte that a number goes on with
 pub move-of-goes : {n m : NumberMode} {b : ℕ} → Goes n b m → numberMove n b ≡ NM.Go m
 unfolding afterMinus afterZero afterInt afterFrac afterE afterExp digitOnly orExp isDigit1-9 isDigit within isE
 move-of-goes (minus-int {b} h) = cond-yes (λ x. x ≡ NM.Go N.Int) (isDigit1-9 b) _ h refl
@@ -72,7 +72,7 @@ move-of-goes e-minus = refl
 move-of-goes (sign-digit {b} h) = cond-yes (λ x. x ≡ NM.Go N.Exp) (isDigit b) _ h refl
 move-of-goes (exp-digit {b} h) = cond-yes (λ x. x ≡ NM.Go N.Exp) (isDigit b) _ h refl
 
--- and no others
+-- what byte b does after part n of a number: a fault, the end of the number where it may end, or a byte that goes on
 pub data Moved (n : NumberMode) (b : ℕ) : NumberMove → Type 0 where
   moved-fault : Moved n b NM.Fault
   moved-end : T (mayEnd n) → Moved n b NM.End
@@ -108,7 +108,7 @@ end-after-zero : (b : ℕ) → Separates b → afterZero b ≡ NM.End
 unfolding afterZero orExp
 end-after-zero b x = cond-no (λ m. m ≡ NM.End) (eqb b 0x2E) _ (x .no-dot) (cond-no (λ m. m ≡ NM.End) (isE b) _ (x .no-e) refl)
 
--- a number that may end does so before such a byte
+-- a number that may end does so before a byte that no number goes on with
 pub end-of-separates : (n : NumberMode) (b : ℕ) → T (mayEnd n) → Separates b → numberMove n b ≡ NM.End
 unfolding afterInt afterFrac afterExp orExp
 end-of-separates N.Minus b h x = absurd h

@@ -104,7 +104,7 @@ module _ (𝕄 : Meaning) where
         cond-elim Q (ltb i (length l)) (λ _. cond-elim Q (eqb b (getD l i 0))
         (λ _. cond-elim Q (ltb (i + 1) (length l)) (λ h. h) (λ _. begun-finish _ k)) (λ _. tt)) (λ _. tt)
 
-  -- every step keeps it
+  -- every step of a proper state leads to a proper state
   pub proper-step : (q : State 𝕄) (b : ℕ) → Proper 𝕄 q → Proper 𝕄 (step 𝕄 q b)
   unfolding step
   proper-step fault b h = tt

@@ -1,5 +1,5 @@
 -- What the machine accepts is a text of the grammar with that meaning: `text-of-accepted`. What may follow a state is said by the phrases of
--- its mode and stack; a step back keeps it. Assumes nothing.
+-- its mode and stack; what may follow a step's state may, after its byte, follow the state before it. Assumes nothing.
 use mathlib.Core.Bool.{not}
 use mathlib.Core.List.{List, [], _∷_}
 use mathlib.Core.Option.{some}
@@ -366,7 +366,7 @@ module _ (𝕄 : Meaning) where
   rest-of-accepted [] q w h x = rest-of-result q w x
   rest-of-accepted (b ∷ s) q w h x = sound-step q b s w h (rest-of-accepted s (step 𝕄 q b) w (proper-step 𝕄 q b h) x)
 
-  -- a text with this result
+  -- the bytes s are a text with the result w
   pub data Reads (s : List ℕ) (w : Result) : Type 0 where
     reads : (v : Json) → Text s v → meaning 𝕄 v ≡ w → Reads s w
 

@@ -124,7 +124,7 @@ pub data Ends : StringMode → ℕ → Type 0 where
   low-4 : {b : ℕ} → hexOf b < 16 → Ends S.Low4 b
   tail-1 : {b : ℕ} → T (isTail b) → Ends S.Tail1 b
 
--- ---- stringMove makes these moves
+-- ---- stringMove goes on where a character does, and ends it at its last byte
 
 hex-move : (b : ℕ) (m : StringMove) → hexOf b < 16 → anyHex (hexOf b) m ≡ m
 unfolding anyHex
@@ -227,7 +227,7 @@ move-of-ends (digit-4 {b} h) = hex-move b _ h
 move-of-ends (low-4 {b} h) = hex-move b _ h
 move-of-ends (tail-1 {b} h) = ranged-move 0x80 0xBF b _ h
 
--- ---- and no others
+-- ---- no byte moves otherwise: a fault, the closing quotation mark, a byte that goes on, or the last byte of a character
 
 pub data Moved : StringMode → ℕ → StringMove → Type 0 where
   moved-fault : {m : StringMode} {b : ℕ} → Moved m b SM.Fault

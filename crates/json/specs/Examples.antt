@@ -105,7 +105,7 @@ rows =
     ∷ tells escaped-key (object (pairs name (string (0x61 ∷ [])) (pairs corners (list1 (list2 one two)) no-pairs)))
     -- "\uD83D\uDE00": a surrogate pair
     ∷ tells surrogate-pair (string (0x1F600 ∷ []))
-    -- quote, F0, 9F, 98, 80, quote: the same character
+    -- quote, F0, 9F, 98, 80, quote: the character 1F600 in UTF-8
     ∷ tells (0x22 ∷ 0xF0 ∷ 0x9F ∷ 0x98 ∷ 0x80 ∷ 0x22 ∷ []) (string (0x1F600 ∷ []))
     -- `-0`
     ∷ tells (0x2D ∷ 0x30 ∷ []) (number (0x2D ∷ 0x30 ∷ []))

@@ -54,7 +54,7 @@ mutual
 abbrev pub Text : List ℕ → Json → Type 0
 Text s v = Element s v []
 
--- some text begins with these bytes
+-- some text begins with the bytes
 abbrev pub Begins : List ℕ → Type 0
 Begins p = (s : List ℕ) × (v : Json) × Text (p ++ s) v
 

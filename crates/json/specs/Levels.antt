@@ -1,5 +1,5 @@
 -- Open levels of the bytes so far, for refusal 12 of REQUIREMENT.md, section 6: a level is opened by `[` or `{` and closed by `]` or `}`, outside
--- strings. Stated for bytes that some text begins with; for others it is not asked. Assumes nothing.
+-- strings. Stated for bytes that some text begins with; of other bytes nothing is asked. Assumes nothing.
 use mathlib.Core.Bool.{Bool, cond, _||_}
 use mathlib.Core.List.{List, [], _∷_}
 use Prim.Native.Nat.{ℕ, _+_, _-_}

@@ -264,7 +264,7 @@ numberMove N.E b = afterE b
 numberMove N.Sign b = digitOnly b N.Exp
 numberMove N.Exp b = afterExp b
 
--- a number may end after this part
+-- a number may end after the part
 abbrev pub mayEnd : NumberMode → Bool
 mayEnd N.Minus = false
 mayEnd N.Zero = true

@@ -135,7 +135,7 @@ module _ (𝕄 : Meaning) where
   run q [] = q
   run q (b ∷ s) = run (step q b) s
 
-  -- no text goes on
+  -- the state is a fault: no text goes on
   abbrev pub isFault : State → Bool
   isFault fault = true
   isFault (at m g k) = false
@@ -162,7 +162,7 @@ module _ (𝕄 : Meaning) where
   result (at (M.Number n) g k) = cond (mayEnd n) (wholeOf (finish (of-number (g .number)) k)) none
   result (at (M.Word w i) g k) = none
 
-  -- from this state on the bytes are a text with this result
+  -- from the state on the bytes are a text with the result
   abbrev pub Accepts : State → List ℕ → Result → Type 0
   Accepts q s w = result (run q s) ≡ some w
 

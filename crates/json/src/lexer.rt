@@ -35,7 +35,7 @@ pub enum Top {
 
 // What a byte does to the open values.
 pub enum Act {
-    // no text goes on so
+    // no text goes on with the byte
     Fault,
     Pass,
     OpenArray,

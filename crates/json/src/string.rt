@@ -37,8 +37,8 @@ pub enum StringMove {
     Fault,
     // the character is not finished
     Go(StringMode),
-    // it is the last byte of a character
+    // the byte is the last of a character
     Char,
-    // it is the closing quotation mark
+    // the byte is the closing quotation mark
     Close,
 }

@@ -11,6 +11,6 @@ pub enum WordMove {
     Fault,
     // letters are left
     Go,
-    // it is the last letter
+    // the byte is the last letter
     End,
 }

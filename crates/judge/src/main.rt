@@ -30,7 +30,7 @@ fn work_space() -> [u8; WORK]
     [0; WORK]
 }
 
-// The bytes read with so many more; the same where there are not so many.
+// How many bytes are read after a read of `more`; as many as before, where the space has fewer left.
 fn read_more(read: usize, more: usize, len: usize) -> usize
     requires { ⌜ read ≤ len ⌝ }
     ensures { λ r. ⌜ r ≤ len ⌝ }
@@ -141,7 +141,7 @@ fn judge_next<'a>(
     }
 }
 
-// Reports a piece, and prints its lines as they come. A turn that reads nothing is a call refused, a slip or a failed print: it stops.
+// Reports a piece, and prints its lines as they come. A turn that reads nothing is a call refused, a slip or a failed print, and the last.
 fn judge_piece<'a>(
     r: Reader,
     table: &'a [u8; 7920],

@@ -113,7 +113,7 @@ bitAt-zeros n i = rw (zeros n (i / 8), zero-div)
     zeros (suc n) zero = refl
     zeros (suc n) (suc k) = zeros n k
 
--- a store of a byte leaves the bits of the others
+-- a store of a byte leaves the bits of the other bytes
 pub bitAt-set-other : (xs : List ℕ) (b v i : ℕ) → (i / 8 ≡ b → ⊥) → bitAt (set xs b v) i ≡ bitAt xs i
 bitAt-set-other xs b v i ne = bitAt-of-byte (set xs b v) xs i (getD-set-other xs b (i / 8) v 0 ne)
 
@@ -180,7 +180,7 @@ bitAt-setBit-of-bitAt xs i j t =
 pub bitAt-setBit-same : (xs : List ℕ) (i : ℕ) → i / 8 < length xs → T (bitAt (setBit xs i) i)
 bitAt-setBit-same xs i h = rw (bitAt-setBit xs i i h, true-of-T (eqb i i) (eqb-refl i)) tt
 
--- no other bit is set
+-- where a bit is set after one was set, it is that one or was set before
 pub same-or-bitAt-of-setBit : (xs : List ℕ) (i j : ℕ) → T (bitAt (setBit xs i) j) → (i ≡ j) ⊎ T (bitAt xs j)
 same-or-bitAt-of-setBit xs i j t =
     in-or-out xs i
@@ -236,7 +236,7 @@ bitAt-setAll-of-test p f (suc n) xs e l h i =
         (subst (λ (k : ℕ). T (bitAt (setBit (setAll p f m xs) (f k)) (f e))) q
         (bitAt-setBit-same (setAll p f m xs) (f e) (rw length-setAll i)))
 
--- no other bit is set
+-- where a bit is set after a run of bits was, it is the bit of a number that passes the test or was set before
 pub test-or-bitAt-of-setAll : (p : ℕ → Bool) (f : ℕ → ℕ) (n : ℕ) (xs : List ℕ) (j : ℕ) → T (bitAt (setAll p f n xs) j)
     → ((e : ℕ) × (e < n) × T (p e) × (f e ≡ j)) ⊎ T (bitAt xs j)
 unfolding setAll
@@ -251,7 +251,7 @@ test-or-bitAt-of-setAll p f (suc n) xs j t =
     later : ((e : ℕ) × (e < n) × T (p e) × (f e ≡ j)) ⊎ T (bitAt xs j) → ((e : ℕ) × (e < suc n) × T (p e) × (f e ≡ j)) ⊎ T (bitAt xs j)
     later s = ⊎-elim (λ w. inl (w .0, omega arith, w .2, w .3)) (λ r. inr r) s
 
--- in a list that had no bits
+-- in a list that had no bits only the bits of numbers that pass the test are set
 pub test-of-setAll-zeros : (p : ℕ → Bool) (f : ℕ → ℕ) (n m j : ℕ) → T (bitAt (setAll p f n (replicate m 0)) j)
     → (e : ℕ) × (e < n) × T (p e) × (f e ≡ j)
 test-of-setAll-zeros p f n m j t =

@@ -29,7 +29,7 @@ unfolding any
 any-of-member f (List·Memᴰ·head {x = y} {xs} e) h = T-or-left (f y) (any f xs) (rw e at h)
 any-of-member f (List·Memᴰ·tail {x = y} {xs} i) h = T-or-right (f y) (any f xs) (any-of-member f i h)
 
--- where a test holds of some member, there is one
+-- where a test holds of some member, there is a member of which it holds
 pub member-of-any : {A : Type 0} (f : A → Bool) (xs : List A) → T (any f xs) → (x : A) × List·Memᴰ x xs × T (f x)
 unfolding any
 member-of-any f [] h = absurd h
@@ -41,7 +41,7 @@ member-of-any {A} f (y ∷ xs) h =
 
 -- ---- all
 
--- a test that holds of each member holds of this one
+-- a test that holds of each member holds of any one
 pub T-of-all : {A : Type 0} (f : A → Bool) {x : A} (xs : List A) → T (all f xs) → List·Memᴰ x xs → T (f x)
 unfolding all
 T-of-all f (y ∷ xs) h (List·Memᴰ·head e) = rw e (T-and-left (f y) (all f xs) h)

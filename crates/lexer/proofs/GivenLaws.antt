@@ -20,6 +20,6 @@ stepBy-classOf (M.Text s) top b = ap textStep (moveBy-classOf s b)
 stepBy-classOf (M.Number n) top b = refl
 stepBy-classOf (M.Word w i) top b = refl
 
--- with the class that the table gives
+-- with the class that the table gives the byte, `stepBy` is `stepOf`
 pub stepBy-classTable : (m : Mode) (top : Top) (b : ℕ) → b < 256 → stepBy (classAt classTable b) m top b ≡ stepOf m top b
 stepBy-classTable m top b h = ap (λ (k : Class). stepBy k m top b) (classAt-classTable b h) ∙ stepBy-classOf m top b

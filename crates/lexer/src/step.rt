@@ -31,7 +31,7 @@ fn step_to(m: Mode, a: Act) -> Step
     }
 }
 
-// No text goes on so.
+// The step of a byte with which no text goes on.
 fn fault_step() -> Step
     ensures { λ r. ⌜ r ≡ faultStep ⌝ }
 {
@@ -261,7 +261,7 @@ fn text_step(m: StringMove) -> Step
     }
 }
 
-// The same step, with a number ended before it.
+// The step st, with a number ended before it.
 fn ended_before(st: Step) -> Step
     ensures { λ r. ⌜ r ≡ endedBefore st ⌝ }
 {

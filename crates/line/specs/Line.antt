@@ -59,7 +59,7 @@ entryWith r k = entryAs (r .sort) (r .rule) (formWith (r .obj)) (r .state) k (r 
 abbrev pub saidWith : Line → List ℕ → Said
 saidWith r k = cond (eqb (r .fault) 0) (good (entryWith r (take (r .«key_len») k))) (bad (r .fault))
 
--- what it says of the line l
+-- what the code's answer says of the line l
 abbrev pub said : Line → List ℕ → Said
 said r l = saidWith r (drop (r .«key_at») l)
 

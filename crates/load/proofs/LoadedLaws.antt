@@ -63,7 +63,7 @@ module _ (ks : List (List ℕ)) where
           (apart-last seen seen x a (each-left _ seen (x ∷ []) c)) (each-map _ (λ b. clash ks x b ≡ false) (λ y q. q .1) (seen ++ (x ∷ [])) c, tt) in
           rw (append-assoc seen (x ∷ []) l) at (ih z here)
 
-  -- the same as a test
+  -- where a test holds of each entry, the test `all` of the entries holds
   all-of-each : (f : Entry → Bool) (l : List Entry) → Each (λ x. f x ≡ true) l → all f l ≡ true
   unfolding all
   all-of-each f [] h = refl
@@ -115,7 +115,7 @@ loads-proper b = loads-kept b .proper
 pub loads-apart : (b : List ℕ) → Apart (keysOf (loads b .entries)) (loads b .entries) (loads b .entries)
 loads-apart = loads-elim (λ es. Apart (keysOf es) es es) tt (λ es k e. apart-of-firstClash (keysOf es) 1 [] es e tt)
 
--- the same as a test
+-- no two of the entries that load gives clash, as a test
 pub loads-apart-test : (b : List ℕ) → all (λ a. all (λ c. not (clash (keysOf (loads b .entries)) a c)) (loads b .entries)) (loads b .entries) ≡ true
 loads-apart-test b = all-apart (keysOf (loads b .entries)) (loads b .entries) (loads b .entries) (loads-apart b)
 
@@ -163,7 +163,7 @@ module _ (b : List ℕ) (r : Loaded) (l : LoadsAs b r) where
   pub table-of-entries : r .table ≡ tableOf (loads b .entries)
   table-of-entries = l .table ∙ bookTable-entries b
 
-  -- it holds the entries of the book
+  -- the loaded table holds the entries of the book
   pub loaded-holds : Holds (r .table) (loads b .entries)
   loaded-holds = rw table-of-entries (loads-held b)
 
@@ -172,11 +172,11 @@ module _ (b : List ℕ) (r : Loaded) (l : LoadsAs b r) where
   unfolding bookTable
   refused-table h = l .table ∙ rw (ne-eqb (loads b .number) 0 h)
 
-  -- its numbers are in their ranges
+  -- the numbers of the loaded table are in their ranges
   pub loaded-ranges : Ranges (r .table)
   loaded-ranges = rw table-of-entries (loads-kept b .ranges)
 
-  -- it is within its limits, and so never meets refusal 23
+  -- the loaded table is within its limits, and so never meets refusal 23
   pub loaded-within : WithinLimits (r .table)
   loaded-within = withinLimits-of-ranges (r .table) loaded-ranges
 

@@ -128,7 +128,7 @@ module _ (t : Table) (w : Ranges t) where
           ranges-withEdge (withKey t k) (ranges-withKey k (leb-false 128 (t .keys) y) l) f n c (leb-false 512 (t .edges) x) a b d e g i
       go false false false s x y = ranges-withEdge t w f n c (leb-false 512 (t .edges) x) a b d e g i
 
--- taking an entry keeps them
+-- taking an entry keeps the numbers of a table in their ranges
 pub ranges-takeEntry : (n : ℕ) (t : Table) (e : Entry) → Ranges t → Proper e → Ranges (takeEntry n t e .table)
 unfolding takeEntry
 ranges-takeEntry n t (edge r f q k v m) w p = go (formChanges (getD (t .forms) r 0) (formCode f))
@@ -149,7 +149,7 @@ unfolding takeSaid
 ranges-takeSaid n t (bad k) w p = w
 ranges-takeSaid n t (good e) w p = ranges-takeEntry n t e w p
 
--- taking a line keeps them
+-- taking a line keeps the numbers of a table in their ranges
 pub ranges-line : (n : ℕ) (t : Table) (l : List ℕ) (x : ℕ) (y : Table) → taken x y ≡ takeSaid n t (sayLine l) → Ranges t → Ranges y
 ranges-line n t l x y q w =
     let d : y ≡ takeSaid n t (sayLine l) .table = ap (λ (v : Taken). v .table) q in

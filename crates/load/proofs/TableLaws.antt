@@ -181,11 +181,11 @@ module _ (w : List ℕ) (a : ℕ) (k : List ℕ) (fits : a + length k ≤ length
   parts : written w a k ≡ take a w ++ (k ++ drop (a + length k) w)
   parts = written-sets w a k ∙ sets-eq k w a fits ∙ append-assoc (take a w) k (drop (a + length k) w)
 
-  -- what was written
+  -- the bytes k stand where they were written
   written-here : take (length k) (drop a (written w a k)) ≡ k
   written-here = rw parts (rw (drop-at (take a w) (k ++ drop (a + length k) w) a (length-take-le a w (omega arith))) (take-append-seam k (drop (a + length k) w)))
 
-  -- what stands before it
+  -- the bytes before what was written stay
   written-before : (b m : ℕ) → b + m ≤ a → take m (drop b (written w a k)) ≡ take m (drop b w)
   written-before b m h =
       let l : length (take a w) ≡ a = length-take-le a w (omega arith) in

@@ -12,12 +12,12 @@ use Rattle.load.specs.declared.BookAnswer.the-variants.{NoRule, NoRoot, 
 use Rattle.store.specs.Store.{some, firstAt}
 use Rattle.load.specs.Step.{Loaded, loaded, refusal}
 
--- a kind refers to a rule without lines, where the rules have these forms
+-- a kind refers to a rule without lines, where `forms` are the forms of the rules
 unfoldable pub danglesKind : List ℕ → ValueKind → Bool
 danglesKind forms (Plain s) = false
 danglesKind forms (Rule n) = eqb (getD forms n 0) 0
 
--- the kind of edge e does
+-- the kind of edge e refers to a rule without lines
 unfoldable pub danglesAt : Table → ℕ → Bool
 danglesAt t e = danglesKind (t .forms) (kindOf (getD (t .«edge_kind») e 0))
 

@@ -96,7 +96,7 @@ module _ {t : Table} {es : List Entry} (kept : Carries t es) where
               (λ b. (hasKey-iff kept i c l .1 (T-and-right (o .fitting e) (hasKey (keysOf es) c x) b), rw d (T-and-left (o .fitting e) (hasKey (keysOf es) c x) b))),
             )
 
-    -- they are the same
+    -- the states after the keys below n are the same in the frame and in the open object
     shows-walk : (n : ℕ) → n ≤ 128 → ShowsStates (bitAt (bits n)) (after n)
     unfolding bits after walked walk formCode
     shows-walk zero l = shows-start kept obj (bitAt (startStates (t .forms) 1)) (bitAt-startStates (t .forms) 1)

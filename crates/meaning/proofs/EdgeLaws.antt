@@ -36,7 +36,7 @@ pub record Numbers (ks : List (List ℕ)) (a : Edge) (r q : ℕ) (k : List ℕ) 
   pub kind : a .kind ≡ codeOf v
   pub next : a .next ≡ m
 
--- the same of an entry, which has to be an edge
+-- the numbers of an edge are those of an entry, which has to be an edge
 abbrev NumbersOf : List (List ℕ) → Edge → Entry → Type 0
 NumbersOf ks a (edge r f q k v m) = Numbers ks a r q k v m
 NumbersOf ks a (end-state r f q) = ⊥
@@ -60,7 +60,7 @@ numbers-of-edgesFrom ks n (suc j) h (past-edge g) = let p = numbers-of-edgesFrom
 numbers-of-edgesFrom ks n zero h (past-end g) = numbers-of-edgesFrom ks (suc n) zero h g
 numbers-of-edgesFrom ks n (suc j) h (past-end g) = numbers-of-edgesFrom ks (suc n) (suc j) h g
 
--- and there are no others
+-- each of the edges is that of an entry
 edge-of-edgesFrom : (ks : List (List ℕ)) (n i : ℕ) (es : List Entry) (j : ℕ) → j < length (edgesFrom ks n es) → (x : Entry) × EdgeFrom i es (i + j) x
 unfolding edgesFrom
 edge-of-edgesFrom ks n i [] j h = absurd (omega arith)
@@ -91,11 +91,11 @@ module _ {t : Table} {es : List Entry} (kept : Carries t es) where
       let l′ : e < t .edges = omega (arith, ap length edged, length-tab (edgeAt t) 0 (t .edges)) in
       (l′, subst (λ (a : Edge). NumbersOf (keysOf es) a x) (ap (λ (l : List Edge). getD l e noEdge) (sym edged) ∙ getD-tab (edgeAt t) noEdge (t .edges) e l′) n)
 
-  -- the first of the two
+  -- edge e of the book has a number below the number of edges
   pub below-of-edge : {e : ℕ} {x : Entry} → EdgeFrom 0 es e x → e < t .edges
   below-of-edge i = numbers-at i .0
 
-  -- the second, of an entry that is seen to be an edge
+  -- edge e of the table has the numbers of edge e of the book
   pub numbers-of-edge : {e r q m : ℕ} {f : Form} {k : List ℕ} {v : ValueKind} → EdgeFrom 0 es e (edge r f q k v m)
       → Numbers (keysOf es) (edgeAt t e) r q k v m
   numbers-of-edge i = numbers-at i .1
@@ -114,7 +114,7 @@ module _ {t : Table} {es : List Entry} (kept : Carries t es) where
 
   -- ---- tests of an edge
 
-  -- it has the key with a number
+  -- an edge has the key with number c in the table exactly when its entry has it
   pub hasKey-iff : {e : ℕ} {x : Entry} → EdgeFrom 0 es e x → (c : ℕ) → c < 128 → (getD (t .«edge_key») e 0 ≡ c) ↔ T (hasKey (keysOf es) c x)
   unfolding hasKey keyNumber
   hasKey-iff {e} {x} i c l = go x i (numbers-at i .1)
@@ -134,7 +134,7 @@ module _ {t : Table} {es : List Entry} (kept : Carries t es) where
           ((λ h. T-of-true (eqb (numberOf (keysOf es) k) c) (eq-eqb (numberOf (keysOf es) k) c (sym d ∙ h))), (λ h. d ∙ eqb→eq (numberOf (keysOf es) k) c h))
       go (end-state r f q) i n = absurd n
 
-  -- it asks for a kind that a value fits
+  -- an edge asks in the table for a kind that a value fits exactly when its entry asks for one
   pub fitsCode-asks : {v : Finished} {w : ValueKind → Bool} → ShowsValue v w → {e : ℕ} {x : Entry} → EdgeFrom 0 es e x
       → fitsCode v (getD (t .«edge_kind») e 0) ≡ asks w x
   unfolding fitsCode asks
@@ -145,7 +145,7 @@ module _ {t : Table} {es : List Entry} (kept : Carries t es) where
           ap (λ (c : ℕ). fitsKind (kindOf c) v) (n .kind) ∙ ap (λ (k : ValueKind). fitsKind k v) (kindOf-codeOf u) ∙ shows u (kept .edge-limits (member-of-edge i) .kind)
       go (end-state r f q) i n = absurd n
 
-  -- its rule is an `arr` rule
+  -- the rule of an edge is an `arr` rule in the table exactly when its entry is of one
   pub arr-iff : {e : ℕ} {x : Entry} → EdgeFrom 0 es e x → T (hasForm (t .forms) 2 (getD (t .«edge_rule») e 0)) ↔ T (ofArray x)
   unfolding ofArray formCode ruleOf formIn
   arr-iff {e} {x} i = go x i (numbers-at i .1)

@@ -30,7 +30,7 @@ within : Entry → Bool
 within (edge r f q k v m) = ltb r 32 && (ltb q 16 && (ltb (codeOf v) 38 && ltb m 16))
 within (end-state r f q) = ltb r 32 && ltb q 16
 
--- it has a key exactly where it is an edge of an `obj` rule
+-- an edge has a key exactly where its rule is an `obj` rule
 rightKey : Entry → Bool
 rightKey (edge r obj q [] v m) = false
 rightKey (edge r obj q (b ∷ k) v m) = true
@@ -38,7 +38,7 @@ rightKey (edge r arr q [] v m) = true
 rightKey (edge r arr q (b ∷ k) v m) = false
 rightKey (end-state r f q) = true
 
--- both, of each entry, and no two give a rule two forms
+-- each entry is within its limits and has a key where it needs one, and no two entries give a rule two forms
 inOrder : List Entry → Bool
 inOrder es = all within es && (all rightKey es && all (λ (a : Entry). all (λ (b : Entry). not (changesForm a b)) es) es)
 
@@ -96,7 +96,7 @@ kept-of-inOrder t es h m n p = record {
 
 -- ---- book B
 
--- its table; the entries of an array that no edge, key or rule uses are left out, and read as 0
+-- the table of book B; the entries of an array that no edge, key or rule uses are left out, and read as 0
 abbrev tableB : Table
 tableB = record {
   edges = 5;
@@ -131,6 +131,6 @@ kept-entriesB : Carries tableB entriesB
 unfolding inOrder within rightKey all changesForm sameForm ruleOf formIn codeOf
 kept-entriesB = kept-of-inOrder tableB entriesB holds-b (lit≤ tt) (lit≤ tt) tt
 
--- it keeps book B
+-- the table of book B keeps the entries that load gives for the book
 pub kept-b : Carries tableB (loads bookB .entries)
 kept-b = rw loads-bookB kept-entriesB

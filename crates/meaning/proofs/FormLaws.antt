@@ -79,7 +79,7 @@ eq-of-form-and-rule obj arr r n h = absurd h
 eq-of-form-and-rule arr obj r n h = absurd h
 eq-of-form-and-rule arr arr r n h = (eqb→eq r n h, refl)
 
--- an entry that passes the test of both
+-- an entry that passes the test of form and rule has them
 eq-of-isOf : (f : Form) (n : ℕ) (x : Entry) → T (isOf f n x) → (ruleOf x ≡ n) × (formIn x ≡ f)
 unfolding isOf ruleOf formIn
 eq-of-isOf f n (edge r g q k v m) h = eq-of-form-and-rule f g r n h

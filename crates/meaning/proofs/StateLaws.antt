@@ -58,7 +58,7 @@ module _ {t : Table} {es : List Entry} (kept : Carries t es) where
 
   -- ---- moved
 
-  -- where a test of the book's edges says the same as the properties, they are the states after a move by the edges that pass it
+  -- where a test of the book's edges says the same as the two properties, the bits `next` are the states after a move by the edges that pass it
   pub shows-moved : (bits next : ℕ → Bool) (S : States) (P Q : ℕ → Type 0) (p : ℕ → Entry → Bool) → ShowsStates bits S
       → ((e : ℕ) (x : Entry) → EdgeFrom 0 es e x → (P e × Q e) ↔ T (p e x)) → Reached t bits P Q next → ShowsStates next (moved es p S)
   unfolding stateNumber

@@ -31,7 +31,7 @@ use Rattle.meaning.proofs.StateLaws.{eq-of-iff, shows-moved}
 currentKey-of-known : {es : List Entry} {f : List ℕ} {o : OpenObject} → ShowsObject es f o → o .current < keyCount es → currentKey f ≡ o .current
 currentKey-of-known {es} {o} h l = h .current ∙ rw (lt-ltb (o .current) (keyCount es) l)
 
--- where the frame's is below 128, the current key is known
+-- where the frame's current key is below 128, that of the open object is known
 known-of-currentKey : {es : List Entry} {f : List ℕ} {o : OpenObject} → ShowsObject es f o → currentKey f < 128 → o .current < keyCount es
 known-of-currentKey {es} {f} {o} h l = go (decLt (o .current) (keyCount es))
   where

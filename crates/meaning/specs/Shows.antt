@@ -31,9 +31,9 @@ pub record EdgeLimits (r q : ℕ) (v : ValueKind) (m : ℕ) : Type 0 where
 
 -- a table keeps the entries of a book
 pub record Carries (t : Table) (es : List Entry) : Type 0 where
-  -- it holds them
+  -- the table holds the entries
   pub holds : Holds t es
-  -- each is within its limits
+  -- the numbers of each entry are within their limits
   pub edge-limits : {r q m : ℕ} {f : Form} {k : List ℕ} {v : ValueKind} → edge r f q k v m ∈ es → EdgeLimits r q v m
   pub end-limits : {r q : ℕ} {f : Form} → end-state r f q ∈ es → (r < 32) × (q < 16)
   -- an edge of an `arr` rule has no key, one of an `obj` rule has one

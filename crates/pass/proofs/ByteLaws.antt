@@ -122,13 +122,13 @@ module _ (t : Table) (n : ℕ) (x : Progress) (root : Bool) (key w : List ℕ) (
 pub count-fits : (len from pos end i : ℕ) → end ≡ from + min (len - from) (16777216 - pos) → pos ≤ 4294967295 → i ≤ end → pos + (i - from) ≤ 4294967295
 count-fits len from pos end i e p h = omega arith
 
--- the bytes from there to the end make no record too long
+-- the bytes from a place in the piece to the end make no record too long
 pub rest-fits : (len from pos end i : ℕ) → end ≡ from + min (len - from) (16777216 - pos) → from ≤ i → i < end → pos + (i - from) + (end - i) ≤ 16777216
 rest-fits len from pos end i e h l =
     let whole : pos + (end - from) ≤ 16777216 = omega arith in
     let split : end - from ≡ i - from + (end - i) = omega arith in
     omega arith
 
--- nor does the byte at a place before the end
+-- the byte at a place before the end makes no record too long
 pub byte-fits : (len from pos end j : ℕ) → end ≡ from + min (len - from) (16777216 - pos) → from ≤ j → j < end → pos + (j - from) < 16777216
 byte-fits len from pos end j e h l = omega arith

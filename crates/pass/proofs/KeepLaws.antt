@@ -86,7 +86,7 @@ key-step t n y root key w b m h f p l e =
     ∙ ap (λ (k : Mode). advance (moved y b (M.Key S.Char) (y .level) (keyLen (y .len) (charIn k (y .bits) (y .high) b))) (keyTask (y .len) (charIn k (y .bits) (y .high) b))) m)
     ∙ key-char y t b root key w (ltb (y .len) 32) refl (plain-below b l e)
 
--- the record after such a character
+-- the record after a plain character of a key
 key-place : (x : Progress) (m : Mode) (bits p len q more b : ℕ) (root : Bool) (key next w : List ℕ) → m ≡ M.Key S.Char → bump p ≡ q → leadBits b ≡ 0
     → next ≡ keptIn key len b → more ≡ keyLen len b
     → mem (moved (placed x m bits (x .high) p len) b (M.Key S.Char) (x .level) (keyLen len b)) root (keptIn key len b) w
@@ -97,7 +97,7 @@ pub kept-none : (x : Progress) (s : List ℕ) (from : ℕ) (key : List ℕ) → 
 kept-none x s from key h = record { low = omega arith; high = h; length = refl; same = λ t n root w. refl }
 
 module _ (x : Progress) (s : List ℕ) (from : ℕ) (old : List ℕ) (o : keepsChars x ≡ true) where
-  -- over a plain character
+  -- a plain character of a key is kept
   pub keep-on : (bits p len i q more : ℕ) (key next : List ℕ) → KeptTo x s from old (placed x (x .mode) bits (x .high) p len) i key → i < length s → p < 16777216
       → getD s i 0 < 256 → plainClass (classOf (getD s i 0)) ≡ true → next ≡ keptIn key len (getD s i 0) → more ≡ keyLen len (getD s i 0) → q ≡ p + 1
       → KeptTo x s from old (placed x (x .mode) 0 (x .high) q more) (i + 1) next

@@ -41,7 +41,7 @@ runs-on r q =
     }
 
 module _ (x : Progress) (top : Top) (s : List ℕ) (o : readsOn x ≡ true) where
-  -- over bytes that leave the mode as it is
+  -- bytes that leave the mode as it is are passed over at once
   stay-on : (i end j : ℕ) → StayedTo (x .mode) s i end j → end ≤ length s → x .pos + (end - i) ≤ 16777216
       → RunsTo x top s i (placed x (x .mode) (bitsOver (ltb i j) (x .mode) (x .bits)) (x .high) (x .pos + (j - i)) (x .len)) j
   unfolding bitsOver
@@ -66,7 +66,7 @@ module _ (x : Progress) (top : Top) (s : List ℕ) (o : readsOn x ≡ true) wher
           let u : x .pos + (j - i) ≡ x .pos = omega arith in
           rw (y, u, c)
 
-  -- over a byte with a quiet act
+  -- a byte with a quiet act is passed over
   pass-on : (i : ℕ) (st : Step) → i < length s → x .pos < 16777216 → st ≡ stepOf (x .mode) top (getD s i 0)
       → passes (st .act) (st .ends) (getD s i 0) ≡ true
       → RunsTo x top s i (placed x (st .mode) (bitsIn (x .mode) (x .bits) (getD s i 0)) (highIn (x .mode) (x .bits) (x .high) (getD s i 0)) (x .pos + 1) (x .len)) (i + 1)
@@ -143,13 +143,13 @@ module _ (x : Progress) (top : Top) (s : List ℕ) (from end : ℕ) (o : readsOn
     pub out-stayed : (y : Passed) (st : Step) → j ≡ end → y ≡ passedAt x m more high from j st → PassedTo x top s from (y .progress) (y .at) (y .step)
     out-stayed y st q f = out-at-end m more high j y st stayed (omega arith) f
 
-    -- of the byte there the lexer makes the step st
+    -- of the byte at j the lexer makes the step st
     module _ (st : Step) (a : st ≡ stepOf m top (getD s j 0)) where
-      -- which is not passed over
+      -- the byte at j is not passed over
       pub out-at-byte : (y : Passed) → y ≡ passedAt x m more high from j st → PassedTo x top s from (y .progress) (y .at) (y .step)
       out-at-byte y f = rw f record { runs = stayed; step = λ n l. ap (λ (z : Step). advanced (reached x m more high from j) n (getD s j 0) z) a }
 
-      -- which is passed over
+      -- the byte at j is passed over
       pub passed-on : (later next : ℕ) (v : Bool) → (j ≡ end → ⊥) → v ≡ passes (st .act) (st .ends) (getD s j 0) → v ≡ true → next ≡ highIn m more high (getD s j 0)
           → later ≡ bitsIn m more (getD s j 0) → RunsTo x top s from (reached x (st .mode) later next from (j + 1)) (j + 1)
       unfolding readsOn

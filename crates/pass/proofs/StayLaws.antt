@@ -43,7 +43,7 @@ use Rattle.pass.proofs.ByteLaws.{bump-below, never, next-run, quiet-ste
 
 -- ---- bytes that leave the mode as it is
 
--- what such a byte does
+-- what a byte does that leaves the mode as it is
 record StaysAs (m : Mode) (top : Top) (b : ℕ) : Type 0 where
   pub act : Act
   pub step : stepOf m top b ≡ stepTo m act

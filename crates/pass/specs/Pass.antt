@@ -96,13 +96,13 @@ staysIn k (M.Text s) b = cond (awaitsChar s) (plainClass k) false
 staysIn k (M.Number n) b = cond (inDigits n) (isDigit b) false
 staysIn k (M.Word w i) b = false
 
--- the bytes of s from one place to another do, the latter not past an end
+-- the bytes of s from one place to another leave the mode m as it is; the other place is not past an end
 pub record StayedTo (m : Mode) (s : List ℕ) (from end at : ℕ) : Type 0 where
   pub low : from ≤ at
   pub high : at ≤ end
   pub stays : (k : ℕ) → from ≤ k → k < at → (getD s k 0 < 256) × (staysIn (classOf (getD s k 0)) m (getD s k 0) ≡ true)
 
--- the bits of an open character after them, if there are some
+-- the bits of an open character after some bytes that leave the mode as it is, or after none
 unfoldable pub bitsOver : Bool → Mode → ℕ → ℕ
 bitsOver some m bits = cond some (bitsIn m bits 0x20) bits
 
@@ -137,7 +137,7 @@ isSound F.Malformed = false
 isSound F.TooDeep = false
 isSound F.TooLong = false
 
--- its bytes are more than counted
+-- the bytes of a record are more than counted: it is not the head, and has no fault so far
 unfoldable pub readsOn : Progress → Bool
 readsOn x = cond (x .head) false (isSound (x .fault))
 
@@ -148,11 +148,11 @@ keepsIn (M.Text s) x = false
 keepsIn (M.Number n) x = false
 keepsIn (M.Word w i) x = false
 
--- and it stands where a character of a key is awaited
+-- the bytes of a record are more than counted, and a character of a key is awaited
 unfoldable pub keepsChars : Progress → Bool
 keepsChars x = keepsIn (x .mode) x
 
--- the same record at another mode, with other registers, after pos bytes, with len characters of its key
+-- the record x at another mode, with other registers, after pos bytes, with len characters of its key
 abbrev pub placed : Progress → Mode → ℕ → ℕ → ℕ → ℕ → Progress
 placed x m bits high pos len =
     record { mode = m; fault = x .fault; head = x .head; level = x .level; pos = pos; place = x .place; bits = bits; high = high; len = len }
@@ -174,7 +174,7 @@ pub record RunsTo (x : Progress) (top : Top) (s : List ℕ) (from : ℕ) (y : Pr
   pub same : (t : Table) (n : ℕ) (root : Bool) (key w : List ℕ) → topAt w (x .level) ≡ top
       → runMem t n (mem y root key w) at (drop at s) ≡ runMem t n (mem x root key w) from (drop from s)
 
--- and of the byte there the limits make with the step st what they make of its own
+-- the bytes of s up to place `at` make y of the record x, and of the byte there the limits make with the step st what they make with its own
 pub record PassedTo (x : Progress) (top : Top) (s : List ℕ) (from : ℕ) (y : Progress) (at : ℕ) (st : Step) : Type 0 where
   pub runs : RunsTo x top s from y at
   pub step : (n : ℕ) → at < length s → advanced y n (getD s at 0) st ≡ advanced y n (getD s at 0) (stepOf (y .mode) top (getD s at 0))

@@ -101,7 +101,7 @@ module _ (s : List ℕ) (n start left i : ℕ) (x : Scanned s n start left i) (i
       ≡ pickOf s n
   gives-RS e y h = rw h at (sym (from-RS part rest b left e) ∙ gives-next)
 
-  -- the part that ended is the one
+  -- the part that ended is the one to pick
   pub scan-found : (ended it : Bool) → ended ≡ endsPart b start i → it ≡ isIt ended left → it ≡ true → part ≡ pickOf s n
   unfolding isIt endsPart
   scan-found ended it u v h = go (eqb b 0x1E) refl (ltb start i) refl (eqb left 0) refl (rw u at (sym v ∙ h))
@@ -113,7 +113,7 @@ module _ (s : List ℕ) (n start left i : ℕ) (x : Scanned s n start left i) (i
       go true d false e r f h = true-neq-false (sym h)
       go false d q e r f h = true-neq-false (sym h)
 
-  -- it is not: the byte is passed
+  -- the byte ends no part that is to be picked: it is passed
   abbrev Passed : Bool → Bool → Type 0
   Passed p q = Scanned s n (cond p (i + 1) start) (cond (p && q) (left - 1) left) (i + 1)
 

@@ -26,12 +26,12 @@ use Rattle.piece.specs.Went.{StepsAs, WentTo}
 
 -- ---- the end of a record, by the code's tests
 
--- a byte other than RS ends none
+-- a byte other than RS ends no record
 pub ends-other : (x : Progress) (b : ℕ) → (b ≡ 0x1E → ⊥) → false ≡ endsRecord x b
 unfolding endsRecord
 ends-other x b h = rw (ne-eqb b 0x1E h)
 
--- an RS ends one that has a byte
+-- an RS ends a record that has a byte
 pub ends-rs : (x : Progress) (b : ℕ) → b ≡ 0x1E → ltb 0 (x .pos) ≡ endsRecord x b
 unfolding endsRecord
 ends-rs x b h = rw (eq-eqb b 0x1E h)
@@ -44,7 +44,7 @@ module _ (t : Table) (n : ℕ) (m : Mem) (s : List ℕ) (i : ℕ) where
   unfolding runMem
   run-end h e = rw (drop-cons s i 0, e)
 
-  -- it has its turn, with a step that is as good as its own
+  -- the byte at place i has its turn, with a step that is as good as its own
   run-turn : (k : Mem) (st : Step) → i < length s → endsRecord (m .progress) (getD s i 0) ≡ false
       → advanced (m .progress) n (getD s i 0) st ≡ advanced (m .progress) n (getD s i 0) (stepOf (m .progress .mode) (topAt (m .work) (m .progress .level)) (getD s i 0))
       → k ≡ turned t n m (getD s i 0) st → runMem t n k (i + 1) (drop (i + 1) s) ≡ runMem t n m i (drop i s)
@@ -79,20 +79,20 @@ module _ (s : List ℕ) (i at end : ℕ) (x y z : Progress) (top : Top) (st : St
       ∙ ap (λ (k : Top). advanced z n (getD s end 0) (stepOf (z .mode) k (getD s end 0))) (e ∙ ap (λ (l : ℕ). topAt w l) (sym (b .runs .level)))
 
   module _ (t : Table) (n : ℕ) (root : Bool) where
-    -- the run after them gives what the run over the whole gives
+    -- the run after the bytes passed over gives what the run over the whole gives
     run-passed : runMem t n (mem z root kept w) end (drop end s) ≡ runMem t n (mem x root key w) i (drop i s)
     run-passed = b .runs .same t n root kept w (sym e) ∙ a .same t n root w
 
-    -- they reach the end of the piece
+    -- the bytes passed over reach the end of the piece
     pub went-all : i < length s → length s ≤ end → WentTo t n (mem x root key w) s i (mem z root kept w) end false
     went-all h l = record { low = omega arith; high = b .runs .high; run = sym run-passed }
 
-    -- one goes on after them
+    -- after the bytes passed over one goes on to place j
     pub went-on : (k : Mem) (j : ℕ) (v : Bool) → WentTo t n (mem z root kept w) s end k j v → WentTo t n (mem x root key w) s i k j v
     went-on k j v g = record { low = omega (arith, a .low, b .runs .low, g .low); high = g .high; run = sym run-passed ∙ g .run }
 
 -- ---- what the test of a table tells
 
--- at most 128 keys
+-- a table that passes the test has at most 128 keys
 pub keys-le : (t : Table) → withinLimits t ≡ true → t .keys ≤ 128
 keys-le t e = withinLimits-sound t (T-of-true (withinLimits t) e) .keys

@@ -22,11 +22,11 @@ use Rattle.progress.specs.Progress.{advance, charIn, moved, actedBy, act
 -- ---- the parts of an act, where f is the fault that was found
 
 module _ (a : Act) (e : Bool) (x : Progress) (n b : ℕ) (m : Mode) (f : Fault) (h : f ≡ firstFault a (x .level) n) where
-  -- with a fault, y is what was made of it
+  -- what is made with the fault g that was found is what the act makes
   pub acted-of-fault : (g : Fault) (y : Advanced) → f ≡ g → y ≡ actedBy g a e x n b m → y ≡ acted a e x n b m
   acted-of-fault g y k l = l ∙ ap (λ (z : Fault). actedBy z a e x n b m) (sym k ∙ h)
 
-  -- without one
+  -- where no fault was found, the parts of the act are put together
   pub acted-of-sound : (c level len : ℕ) (next : Progress) (task : Task) → f ≡ F.Sound → c ≡ charIn (x .mode) (x .bits) (x .high) b
       → level ≡ levelAfter a (x .level) n → len ≡ lenAfter a (x .len) c → next ≡ moved x b m level len → task ≡ taskOf a e (x .mode) (x .len) c
       → advance next task ≡ acted a e x n b m
@@ -68,7 +68,7 @@ keyLen-le len c = go (ltb len 32) refl (ltb c 128)
     go true e false = omega arith
     go false e u = omega arith
 
--- none counts more than 33 characters of a key
+-- no act counts more than 33 characters of a key
 pub lenAfter-le : (a : Act) (len c : ℕ) → len ≤ 33 → lenAfter a len c ≤ 33
 lenAfter-le A.Fault len c h = h
 lenAfter-le A.Pass len c h = h
@@ -87,16 +87,16 @@ lenAfter-le (A.WordEnd w) len c h = h
 
 -- ---- the characters of a key
 
--- fewer than 32 are kept, and there is room
+-- a character is put after fewer than 32 that are kept
 pub kept-room : (key : List ℕ) (len c : ℕ) → len < 32 → set key len c ≡ keptIn key len c
 unfolding keptIn
 kept-room key len c h = rw (lt-ltb len 32 h)
 
--- there is no room
+-- a key without room for a character stays
 pub kept-past : (key : List ℕ) (len c : ℕ) → len < 32 → length key ≤ len → key ≡ keptIn key len c
 kept-past key len c h l = sym (set-out key len c l) ∙ kept-room key len c h
 
--- 32 are kept
+-- a key of which 32 characters are kept stays
 pub kept-full : (key : List ℕ) (len c : ℕ) → 32 ≤ len → key ≡ keptIn key len c
 unfolding keptIn
 kept-full key len c h = rw (le-ltb len 32 h)

@@ -28,7 +28,7 @@ use Rattle.progress.specs.Memory.{Mem, freshMem, valueAt, rulesAt, close
 abbrev pub KeepsLength : (List ℕ → List ℕ) → Type 0
 KeepsLength op = (f : List ℕ) → length f ≡ 96 → length (op f) ≡ 96
 
--- a claim about the buffer after it: of the buffer itself where the level has no frame, else of the buffer with 96 bytes put there
+-- a claim about the buffer after an operation at a level: of the buffer itself where the level has no frame, else of it with 96 bytes put there
 pub worked-elim : (P : List ℕ → Type 0) (w : List ℕ) (l : ℕ) (op : List ℕ → List ℕ) → KeepsLength op → P w
     → (hasFrame (length w) l ≡ true → length (op (frameAt w l)) ≡ 96 → P (putFrame w l (op (frameAt w l)))) → P (putFrame w l (op (frameAt w l)))
 worked-elim P w l op keeps none some = go (hasFrame (length w) l) refl
@@ -37,12 +37,12 @@ worked-elim P w l op keeps none some = go (hasFrame (length w) l) refl
     go true e = some e (keeps (frameAt w l) (length-frameAt w l e))
     go false e = subst P (putFrame-none w (op (frameAt w l)) l e) none
 
--- it leaves the length of the buffer
+-- an operation at a level leaves the length of the buffer
 length-worked : (w : List ℕ) (l : ℕ) (op : List ℕ → List ℕ) → KeepsLength op → length (putFrame w l (op (frameAt w l))) ≡ length w
 length-worked w l op keeps =
     worked-elim (λ (v : List ℕ). length v ≡ length w) w l op keeps refl (λ _ long. length-putFrame w (op (frameAt w l)) l long)
 
--- a finished value and a finished key are such operations
+-- a finished value and a finished key are operations that leave the length of a frame
 pub keeps-valued : (t : Table) (v : Finished) → KeepsLength (valued (edgesIn t) (t .«edge_kind») (t .forms) v)
 keeps-valued t v f e = length-valued (edgesIn t) (t .«edge_kind») (t .forms) v f e
 
@@ -61,7 +61,7 @@ length-opened-frame t w l object = length-putFrame w (opened (t .forms) object) 
 pub length-keyed-frame : (w : List ℕ) (l c : ℕ) → length (putFrame w l (keyed c (frameAt w l))) ≡ length w
 length-keyed-frame w l c = length-worked w l (keyed c) (keeps-keyed c)
 
--- no task changes it
+-- no task changes the length of the buffer
 pub length-perform : (x : Task) (t : Table) (m : Mem) (y : Progress) → length (perform x t m y .work) ≡ length (m .work)
 unfolding closeAt
 length-perform To.Idle t m y = refl
@@ -75,14 +75,14 @@ length-perform (To.FinishClose s) t m y =
     let w = valueAt t (m .work) (m .progress .level) (Done.Scalar s) in
     length-valueAt t w (m .progress .level - 1) (Done.Rules (rulesAt t w (m .progress .level))) ∙ length-valueAt t (m .work) (m .progress .level) (Done.Scalar s)
 
--- so no byte does
+-- no byte changes the length of the buffer
 pub length-stepMem : (t : Table) (n : ℕ) (m : Mem) (b : ℕ) → length (stepMem t n m b .work) ≡ length (m .work)
 unfolding stepMem
 length-stepMem t n m b = length-perform (advancedAt n m b .task) t m (advancedAt n m b .progress)
 
 -- ---- what is known of the record
 
--- no task changes it
+-- no task changes what is known of the record
 pub progress-perform : (x : Task) (t : Table) (m : Mem) (y : Progress) → perform x t m y .progress ≡ y
 unfolding closeAt
 progress-perform To.Idle t m y = refl

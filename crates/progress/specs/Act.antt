@@ -53,7 +53,7 @@ firstFault A.NumberStart level n = F.Sound
 firstFault A.NumberByte level n = F.Sound
 firstFault (A.WordEnd w) level n = F.Sound
 
--- the levels after it
+-- how many values are open after an act
 abbrev pub levelAfter : Act → ℕ → ℕ → ℕ
 levelAfter A.Fault level n = level
 levelAfter A.Pass level n = level
@@ -70,7 +70,7 @@ levelAfter A.NumberStart level n = level
 levelAfter A.NumberByte level n = level
 levelAfter (A.WordEnd w) level n = level
 
--- the length of the key after it, where it finishes the character c
+-- how many characters of the key are kept after an act; c is the one that it finishes
 abbrev pub lenAfter : Act → ℕ → ℕ → ℕ
 lenAfter A.Fault len c = len
 lenAfter A.Pass len c = len
@@ -116,7 +116,7 @@ abbrev pub closing : Bool → Mode → Task
 closing true m = To.FinishClose (numberKind m)
 closing false m = To.Close
 
--- what is to be done at it, in mode m; e tells whether it ends a number
+-- what is to be done at a byte with an act, in mode m; e tells whether the byte ends a number
 abbrev pub taskOf : Act → Bool → Mode → ℕ → ℕ → Task
 taskOf A.Fault e m len c = To.Idle
 taskOf A.Pass e m len c = numberTask e m

@@ -93,7 +93,7 @@ advanced x n b st = cond (eqb b 0x1E) (advance (freshProgress false) To.Begin) (
 
 -- ---- the verdict of a record that ends here
 
--- with nothing open, after pos bytes: after a value it is valid where the root fits rule 0
+-- the verdict with nothing open, after pos bytes: after a value the record is valid where the root fits rule 0
 abbrev pub wholeAt : Awaited → ℕ → Bool → Verdict
 wholeAt P.Value pos root = Is.Unfinished pos
 wholeAt P.First pos root = Is.Unfinished pos

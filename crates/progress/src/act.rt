@@ -21,7 +21,7 @@ fn open_fault(level: usize, frames: usize) -> Fault
     Fault::TooDeep
 }
 
-// The levels after it.
+// How many values are open after a byte that opens one: one more, where the buffer has a frame for it.
 fn open_level(level: usize, frames: usize) -> usize
     ensures { λ r. ⌜ r ≡ openLevel level frames ⌝ }
 {
@@ -41,7 +41,7 @@ pub fn down(level: usize) -> usize
     level - 1
 }
 
-// Such a character is put to the key.
+// A character below 128 is put to the key where fewer than 32 are kept; any other is not.
 fn key_task(len: u8, c: u32) -> Task
     ensures { λ r. ⌜ r ≡ keyTask len c ⌝ }
 {
@@ -87,7 +87,7 @@ fn scalar_of(w: Word) -> Scalar
     }
 }
 
-// Nothing more, or the number that ended.
+// The number that ended is finished; where none did, nothing is done.
 fn number_task(ends: bool, m: Mode) -> Task
     ensures { λ r. ⌜ r ≡ numberTask ends m ⌝ }
 {
@@ -97,7 +97,7 @@ fn number_task(ends: bool, m: Mode) -> Task
     Task::Idle
 }
 
-// The innermost open value is closed, after the number that ended.
+// The innermost open value is closed, after the number that ended if one did.
 fn closing(ends: bool, m: Mode) -> Task
     ensures { λ r. ⌜ r ≡ closing ends m ⌝ }
 {

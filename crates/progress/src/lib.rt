@@ -81,7 +81,7 @@ pub fn fresh(head: bool) -> Progress
     }
 }
 
-// One byte more; at the largest number it stays.
+// The count with one more; at the largest number the count stays.
 pub fn bump(p: u32) -> u32
     ensures { λ r. ⌜ r ≡ bump p ⌝ }
 {

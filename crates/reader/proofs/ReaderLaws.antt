@@ -27,7 +27,7 @@ module _ (t : Table) (w : List ℕ) (a : Gate) (p : a ≡ startGate t (length w)
   unfolding startOf
   start-refused k e f = rw (sym p ∙ e, f)
 
-  -- an open one gives the frames of the buffer
+  -- an open gate gives a reader with the frames of the buffer
   pub start-done : (n : ℕ) → a ≡ Is.Open → n ≡ frameCount (length w) → r ≡ freshReader n true zeroTally
       → record { reader = r; answer = Says.Quiet } ≡ startOf t w
   unfolding startOf

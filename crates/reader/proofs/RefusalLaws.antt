@@ -32,7 +32,7 @@ pub open-of-isOpen : (a : Gate) → isOpen a ≡ true → a ≡ Is.Open
 open-of-isOpen Is.Open e = refl
 open-of-isOpen (Is.Shut k) e = true-neq-false (sym e)
 
--- that of any other is shut, with its refusal
+-- the gate of a refused call is shut, with its refusal
 pub shut-of-not-isOpen : (a : Gate) → isOpen a ≡ false → (k : Refusal) × (a ≡ Is.Shut k)
 shut-of-not-isOpen Is.Open e = true-neq-false e
 shut-of-not-isOpen (Is.Shut k) e = (k, refl)
@@ -49,12 +49,12 @@ module _ (g : Rung) (gs : List Rung) where
       go true e = refl
       go false e = open-neq-shut (g .refusal) (sym e)
 
-  -- where the first rung holds, the others count
+  -- where the first rung holds, those after it count
   rest-of-holds : g .holds ≡ true → firstRefusal (g ∷ gs) ≡ firstRefusal gs
   unfolding firstRefusal
   rest-of-holds e = rw e
 
-  -- the others of an open ladder are open
+  -- the rungs of an open ladder after the first are an open ladder
   rest-of-open : firstRefusal (g ∷ gs) ≡ Is.Open → firstRefusal gs ≡ Is.Open
   rest-of-open e = sym (rest-of-holds (first-of-open e)) ∙ e
 
@@ -98,12 +98,12 @@ module _ (within : Bool) (f : ℕ) (t : Table) (n : ℕ) where
   room-of-call e = leb-true (96 * f) n (first-of-open _ _ (rest-of-open _ _ (rest-of-open _ _ e)))
 
 module _ (f : ℕ) (t : Table) (n : ℕ) where
-  -- with a reader within its bounds it is also the other way round
+  -- with a reader within its bounds, a table within its limits and a buffer with all frames of the reader the gate is open
   pub call-open-of-room : withinLimits t ≡ true → 96 * f ≤ n → callGate true f t n ≡ Is.Open
   unfolding callGate firstRefusal
   call-open-of-room e h = rw (e, le-leb (96 * f) n h)
 
-  -- with such a reader 23 is for the table
+  -- with a reader within its bounds 23 is for the table
   pub table-of-above-limit : callGate true f t n ≡ Is.Shut No.AboveLimit → withinLimits t ≡ false
   unfolding callGate firstRefusal
   table-of-above-limit = go (withinLimits t) (leb (96 * f) n)
@@ -149,7 +149,7 @@ module _ (f l k : ℕ) where
         leb→le k 33 (T-and-right (leb l f) (leb k 33) c),
       )
 
-  -- so it has at most 64 frames
+  -- a reader within its bounds has at most 64 frames
   pub frames-le : (v : Bool) → v ≡ fitReader f l k → v ≡ true → f ≤ 64
   frames-le v p e = bounds-of-fit (sym p ∙ e) .1
 

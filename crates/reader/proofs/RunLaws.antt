@@ -40,7 +40,7 @@ module _ (t : Table) (n : ℕ) (s : List ℕ) (o : Mem) where
     pub left-on : v ≡ false → length (k .work) ≡ length (m .work) → length (k .key) ≡ 32 → Left t n s o k j
     left-on e a b = record { inside = g .high; room = a ∙ l .room; key = b; run = sym (rw e at (g .run)) ∙ l .run }
 
-    -- an RS ends it
+    -- an RS ends the record
     run-of-ended : v ≡ true → runMem t n o 0 s ≡ record { memory = k; count = j; ended = true }
     run-of-ended e = sym (l .run) ∙ rw e at (g .run)
 

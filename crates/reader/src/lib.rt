@@ -27,9 +27,9 @@ pub struct Reader {
     pub frames: usize,
     // what is known of the open record
     pub progress: Progress,
-    // its root is closed, and fits rule 0
+    // the root of the open record is closed, and fits rule 0
     pub root: bool,
-    // the characters of its open key
+    // the characters of the open key
     pub key: [u8; 32],
     pub tally: Tally,
 }
@@ -252,7 +252,7 @@ impl Reader {
 
     pub const LEVELS: usize = frame::LEVELS;
 
-    // A fresh reader for a table and a buffer, which it leaves. Ruled out: a start that counts the frames of a longer buffer past 64, and
+    // A fresh reader for a table and a buffer, which stay as they are. Ruled out: a start that counts the frames of a longer buffer past 64, and
     // one that hands out frames with a refusal.
     pub fn start<'a>(table: &'a [u8; 7920], work: &'a [u8]) -> Started
         ensures { λ r. ⌜ record { reader = r .reader; answer = r .answer } ≡ startOf (tableIn (now (table .entry))) (now (work .entry)) ⌝ }

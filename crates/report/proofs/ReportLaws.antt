@@ -76,7 +76,7 @@ module _ (t : Table) (w₀ s o₀ : List ℕ) (r : Reader) where
   abbrev most : ℕ
   most = length o₀ / 64
 
-  -- what the whole gives
+  -- what the whole piece gives
   abbrev whole : Reported
   whole = reports most t r w₀ s
 

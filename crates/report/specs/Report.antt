@@ -97,7 +97,7 @@ closing c =
     byAnswer (c .answer) (stops c)
     (λ v. record { reader = c .reader; work = c .work; read = c .count; text = lineOf v; answer = c .answer })
 
--- without room for its line nothing is done
+-- a close, and the line of its verdict in the output; without room for the line nothing is done
 unfoldable pub finishOf : Reader → Table → List ℕ → List ℕ → Report
 finishOf r t w o = inOut o (cond (hasRoom (length o) 0) (closing (closeOf r t w)) (record { reader = r; work = w; read = 0; text = []; answer = Says.Quiet }))
 

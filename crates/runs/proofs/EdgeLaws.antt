@@ -19,7 +19,7 @@ pub data EdgeFrom : ℕ → List Entry → ℕ → Entry → Type 0 where
       → EdgeFrom i (edge r f q k t m ∷ es) e x
   past-end : {i e r q : ℕ} {f : Form} {es : List Entry} {x : Entry} → EdgeFrom i es e x → EdgeFrom i (end-state r f q ∷ es) e x
 
--- its number is not below the first's
+-- the number of an edge is not below the first's
 pub le-of-edge : {i e : ℕ} {es : List Entry} {x : Entry} → EdgeFrom i es e x → i ≤ e
 le-of-edge (this-edge p q) = omega arith
 le-of-edge {i} (past-edge h) = let g = le-of-edge h in omega arith
@@ -33,7 +33,7 @@ edge-unique (past-edge h) (this-edge p q) = let g = le-of-edge h in absurd (omeg
 edge-unique (past-edge h) (past-edge g) = edge-unique h g
 edge-unique (past-end h) (past-end g) = edge-unique h g
 
--- it is an entry of the book
+-- an edge is an entry of the book
 pub member-of-edge : {i e : ℕ} {es : List Entry} {x : Entry} → EdgeFrom i es e x → x ∈ es
 member-of-edge (this-edge p q) = List·Memᴰ·head q
 member-of-edge (past-edge h) = List·Memᴰ·tail (member-of-edge h)
@@ -56,7 +56,7 @@ anyEdge-of-edge p {i} (this-edge {r} {q} {m} {f} {k} {t} {es} a b) h = T-or-left
 anyEdge-of-edge p {i} (past-edge {r} {q} {m} {f} {k} {t} {es} g) h = T-or-right (p i (edge r f q k t m)) (anyEdge p (suc i) es) (anyEdge-of-edge p g h)
 anyEdge-of-edge p (past-end g) h = anyEdge-of-edge p g h
 
--- where some edge passes a test, there is one
+-- where some edge passes a test, there is an edge that passes it
 pub edge-of-anyEdge : (p : ℕ → Entry → Bool) (i : ℕ) (es : List Entry) → T (anyEdge p i es) → (e : ℕ) × (x : Entry) × EdgeFrom i es e x × T (p e x)
 unfolding anyEdge
 edge-of-anyEdge p i [] h = absurd h

@@ -139,7 +139,7 @@ module _ {es : List Entry} (sound : Sound es) where
       valid : FitsInSomeOrder es (Rule 0) v → Valid es v
       valid f = record { root = compound-of-fits f; keys-once = keys-once-of-fits-in-some-order sound f; run = f }
 
-  -- and invalid exactly when it is not
+  -- a text is invalid exactly when its value is judged not to fit rule 0
   pub invalid-iff-judged : (v : Json) → (Valid es v → ⊥) ↔ (meaning (judging es) v (Rule 0) ≡ false)
   invalid-iff-judged v = (λ n. go (meaning (judging es) v (Rule 0)) (λ e. n (valid-iff-judged v .1 e)), λ e g. true≢false (sym (valid-iff-judged v .0 g) ∙ e))
     where

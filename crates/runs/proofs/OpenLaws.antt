@@ -36,7 +36,7 @@ module _ (es : List Entry) where
   pub data FitsAt (c : ℕ) (w : ValueKind → Bool) (e : ℕ) : Type 0 where
     fits-at : {x : Entry} → EdgeFrom 0 es e x → T (hasKey (keysOf es) c x) → T (asks w x) → FitsAt c w e
 
-  -- such an edge is a fitting one
+  -- an edge with the key that asks for one of the kinds is a fitting one
   pub fitsEdge-of-edge : (c : ℕ) (w : ValueKind → Bool) {e : ℕ} {x : Entry} → EdgeFrom 0 es e x → T (hasKey (keysOf es) c x) → T (asks w x)
       → T (fitsEdge es c w e)
   unfolding fitsEdge
@@ -44,7 +44,7 @@ module _ (es : List Entry) where
       anyEdge-of-edge (λ (i : ℕ) (x : Entry). eqb i e && (hasKey (keysOf es) c x && asks w x)) i
       (T-and (eqb e e) (hasKey (keysOf es) c x && asks w x) (eqb-refl e) (T-and (hasKey (keysOf es) c x) (asks w x) h g))
 
-  -- a fitting edge is such an edge
+  -- a fitting edge has the key, and asks for one of the kinds
   pub edge-of-fitsEdge : (c : ℕ) (w : ValueKind → Bool) (e : ℕ) → T (fitsEdge es c w e) → FitsAt c w e
   unfolding fitsEdge
   edge-of-fitsEdge c w e h = go (edge-of-anyEdge test 0 es h)

@@ -8,18 +8,18 @@ use Rattle.runs.specs.Runs.{Insert, in-front, behind, Order, order-word,
 
 -- ---- Insert
 
--- the pair that was put in is there
+-- pairs with one put in have that one
 pub among-of-insert : {k : List ℕ} {v : Json} {ps qs : Pairs} → Insert k v ps qs → Among k v qs
 among-of-insert in-front = first
 among-of-insert (behind i) = later (among-of-insert i)
 
--- the pairs before are there
+-- pairs with one put in have those from before
 pub among-insert : {k l : List ℕ} {v u : Json} {ps qs : Pairs} → Insert k v ps qs → Among l u ps → Among l u qs
 among-insert in-front a = later a
 among-insert (behind i) first = first
 among-insert (behind i) (later a) = later (among-insert i a)
 
--- nothing else is there
+-- pairs with one put in have no others than that one and those from before
 pub among-cases : {k l : List ℕ} {v u : Json} {ps qs : Pairs} → Insert k v ps qs → Among l u qs → ((k ≡ l) × (v ≡ u)) ⊎ Among l u ps
 among-cases in-front first = inl (refl, refl)
 among-cases in-front (later a) = inr a
@@ -77,7 +77,7 @@ order-insert (behind i) p (order-pairs o os j) = order-pairs o (order-insert i p
 -- ---- Order
 
 mutual
-  -- the order that a text has is one
+  -- a value is an order of itself
   pub order-refl : (v : Json) → Order v v
   order-refl (word x) = order-word
   order-refl (string cs) = order-string
@@ -125,7 +125,7 @@ order-take (behind j) (order-pairs o os i) =
     (w, xs, p, order-pairs o os′ b, c)
 
 mutual
-  -- an order of an order is one
+  -- an order of an order of a value is an order of the value
   pub order-trans : {u v w : Json} → Order u v → Order v w → Order u w
   order-trans order-word o = o
   order-trans order-string o = o

@@ -75,7 +75,7 @@ module _ {es : List Entry} (sound : Sound es) where
   pub keys-once-of-fits : {v : Json} {t : ValueKind} → Fits es t v → KeysOnce v
   keys-once-of-fits f ps h d = let (u, g) = fits-of-within h f in keys-once-of-fits-object g d
 
-  -- nor in a value that fits in some order of its pairs
+  -- no object in a value that fits in some order of its pairs has a key twice
   pub keys-once-of-fits-in-some-order : {v : Json} {t : ValueKind} → FitsInSomeOrder es t v → KeysOnce v
   keys-once-of-fits-in-some-order (in-order o f) = keys-once-of-order o (keys-once-of-fits f)
 

@@ -32,12 +32,12 @@ module _ (es : List Entry) where
   pub data EndIn (f : Form) (S : States) (n : ℕ) : Type 0 where
     end-in : {q : ℕ} → end-state n f q ∈ es → T (S n q) → EndIn f S n
 
-  -- it ends the run
+  -- an end state among the states ends the run
   pub hasEnd-of-end : {f : Form} (S : States) {n q : ℕ} → end-state n f q ∈ es → T (S n q) → T (hasEnd es f S n)
   unfolding hasEnd endsIn
   hasEnd-of-end {f} S {n} {q} i h = any-of-member (endsIn f S n) i (T-and (sameForm f f) (eqb n n && S n q) (sameForm-refl f) (T-and (eqb n n) (S n q) (eqb-refl n) h))
 
-  -- where a rule has ended, there is one
+  -- where a rule has ended, there is an end state among the states
   pub end-of-hasEnd : (f : Form) (S : States) (n : ℕ) → T (hasEnd es f S n) → EndIn f S n
   unfolding hasEnd endsIn
   end-of-hasEnd f S n h = let (x, i, g) = member-of-any (endsIn f S n) es h in go x i g
@@ -57,7 +57,7 @@ module _ (es : List Entry) where
   unfolding startOf isOf
   start-of-end {f} {n} i = T-and (eqb 0 0) (any (isOf f n) es) (eqb-refl 0) (any-of-member (isOf f n) i (T-and (sameForm f f) (eqb n n) (sameForm-refl f) (eqb-refl n)))
 
-  -- and so does one with an edge
+  -- a rule with an edge of its form starts in state 0
   pub start-of-edge : {f : Form} {n q m : ℕ} {k : List ℕ} {t : ValueKind} → edge n f q k t m ∈ es → T (startOf es f n 0)
   unfolding startOf isOf
   start-of-edge {f} {n} i = T-and (eqb 0 0) (any (isOf f n) es) (eqb-refl 0) (any-of-member (isOf f n) i (T-and (sameForm f f) (eqb n n) (sameForm-refl f) (eqb-refl n)))
@@ -73,7 +73,7 @@ module _ (es : List Entry) where
   pub data MoveTo (p : ℕ → Entry → Bool) (S : States) (n m : ℕ) : Type 0 where
     move-to : {e q : ℕ} {f : Form} {k : List ℕ} {t : ValueKind} → EdgeFrom 0 es e (edge n f q k t m) → T (S n q) → T (p e (edge n f q k t m)) → MoveTo p S n m
 
-  -- it leads to its next state
+  -- an edge that passes the test, from one of the states, leads to its next state
   pub moved-of-edge : (p : ℕ → Entry → Bool) (S : States) {e n q m : ℕ} {f : Form} {k : List ℕ} {t : ValueKind} → EdgeFrom 0 es e (edge n f q k t m)
       → T (S n q) → T (p e (edge n f q k t m)) → T (moved es p S n m)
   unfolding moved leads
@@ -81,7 +81,7 @@ module _ (es : List Entry) where
       anyEdge-of-edge (λ (e : ℕ) (x : Entry). leads S n m x && p e x) i
       (T-and (eqb n n && (eqb m m && S n q)) (p e (edge n f q k t m)) (T-and (eqb n n) (eqb m m && S n q) (eqb-refl n) (T-and (eqb m m) (S n q) (eqb-refl m) h)) g)
 
-  -- to each state after a move such an edge leads
+  -- to each state after a move an edge that passes the test leads, from one of the states
   pub edge-of-moved : (p : ℕ → Entry → Bool) (S : States) (n m : ℕ) → T (moved es p S n m) → MoveTo p S n m
   unfolding moved leads
   edge-of-moved p S n m h = let (e, x, i, g) = edge-of-anyEdge (λ (e : ℕ) (x : Entry). leads S n m x && p e x) 0 es h in go e x i g
@@ -102,13 +102,13 @@ module _ (es : List Entry) where
   pub data ElementMove (S : States) (w : ValueKind → Bool) (n m : ℕ) : Type 0 where
     element-move : {q : ℕ} {k : List ℕ} {t : ValueKind} → edge n arr q k t m ∈ es → T (S n q) → T (w t) → ElementMove S w n m
 
-  -- it leads to its next state
+  -- an edge of an `arr` rule that a value fits, from one of the states, leads to its next state
   pub afterElement-of-edge : (S : States) (w : ValueKind → Bool) {n q m : ℕ} {k : List ℕ} {t : ValueKind} → edge n arr q k t m ∈ es → T (S n q)
       → T (w t) → T (afterElement es S w n m)
   unfolding afterElement ofArray asks
   afterElement-of-edge S w i h g = let (e, j) = edge-of-member 0 i in moved-of-edge (λ (e : ℕ) (x : Entry). ofArray x && asks w x) S j h g
 
-  -- to each state after an element such an edge leads
+  -- to each state after an element an edge leads that the element fits, from one of the states
   pub edge-of-afterElement : (S : States) (w : ValueKind → Bool) (n m : ℕ) → T (afterElement es S w n m) → ElementMove S w n m
   unfolding afterElement ofArray asks
   edge-of-afterElement S w n m h = go (edge-of-moved (λ (e : ℕ) (x : Entry). ofArray x && asks w x) S n m h)

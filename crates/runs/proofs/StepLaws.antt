@@ -51,7 +51,7 @@ module _ (es : List Entry) where
   unfolding useKey
   useKey-unseen o c S e = rw e
 
-  -- nor does a walk go on after the last key that was seen
+  -- a walk changes nothing after the last key that was seen
   pub walk-more : (o : OpenObject) (i n m : ℕ) (S : States) → ((c : ℕ) → i + n ≤ c → o .seen c ≡ false) → walk es o i (n + m) S ≡ walk es o i n S
   walk-more o i n zero S h = ap (λ (c : ℕ). walk es o i c S) (add-zero n)
   walk-more o i n (suc m) S h =

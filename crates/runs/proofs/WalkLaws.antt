@@ -84,7 +84,7 @@ module _ (es : List Entry) (o : OpenObject) where
     once : KeyTwice ps → ⊥
     takes : {e r q m : ℕ} {k : List ℕ} {t : ValueKind} → EdgeFrom 0 es e (edge r obj q k t m) → T (o .fitting e) → i ≤ numberIn es k → Taking k t ps
 
-  -- the same after a key that was not seen
+  -- what the walk needs to know stays known after a key that was not seen
   toRun-unseen : {i : ℕ} {ps : Pairs} → LeftToRun i ps → LeftToRun (suc i) ps
   toRun-unseen {i} l = record {
     good = λ {k} {v} a. l .good a;
@@ -93,7 +93,7 @@ module _ (es : List Entry) (o : OpenObject) where
     takes = λ {e} {r} {q} {m} {k} {t} j f h. l .takes j f (omega arith);
   }
 
-  -- the same where the pair with key i is taken out
+  -- what the walk needs to know stays known where the pair with key i is taken out
   toRun-taken : {i : ℕ} {k : List ℕ} {v : Json} {ps qs : Pairs} → Insert k v ps qs → numberIn es k ≡ i → LeftToRun i qs → LeftToRun (suc i) ps
   toRun-taken {i} {k} {v} {ps} {qs} j e l = record {
     good = λ {k = x} {v = u} a. l .good (among-insert j a);
@@ -214,7 +214,7 @@ pub data AllJudged (es : List Entry) : Pairs → Type 0 where
   judged-none : AllJudged es no-pairs
   judged-pair : {k : List ℕ} {v : Json} {ps : Pairs} → Evaluated es v → AllJudged es ps → AllJudged es (pairs k v ps)
 
--- each of them by itself
+-- where each value of some pairs is judged as it fits, the value of any one of the pairs is
 judged-of-among : {es : List Entry} {k : List ℕ} {v : Json} {ps : Pairs} → AllJudged es ps → Among k v ps → Evaluated es v
 judged-of-among (judged-pair j js) first = j
 judged-of-among (judged-pair j js) (later a) = judged-of-among js a

@@ -37,25 +37,25 @@ module _ (es : List Entry) where
       fits-str : {cs : List ℕ} → Fits (Plain Str) (string cs)
       -- `num` fits any number
       fits-num : {ds : List ℕ} → Fits (Plain Num) (number ds)
-      -- `int` a number written without fraction or exponent part
+      -- `int` fits a number written without fraction or exponent part
       fits-int : {ds : List ℕ} → T (isInteger ds) → Fits (Plain Int) (number ds)
-      -- `rN` an object or array with an accepting run of rule N, which begins in state 0
+      -- `rN` fits an object or array with an accepting run of rule N, which begins in state 0
       fits-array : {r : ℕ} {vs : Values} → ArrayRun r 0 vs → Fits (Rule r) (array vs)
       fits-object : {r : ℕ} {ps : Pairs} → ObjectRun r 0 ps → Fits (Rule r) (object ps)
 
     -- an accepting run of an `arr` rule, from a state on, over the elements that are left
     pub data ArrayRun : ℕ → ℕ → Values → Type 0 where
-      -- it accepts in an end state
+      -- the run accepts in an end state
       array-end : {r q : ℕ} → end-state r arr q ∈ es → ArrayRun r q no-values
-      -- it takes one edge for each element
+      -- the run takes one edge for each element
       array-edge : {r q m : ℕ} {k : List ℕ} {t : ValueKind} {v : Json} {vs : Values} → edge r arr q k t m ∈ es → Fits t v → ArrayRun r m vs
           → ArrayRun r q (values v vs)
 
     -- an accepting run of an `obj` rule, from a state on, over the pairs that are left
     pub data ObjectRun : ℕ → ℕ → Pairs → Type 0 where
-      -- it accepts in an end state
+      -- the run accepts in an end state
       object-end : {r q : ℕ} → end-state r obj q ∈ es → ObjectRun r q no-pairs
-      -- it takes one edge for each pair, and the pair needs the edge's key too
+      -- the run takes one edge for each pair, and the pair needs the edge's key too
       object-edge : {r q m : ℕ} {k : List ℕ} {t : ValueKind} {v : Json} {ps : Pairs} → edge r obj q k t m ∈ es → Fits t v → ObjectRun r m ps
           → ObjectRun r q (pairs k v ps)
 

@@ -74,7 +74,7 @@ empty-in-place l e = ap tableIn e
 
 -- ---- one key more
 
--- bytes written into one part leave the others
+-- bytes written into one part leave the other parts
 written-slot : (l : List ℕ) (k i : ℕ) (bs : List ℕ) → i + length bs ≤ slotSize k
     → (j : ℕ) → slots (written l (slotStart k + i) bs) j ≡ cond (eqb j k) (written (slots l j) i bs) (slots l j)
 unfolding written
@@ -156,7 +156,7 @@ pub sameAt-read : (t : Table) (c : Cell) (e r q k v m : ℕ) (b : Bool) → r �
 unfolding sameAt
 sameAt-read t c e r q k v m b x0 x1 x2 x3 x4 y = y ∙ rw (x0, x1, x2, x3, x4)
 
--- a rule past the forms has none
+-- a rule past the forms has no form
 pub forms-past : (l : List ℕ) (r : ℕ) → 32 ≤ r → 0 ≡ getD (tableIn l .forms) r 0
 unfolding tableIn part
 forms-past l r h = sym (List·getD-eq-default (take 32 (drop 7888 l)) 0 (omega (arith, length-take 32 (drop 7888 l))))

@@ -97,7 +97,7 @@ module _ (l : Line) (k : List ℕ) where
     pub proper-len : Proper (entryWith l k) → length k ≤ 32
     proper-len p = proper-edge p .len
 
-    -- the code of its kind is a byte
+    -- the code of the edge's kind is a byte
     pub proper-code : (c : ℕ) → c ≡ codeOf v → Proper (entryWith l k) → c < 256
     proper-code c q p = let h = proper-edge p .kind in omega arith
 

@@ -30,7 +30,7 @@ abbrev pub Proper : Entry → Type 0
 Proper (edge r f q k v m) = ProperEdge r f q k v m
 Proper (end-state r f q) = (r < 32) × (q < 16)
 
--- a line that is taken says such an entry
+-- a line that is taken says an entry within the limits of its fields
 abbrev pub ProperSaid : Said → Type 0
 ProperSaid (bad k) = Unit {0}
 ProperSaid (good e) = Proper e

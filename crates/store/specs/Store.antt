@@ -128,6 +128,6 @@ unfoldable pub tableFrom : ℕ → Table → List Entry → Table
 tableFrom n t [] = t
 tableFrom n t (e ∷ es) = tableFrom (suc n) (takeEntry n t e .table) es
 
--- the table of a book: its entries begin on line 2. That of no entries is the empty table
+-- the table of a book: its entries begin on line 2. Without entries it is the empty table
 unfoldable pub tableOf : List Entry → Table
 tableOf es = tableFrom 2 emptyTable es

@@ -31,12 +31,12 @@ use Rattle.stream.proofs.ByteLaws.{Within, within-of-piece}
 
 -- ---- a call that is not refused
 
--- what it does
+-- what a call that is not refused does
 abbrev pub reading : Reader → Call → Outcome
 reading r (feed t w s) = feeding r t w s
 reading r (close t w) = closing r w
 
--- and on paper
+-- what a call that is not refused does on paper
 abbrev pub saying : Judge → Paper → Call → Said
 saying J p (feed t w s) = goes J p 0 s
 saying J p (close t w) = ends J p
@@ -125,7 +125,7 @@ pub record Accepted (n : ℕ) (r : Reader) (c : Call) : Type 0 where
   pub says-is : (J : Judge) (p : Paper) → says J n p c ≡ saying J p c
   pub long : 96 * n ≤ length (buffer c)
 
--- where it refuses, so does the machine, and both stay as they were
+-- where the paper refuses a call, so does the machine, and both stay as they were
 pub record Refused (n : ℕ) (r : Reader) (c : Call) : Type 0 where
   pub refusal : Refusal
   pub refused : run r c .answer ≡ Says.Refused refusal
@@ -182,7 +182,7 @@ module _ (n : ℕ) (least : 1 ≤ n) (most : n ≤ 64) where
     pub accepted-of-true : accepted n c ≡ true → Accepted n r c
     accepted-of-true e = accepted-of-open (open-of-isOpen gate e)
 
-    -- a call that it refuses
+    -- a call that the paper refuses
     pub refused-of-false : accepted n c ≡ false → Refused n r c
     refused-of-false e = let (k, o) = shut-of-not-isOpen gate e in refused-of-shut k o
 
@@ -224,7 +224,7 @@ pub record Begun (n : ℕ) (r : Reader) : Type 0 where
   pub most : n ≤ 64
   pub fresh : Fresh n r
 
--- an accepted start gives such a reader, with the frames of its buffer
+-- an accepted start gives a reader that may begin, with the frames of its buffer
 pub begun-of-start : (t : Table) (w : List ℕ) → startOf t w .answer ≡ Says.Quiet → Begun (frameCount (length w)) (startOf t w .reader)
 unfolding startOf
 begun-of-start t w =

@@ -79,11 +79,11 @@ module _ {Book : Table → List Entry → Type 0} {Tracks : (es : List Entry) �
     pub book-of-stream : (t : Table) × Book t es
     book-of-stream = book-of-hands nothing r cs s (x .fair) (x .hands)
 
-    -- its book is accepted, so its parts have a judge
+    -- the book of a stream is accepted, so that the stream's parts have a judge
     pub sound-of-stream : Sound es
     sound-of-stream = facts .sound (book-of-stream .1)
 
-    -- and its verdicts are those of its bytes
+    -- the verdicts of a stream are those of its bytes
     pub verdicts-of-stream : verdictsIn (answers r cs) ≡ verdictsOf (judgeOf es n) s
     verdicts-of-stream = verdicts-of-bytes (judgeOf es n) (judges-exist sound-of-stream n) r cs s (x .fresh) (x .fair) (x .hands)
 
@@ -101,7 +101,7 @@ module _ {Book : Table → List Entry → Type 0} {Tracks : (es : List Entry) �
       let e : J false p ≡ _ = judged-unique (judges-exist (sound-of-stream x) n .part p) j in
       verdicts-of-stream x ∙ rw (verdictsOf-append J a (p ++ (0x1E ∷ z)), verdictsBehind-append J p z, verdictsBehind-of-record J p full plain, e)
 
-  -- here a close ends it
+  -- a last record p, which a close ends, has the verdict that it has alone, whatever the bytes a before its RS
   pub last-record-alone : {r : Reader} {cs : List Call} {v : Verdict} (a p : List ℕ) → nonempty p ≡ true → noRS p ≡ true → Judged es n p v
       → StreamOf Book es n r cs (a ++ (0x1E ∷ p)) → verdictsIn (answers r cs) ≡ verdictsOf (judgeOf es n) a ++ (v ∷ [])
   last-record-alone a p full plain j x =

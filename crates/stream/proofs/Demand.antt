@@ -97,7 +97,7 @@ module _ {Book : Table → List Entry → Type 0} {Tracks : (es : List Entry) �
           fair = f .2;
         }
 
-    -- after a call that it refuses the stream is fair from the same reader on
+    -- after a call that the paper refuses the stream is fair from the same reader on
     pub fair-of-refused : accepted n c ≡ false → Fair Book es n k r cs
     unfolding Fair
     fair-of-refused e =
@@ -127,7 +127,7 @@ module _ {Book : Table → List Entry → Type 0} {Tracks : (es : List Entry) �
   answers-of-stands [] k r p g s f = refl
   answers-of-stands (c ∷ cs) k r p g s f = answers-of-call c cs k r p g s f (λ k r p g s f. answers-of-stands cs k r p g s f) (accepted n c) refl
 
-  -- and so from a fresh reader on
+  -- the calls of a fair stream are answered as on paper from a fresh reader on
   pub answers-of-fair : (cs : List Call) (r : Reader) → Fresh n r → Fair Book es n nothing r cs → answers r cs ≡ told J n opening cs
   answers-of-fair cs r f fair = answers-of-stands cs nothing r opening (good-of-fresh n r f) (f, refl) fair
 

@@ -39,7 +39,7 @@ use Rattle.stream.proofs.ByteLaws.{Within, endsRecord-of-byte, within-o
 abbrev pub gateOf : Reader → Table → List ℕ → Gate
 gateOf r t w = callGate (withinReader r) (r .frames) t (length w)
 
--- what an open one tells of the reader
+-- what an open gate of a feed tells of the reader
 pub bounds-of-open : (r : Reader) (t : Table) (w : List ℕ) → gateOf r t w ≡ Is.Open
     → (1 ≤ r .frames) × (r .frames ≤ 64) × (levelOf r ≤ r .frames) × (r .progress .len ≤ 33)
 bounds-of-open r t w e = bounds-of-fit (r .frames) (levelOf r) (r .progress .len) (reader-of-call (withinReader r) (r .frames) t (length w) e)
@@ -58,7 +58,7 @@ feedOf-of-shut r t w s k e = rw e
 abbrev pub stepAt : Reader → List ℕ → ℕ → Step
 stepAt r w b = stepOf (modeOf r) (topAt w (levelOf r)) b
 
--- what is known of the record after it, and what is to be done at it
+-- what is known of the record after a sound byte, and what is to be done at the byte
 abbrev pub movedBy : Reader → ℕ → Step → Progress
 movedBy r b st =
     moved (r .progress) b (st .mode) (levelAfter (st .act) (levelOf r) (r .frames))
@@ -68,7 +68,7 @@ abbrev pub taskBy : Reader → ℕ → Step → Task
 taskBy r b st =
     taskOf (st .act) (st .ends) (modeOf r) (r .progress .len) (charIn (modeOf r) (r .progress .bits) (r .progress .high) b)
 
--- the outcome where that is done
+-- the outcome of a sound byte, where what is to be done at it is done
 abbrev pub done : Reader → Table → List ℕ → ℕ → Step → Outcome
 done r t w b st = going r (perform (taskBy r b st) t (memoryOf r w) (movedBy r b st)) 1
 
@@ -202,7 +202,7 @@ module _ (r : Reader) (t : Table) (w : List ℕ) where
     abbrev reached : Outcome
     reached = going r (stepMem t (r .frames) (memoryOf r w) b) 1
 
-    -- is let in again
+    -- the reader after a byte that ends no record is let in again
     open-again : gateOf r t w ≡ Is.Open → gateOf (reached .reader) t (reached .work) ≡ Is.Open
     open-again g =
         let f = bounds-of-open r t w g in
@@ -213,7 +213,7 @@ module _ (r : Reader) (t : Table) (w : List ℕ) where
         rw (length-stepMem t (r .frames) (memoryOf r w) b, sym (fit-all (r .frames) l k (f .0) (f .1) (i .level)) ∙ le-leb k 33 (i .len))
         (rw (reader-of-call (withinReader r) (r .frames) t (length w) g) at g)
 
-    -- what is read after it, counted from the first byte on
+    -- a run after the first byte, counted from that byte on, has the outcome of the byte and then of the rest
     goes-on : (e : Ran) → outcome r (later 1 e) ≡ thenFed Says.Quiet reached (outcome r e)
     goes-on e = go (e .ended)
       where

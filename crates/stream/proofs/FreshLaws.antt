@@ -30,14 +30,14 @@ module _ (t : Table) (n : ℕ) where
   le-count-of-run m j (b ∷ s) =
       cond-elim (λ (e : Ran). j ≤ e .count) (endsRecord (m .progress) b) (λ _. omega arith) (λ _. omega (arith, le-count-of-run (stepMem t n m b) (j + 1) s))
 
-  -- where there is a byte it reads one
+  -- a run reads one byte at least where there is one
   lt-count-of-byte : (m : Mem) (j b : ℕ) (s : List ℕ) → j + 1 ≤ runMem t n m j (b ∷ s) .count
   unfolding runMem
   lt-count-of-byte m j b s = cond-elim (λ (e : Ran). j + 1 ≤ e .count) (endsRecord (m .progress) b) (λ _. omega arith) (λ _. le-count-of-run (stepMem t n m b) (j + 1) s)
 
   -- ---- a run whose last byte is an RS
 
-  -- it ended a record, or its memory is fresh
+  -- a run ended a record, or its memory is fresh
   abbrev FreshRun : Ran → Type 0
   FreshRun e = e .ended ≡ false → e .memory ≡ freshMem false (e .memory .work)
 
@@ -48,7 +48,7 @@ module _ (t : Table) (n : ℕ) where
   fresh-of-one m j b [] e h = λ _. rw (fresh-of-RS t n m b e)
   fresh-of-one m j b (c ∷ s) e h = absurd (omega (arith, lt-count-of-byte (stepMem t n m b) (j + 1) c s))
 
-  -- it is read after i bytes; the run counts from j
+  -- the RS is read after i bytes; the run counts from j
   fresh-of-run : (m : Mem) (j i : ℕ) (s : List ℕ) → getD s i 0 ≡ 0x1E → runMem t n m j s .count ≡ j + (i + 1) → FreshRun (runMem t n m j s)
   unfolding runMem
   fresh-of-run m j i [] e = λ h. absurd (omega arith)

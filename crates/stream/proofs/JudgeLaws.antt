@@ -17,11 +17,11 @@ abbrev pub judgeOf : List Entry → ℕ → Judge
 judgeOf es n true p = Is.Head
 judgeOf es n false p = trackEnd es (track es n (trackStart es) p)
 
--- it gives each part its verdict
+-- the judge that goes through a part byte by byte gives each part its verdict
 pub judges-exist : {es : List Entry} → Sound es → (n : ℕ) → Judges es n (judgeOf es n)
 judges-exist sound-book n = record { head = λ p. refl; part = λ p. judged-of-track sound-book n p }
 
--- two such judges give the same, whatever the book
+-- two judges that give each part its verdict give the same, whatever the book
 pub judges-unique : {es : List Entry} {n : ℕ} (J K : Judge) → Judges es n J → Judges es n K → (head : Bool) (p : List ℕ) → J head p ≡ K head p
 judges-unique J K j k true p = j .head p ∙ sym (k .head p)
 judges-unique J K j k false p = judged-unique (j .part p) (k .part p)

@@ -81,7 +81,7 @@ module _ (r : Reader) (t : Table) (w : List ℕ) (b : ℕ) where
   pub byte-writes : ByteWrites r t w b (byteFed r t w b)
   byte-writes = ⊎-elim byte-of-idle byte-of-sound (ways-of-byte r t w b)
 
-  -- nothing past the frames
+  -- a byte writes nothing past the frames
   byte-past : Spares (λ i. 96 * r .frames ≤ i) w (byteFed r t w b .work)
   byte-past =
       ⊎-elim (λ i. spares-all _ w _ (i .work))
@@ -91,7 +91,7 @@ module _ (r : Reader) (t : Table) (w : List ℕ) (b : ℕ) where
       spares-fewer (λ i h. (inr (omega arith), inr (omega arith), inr (omega arith))) (byte-writes .reaches))
       (ways-of-byte r t w b)
 
-  -- nothing in the frame of a level that is open neither before it nor after it
+  -- a byte writes nothing in the frame of a level that is open neither before it nor after it
   byte-unopened : (l : ℕ) → levelOf r < l → levelOf (byteFed r t w b .reader) < l → frameAt (byteFed r t w b .work) l ≡ frameAt w l
   byte-unopened l h k =
       frameAt-of-spares _ w (byteFed r t w b .work) l (λ i g. (inr (omega arith), inr (omega arith), inr (omega arith))) (byte-writes .reaches)
@@ -146,7 +146,7 @@ close-leaves r t w =
     through-elim (λ (o : Outcome). o .work ≡ w) (gateOf r t w) (λ k _. refl)
     (λ _. cond-elim (λ (o : Outcome). o .work ≡ w) (ltb 0 (r .progress .pos)) (λ _. refl) (λ _. refl))
 
--- ---- all of it
+-- ---- all that is said of the lent bytes
 
 pub lent : Lent
 lent =

@@ -83,7 +83,7 @@ pub record Tells (b : ℕ) (st : Step) : Type 0 where
   pub opens : OpensBy (st .act) b
   pub leaves : LeavesIn (inToken (st .mode)) st
 
--- between tokens it ends none
+-- a step between tokens ends no number and finishes no key, string or word
 pub record Placed (b : ℕ) (st : Step) : Type 0 where
   pub tells : Tells b st
   pub ends : st .ends ≡ false

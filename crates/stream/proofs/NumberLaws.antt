@@ -56,7 +56,7 @@ topAt-withValue t w l v =
     ))
 
 module _ (r : Reader) (t : Table) (w : List ℕ) (b : ℕ) (n : NumberMode) where
-  -- the reader in the number and after it, and the buffer where it is finished
+  -- the reader in the number and after it, and the buffer where the number is finished
   abbrev inside : Reader
   inside = inMode (M.Number n) r
 
@@ -106,7 +106,7 @@ module _ (r : Reader) (t : Table) (w : List ℕ) (b : ℕ) (n : NumberMode) wher
         fed-of-sound inside t w b s ∙ ap (done inside t w b) step-inside ∙ alike-afterValue (topAt w (levelOf r)) no-fault
         ∙ sym (fed-of-sound behind t finished b sound-behind ∙ ap (done behind t finished b) step-behind)
 
--- the same of any reader in a number
+-- a byte that ends a number, fed to a reader in the number, does what it does after the number, in the buffer where the number is finished
 pub fed-of-number-end : (r : Reader) (t : Table) (w : List ℕ) (b : ℕ) → IsSound r t w b → (n : NumberMode) → modeOf r ≡ M.Number n
     → inToken (modeOf (byteFed r t w b .reader)) ≡ false
     → byteFed r t w b ≡ byteFed (inMode (M.At P.After) r) t (withValue t w (levelOf r) (Done.Scalar (kindSoFar n))) b

@@ -24,7 +24,7 @@ use Rattle.stream.proofs.ByteLaws.{moves-of-byte, bump-pos, endsRecord-
 pub record InHead (m : Mem) : Type 0 where
   pub head : m .progress .head ≡ true
 
--- after an RS they move the track
+-- after an RS the memory follows the track of the part
 pub record InRecord (es : List Entry) (Along : Mem → Track es → Type 0) (n : ℕ) (m : Mem) (part : List ℕ) : Type 0 where
   pub head : m .progress .head ≡ false
   pub tracks : Along m (track es n (trackStart es) part)
@@ -41,11 +41,11 @@ pub record Follows (es : List Entry) (Along : Mem → Track es → Type 0) (n : 
 
 -- ---- what a piece gives
 
--- the answer to it
+-- the answer to a piece
 abbrev pub heard : Ran → Answer
 heard e = cond (e .ended) (Says.Judged (judged (e .memory .progress) (e .memory .root))) Says.Quiet
 
--- the memory after it
+-- the memory after a piece
 abbrev pub memoryAfter : Ran → Mem
 memoryAfter e = cond (e .ended) (freshMem false (e .memory .work)) (e .memory)
 

@@ -64,13 +64,13 @@ module _ (J : Judge) where
       rw (cutAtRS-append a s, givenAll-append (cutAtRS a .behind) (cutAtRS s .first ∷ cutAtRS s .behind), givenAll-cutAtRS s)
       (given-append true (cutAtRS a .first) (givenAll J (cutAtRS a .behind)) (verdictsBehind J s))
 
-  -- the same of bytes that stand after an RS themselves
+  -- bytes after an RS: the verdicts before a further RS, then those after it
   pub verdictsBehind-append : (a s : List ℕ) → verdictsBehind J (a ++ (0x1E ∷ s)) ≡ verdictsBehind J a ++ verdictsBehind J s
   verdictsBehind-append a s =
       rw (cutAtRS-append a s, givenAll-append (cutAtRS a .behind) (cutAtRS s .first ∷ cutAtRS s .behind), givenAll-cutAtRS s)
       (given-append false (cutAtRS a .first) (givenAll J (cutAtRS a .behind)) (verdictsBehind J s))
 
--- a record after an RS
+-- bytes without RS are one part
 cutAtRS-of-noRS : (p : List ℕ) → noRS p ≡ true → cutAtRS p ≡ record { first = p; behind = [] }
 unfolding cutAtRS all
 cutAtRS-of-noRS [] h = refl
@@ -81,7 +81,7 @@ cutAtRS-of-noRS (b ∷ p) h = go (λ g. cutAtRS-of-noRS p g) (eqb b 0x1E) refl h
     go rest true e h = true-neq-false (sym h)
     go rest false e h = rw (e, rest h)
 
--- has one verdict
+-- a record after an RS has one verdict
 pub verdictsBehind-of-record : (J : Judge) (p : List ℕ) → nonempty p ≡ true → noRS p ≡ true → verdictsBehind J p ≡ J false p ∷ []
 unfolding givenAll
 verdictsBehind-of-record J p e h = rw (cutAtRS-of-noRS p h, e)
@@ -132,7 +132,7 @@ module _ (J : Judge) where
   unfolding givenAll
   from-RS p b s e = rw (cutAtRS-of-RS b s e, append-nil (p .part))
 
-  -- a close too
+  -- a close gives the part its verdict, where it has one
   pub from-close : (p : Paper) → verdictsFrom p [] ≡ andThen (ends J p .answer) []
   unfolding cutAtRS givenAll
   from-close p = rw (append-nil (p .part)) (go (nonempty (p .part)))

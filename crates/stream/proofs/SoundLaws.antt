@@ -44,7 +44,7 @@ use Rattle.stream.proofs.SpareLaws.{spares-fewer, spares-perform, beyon
 
 -- ---- a record without a fault, out of the head
 
--- its verdict is none for a fault
+-- a record without a fault, out of the head, has no verdict for a fault
 whole-not-faulty : (x : Progress) (root : Bool) → isFaulty (whole x root) ≡ false
 unfolding whole wholeNumber
 whole-not-faulty x root = cond-elim (λ (v : Verdict). isFaulty v ≡ false) (eqb (x .level) 0) (λ _. go (x .mode)) (λ _. refl)
@@ -66,7 +66,7 @@ judged-not-faulty x root h f =
     subst (λ (v : Bool). isFaulty (cond v Is.Head (verdictBy (x .fault) x root)) ≡ false) (sym h)
     (subst (λ (v : Fault). isFaulty (verdictBy v x root) ≡ false) (sym f) (whole-not-faulty x root))
 
--- so a close says none
+-- a close tells of no fault where the record has none and is not the head
 pub not-faulty : (r : Reader) (t : Table) (w : List ℕ) → r .progress .head ≡ false → r .progress .fault ≡ F.Sound → faultyIn r t w ≡ false
 unfolding closeOf closing
 not-faulty r t w h f =
@@ -104,7 +104,7 @@ module _ (r : Reader) (t : Table) (w : List ℕ) (b : ℕ) (s : IsSound r t w b)
   told : Told task b (levelOf r) (next .level) (step .ends)
   told = told-of-act b (levelOf r) (r .frames) (modeOf r) (r .progress .len) _ (step .act) (step .ends) (s .first) (tells .opens)
 
-  -- there is a frame for each level that is open after it
+  -- there is a frame for each level that is open after a sound byte
   pub level-le : levelOf (o .reader) ≤ r .frames
   level-le = rw level-fed (levelAfter-le (step .act) (levelOf r) (r .frames) (bounds-of-open r t w (s .gate) .2))
 
@@ -113,11 +113,11 @@ module _ (r : Reader) (t : Table) (w : List ℕ) (b : ℕ) (s : IsSound r t w b)
       let g = bounds-of-open r t w (s .gate) in
       hasFrame-of-le (r .frames) (length w) l (g .1) (room-of-call (withinReader r) (r .frames) t (length w) (s .gate)) h (rw q at level-le)
 
-  -- where it opens a level, all bytes of the frame
+  -- a sound byte that opens a level writes all bytes of its frame
   pub sound-opens : levelOf (o .reader) ≡ levelOf r + 1 → o .work ≡ putFrame w (levelOf r + 1) (opened (t .forms) (eqb b 0x7B))
   sound-opens q = work-fed r t w b s ∙ opens-of-task t (memoryOf r w) next b (step .ends) task told (sym level-fed ∙ q)
 
-  -- where it closes one, the value that it stands in
+  -- a sound byte that closes a value finishes it in the value that it stands in
   pub sound-closes : inToken (modeOf r) ≡ false → levelOf r ≡ levelOf (o .reader) + 1
       → o .work ≡ withValue t w (levelOf (o .reader)) (Done.Rules (rulesOf t w (levelOf r)))
   sound-closes m q =
@@ -127,7 +127,7 @@ module _ (r : Reader) (t : Table) (w : List ℕ) (b : ℕ) (s : IsSound r t w b)
       ∙ closes-of-task t (memoryOf r w) next b (step .ends) task told f (q ∙ ap (λ (x : ℕ). x + 1) level-fed)
       ∙ ap (λ (x : ℕ). withValue t w x (Done.Rules (rulesOf t w (levelOf r)))) below
 
-  -- where it does neither between tokens, nothing
+  -- a sound byte between tokens that neither opens nor closes a level writes nothing
   pub sound-between : inToken (modeOf r) ≡ false → levelOf (o .reader) ≡ levelOf r → o .work ≡ w
   sound-between m q =
       let p = placed-stepOf b (modeOf r) (topAt w (levelOf r)) m in
@@ -137,12 +137,12 @@ module _ (r : Reader) (t : Table) (w : List ℕ) (b : ℕ) (s : IsSound r t w b)
   mode-fed : inToken (step .mode) ≡ inToken (modeOf (o .reader))
   mode-fed = ap (λ (x : Progress). inToken (x .mode)) (sym (progress-fed r t w b s))
 
-  -- where a token is open after it, nothing
+  -- a sound byte after which a token is open writes nothing
   pub sound-in-token : inToken (modeOf (o .reader)) ≡ true → o .work ≡ w
   sound-in-token e =
       work-fed r t w b s ∙ (rw (mode-fed ∙ e) at (tells .leaves)) (modeOf r) (r .progress .len) _ t (memoryOf r w) next
 
-  -- where it ends a key, a string or a word, that is finished
+  -- a sound byte that ends a key, a string or a word finishes it
   module _ (e : inToken (modeOf (o .reader)) ≡ false) where
     work-of-step : (st : Step) → step ≡ st → o .work ≡ perform (taskBy r b st) t (memoryOf r w) (movedBy r b st) .work
     work-of-step st q = work-fed r t w b s ∙ ap (λ (x : Step). perform (taskBy r b x) t (memoryOf r w) (movedBy r b x) .work) q
@@ -165,7 +165,7 @@ module _ (r : Reader) (t : Table) (w : List ℕ) (b : ℕ) (s : IsSound r t w b)
         work-of-step _ (q ∙ word-ended (wordMove v i b) v i (levelOf r) (r .frames) (rw q at (s .first)) (rw q at (mode-fed ∙ e)))
         ∙ ap (λ (x : Scalar). withValue t w (levelOf r) (Done.Scalar x)) (sym (wordKind-is v))
 
-  -- the record has no fault after it
+  -- the record has no fault after a sound byte
   pub sound-not-faulty : faultyIn (o .reader) t (o .work) ≡ false
   sound-not-faulty =
       let h : o .reader .progress .head ≡ false = ap (λ (x : Progress). x .head) (progress-fed r t w b s) ∙ s .head in

@@ -89,7 +89,7 @@ spares-perform (To.FinishClose s) t m y =
     spares-after (spares-fewer (λ i o. o .0) (spares-withValue t (m .work) (m .progress .level) (Done.Scalar s)))
     (spares-fewer (λ i o. o .1) (spares-withValue t w (m .progress .level - 1) (Done.Rules (rulesAt t w (m .progress .level)))))
 
--- among them are those outside the frames of the level, of the level below and of the level after it
+-- no task writes outside the frames of the level l, of the level below and of the level k after the task
 pub beyond-of-three : (x : Task) (l k i : ℕ) → Outside l i × Outside (l - 1) i × Outside k i → Beyond x l k i
 beyond-of-three To.Idle l k i o = tt
 beyond-of-three To.Begin l k i o = tt

@@ -35,7 +35,7 @@ LevelBy (To.Finish s) l k = k ≡ l
 LevelBy To.Close l k = k ≡ l - 1
 LevelBy (To.FinishClose s) l k = k ≡ l - 1
 
--- what is opened
+-- what a byte opens: `{` an object, any other opening byte an array
 abbrev pub ObjectBy : Task → ℕ → Type 0
 ObjectBy To.Idle b = Unit {0}
 ObjectBy To.Begin b = Unit {0}
@@ -57,7 +57,7 @@ EndsBy (To.Finish s) e = Unit {0}
 EndsBy To.Close e = Unit {0}
 EndsBy (To.FinishClose s) e = e ≡ true
 
--- what it tells at level l, where the level is `next` after it and e says whether the byte b ends a number
+-- what a task tells at level l, where the level is `next` after it and e says whether the byte b ends a number
 pub record Told (k : Task) (b l next : ℕ) (e : Bool) : Type 0 where
   pub level : LevelBy k l next
   pub object : ObjectBy k b

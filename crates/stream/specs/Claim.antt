@@ -22,7 +22,7 @@ abbrev pub run : Reader → Call → Outcome
 run r (feed t w s) = feedOf r t w s
 run r (close t w) = closeOf r t w
 
--- what they answer, and the reader after them
+-- what the calls of a list answer, and the reader after them
 unfoldable pub answers : Reader → List Call → List Heard
 answers r [] = []
 answers r (c ∷ cs) = record { count = run r c .count; answer = run r c .answer } ∷ answers (run r c .reader) cs

@@ -129,7 +129,7 @@ byteFed r t w b = feedOf r t w (b ∷ [])
 abbrev pub EndsToken : ℕ → Outcome → Type 0
 EndsToken b o = (eqb b 0x1E ≡ false) × (inToken (modeOf (o .reader)) ≡ false)
 
--- what it writes, where o is the outcome
+-- what the byte b writes, where o is the outcome
 pub record ByteWrites (r : Reader) (t : Table) (w : List ℕ) (b : ℕ) (o : Outcome) : Type 0 where
   -- opening writes all 96 bytes of the frame of the new level, an object's at `{`, and no byte outside
   pub opens : levelOf (o .reader) ≡ levelOf r + 1
@@ -180,11 +180,11 @@ pub record Lent : Type 0 where
   -- a piece does what its bytes do when they are fed one by one
   pub empty : (r : Reader) (t : Table) (w : List ℕ) → (feedOf r t w [] .reader ≡ r) × (feedOf r t w [] .work ≡ w)
   pub piece : (r : Reader) (t : Table) (w : List ℕ) (b : ℕ) (s : List ℕ) → feedOf r t w (b ∷ s) ≡ inTwo t (byteFed r t w b) s
-  -- and this is what each byte writes
+  -- each byte writes what `ByteWrites` says
   pub byte : (r : Reader) (t : Table) (w : List ℕ) (b : ℕ) → ByteWrites r t w b (byteFed r t w b)
   -- bytes past the frames that were counted at start are never written
   pub past : (r : Reader) (t : Table) (w s : List ℕ) → Spares (λ i. 96 * r .frames ≤ i) w (feedOf r t w s .work)
-  -- nor is the frame of a level that is not opened
+  -- the frame of a level that is not opened is not written
   pub unopened : (r : Reader) (t : Table) (w s : List ℕ) (l : ℕ) → NotOpened r t w s l → frameAt (feedOf r t w s .work) l ≡ frameAt w l
   -- a close writes nothing, even where it ends a number, and a refused call writes nothing
   pub close : (r : Reader) (t : Table) (w : List ℕ) → closeOf r t w .work ≡ w

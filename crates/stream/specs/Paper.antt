@@ -29,7 +29,7 @@ pub record Heard : Type 0 where
 abbrev pub Judge : Type 0
 Judge = Bool → List ℕ → Verdict
 
--- it gives each part its verdict, with n frames and the entries of the book; a part in the head has 15
+-- the judge J gives each part its verdict, with n frames and the entries of the book; a part in the head has 15
 pub record Judges (es : List Entry) (n : ℕ) (J : Judge) : Type 0 where
   pub head : (p : List ℕ) → J true p ≡ Is.Head
   pub part : (p : List ℕ) → Judged es n p (J false p)
@@ -47,7 +47,7 @@ abbrev pub nonempty : List ℕ → Bool
 nonempty [] = false
 nonempty (b ∷ s) = true
 
--- what it says to a call, and holds after it
+-- what the paper says to a call, and holds after it
 pub record Said : Type 0 where
   pub paper : Paper
   pub count : ℕ

@@ -98,7 +98,7 @@ pub record Fresh (n : ℕ) (r : Reader) : Type 0 where
   pub root : r .root ≡ false
   pub key : r .key ≡ replicate 32 0
 
--- a stream from that reader on, fair by a book with the entries es, whose calls hand over the bytes s and close
+-- a stream from a fresh reader on, fair by a book with the entries es, whose calls hand over the bytes s and close
 pub record StreamOf (Book : Table → List Entry → Type 0) (es : List Entry) (n : ℕ) (r : Reader) (cs : List Call) (s : List ℕ) : Type 0 where
   pub fresh : Fresh n r
   pub fair : Fair Book es n nothing r cs

@@ -160,6 +160,6 @@ emptyTable-parts =
       slots-zero 11 (omega arith),
     )
 
--- the lines of its edges
+-- the lines of edges are 0 where the bytes are all 0
 pub lines-zero : paired (replicate 512 0) (replicate 512 0) ≡ replicate 512 0
 lines-zero = paired-replicate 512

@@ -10,6 +10,6 @@ pub record WithinLimits (t : Table) : Type 0 where
   pub edges : t .edges ≤ 512
   pub keys : t .keys ≤ 128
 
--- the same as a test: a table that refusal 23 lets pass
+-- the test whether the counts of edges and keys are within their limits: refusal 23 lets a table pass that passes the test
 unfoldable pub withinLimits : Table → Bool
 withinLimits t = leb (t .edges) 512 && leb (t .keys) 128

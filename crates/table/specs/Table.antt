@@ -7,7 +7,7 @@ pub record Table : Type 0 where
   -- how many edges there are, and how many keys
   pub edges : ℕ
   pub keys : ℕ
-  -- the bytes between these and the first array, which mean nothing
+  -- the bytes between the counts and the first array, which mean nothing
   pub spare : List ℕ
   -- edge e, in book order: its rule, state, key number (128 for none), value kind by its code, next state, and the line of the book
   pub «edge_rule» : List ℕ

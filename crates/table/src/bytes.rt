@@ -3,7 +3,7 @@ ghost use mathlib.Core.Path.{_≡_};
 ghost use lib.ListN.{length, replicate};
 ghost use Rattle.laws.specs.Lists.{same};
 
-// The two are the same bytes.
+// Two byte strings are the same.
 pub fn equal(s: &[u8], t: &[u8]) -> bool
     ensures { λ r. ⌜ r ≡ same (now (s .entry)) (now (t .entry)) ⌝ }
 {

@@ -17,7 +17,7 @@ fn end_of(a: usize, n: u8) -> usize
     if e < flat::KEY_LEN { e } else { flat::KEY_LEN }
 }
 
-// Key i has these bytes.
+// Key i is the given key.
 fn key_is<'a>(table: &'a [u8; 7920], i: usize, key: &'a [u8]) -> bool
     requires { ⌜ i < 128 ⌝ }
     ensures { λ r. ⌜ r ≡ same (keyAt (tableIn (now (table .entry)) .«key_bytes») (tableIn (now (table .entry)) .«key_len») i) (now (key .entry)) ⌝ }

@@ -105,7 +105,7 @@ digits-are-number (more {p = p} {ps = ps} z d) n h = go (leb (10 * p) n) refl (�
     go false e rest =
         rw (digits-not (10 * p) n ps (leb-false (10 * p) n e)) (rest (leb-false (10 * p) n e))
 
--- they are a number as a book writes it: no leading zero
+-- the decimal digits of a number are a number as a book writes it: no leading zero
 pub decimal-is-number : (n : ℕ) → n < 18446744073709551616 → isNumber (decimal n) ≡ true
 unfolding decimal
 decimal-is-number n h = digits-are-number powers-down n (omega (arith, h))

@@ -40,7 +40,7 @@ module _ (o : List ℕ) (at : ℕ) (bs : List ℕ) where
           places = omega (arith, p .place, x .places, length-append xs ys);
         }
 
-    -- the last of it
+    -- the last of what is still to put
     pub rest-last : (after : List ℕ) (behind : ℕ) (ys : List ℕ) → Rest o at bs now place ys → Put now place ys after behind → Put o at bs after behind
     rest-last after behind ys x p = record { bytes = p .bytes ∙ x .bytes; place = p .place ∙ x .places }
 
@@ -107,7 +107,7 @@ module _ (o : List ℕ) (at n : ℕ) (now : List ℕ) (place i : ℕ) where
       → Put now place (digitIf n (getD powers i 0)) after behind → Rest o at (decimal n) after behind (digits (drop (i + 1) powers) n)
   digits-more after behind h x p = more powers (decimal n) after behind h x p
 
--- then that of the ones
+-- the digit of the ones is the last to put
 pub digits-last : (o : List ℕ) (at n : ℕ) (now : List ℕ) (place i d : ℕ) → 19 ≤ i → i ≤ 19 → Rest o at (decimal n) now place (digits (drop i powers) n)
     → d ≡ digit n 1 → Put o at (decimal n) (set now place d) (place + 1)
 unfolding digits

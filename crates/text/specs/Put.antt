@@ -16,7 +16,7 @@ pub record Put (o : List ℕ) (at : ℕ) (bs : List ℕ) (now : List ℕ) (behin
 abbrev pub room : ℕ
 room = 64
 
--- a buffer of n bytes has that many from the place on
+-- a buffer of n bytes has room for a line from the place on
 unfoldable pub hasRoom : ℕ → ℕ → Bool
 hasRoom n at = leb (at + room) n
 

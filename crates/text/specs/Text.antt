@@ -37,7 +37,7 @@ powers =
 abbrev pub digit : ℕ → ℕ → ℕ
 digit n p = 48 + n / p % 10
 
--- where n reaches the power
+-- the digit of a power p in n where n reaches p, and none where it does not
 unfoldable pub digitIf : ℕ → ℕ → List ℕ
 digitIf n p = cond (leb p n) (digit n p ∷ []) []
 

@@ -65,12 +65,12 @@ module _ (t : Table) (w : List ℕ) (l s d : ℕ) (v : List ℕ) (root : Bool)
   unfolding rulesAt valueAt
   work-closed = rw (← e, ← f) g
 
-  -- the root
+  -- the root is closed
   pub closed-root : (r : Bool) → l ≡ 1 → r ≡ ruleFits s 0 → ClosedTo t w l root r v
   unfolding rulesAt
   closed-root r h q = record { root = rw (eq-eqb l 1 h) (q ∙ ap (λ (n : ℕ). ruleFits n 0) e); work = work-closed }
 
-  -- any other value
+  -- any value but the root is closed
   pub closed-inner : (l ≡ 1 → ⊥) → ClosedTo t w l root root v
   closed-inner h = record { root = rw (ne-eqb l 1 h); work = work-closed }
 

@@ -57,7 +57,7 @@ fn feed_file(
     now
 }
 
-// The verdicts of a file in pieces of the given size. One that cannot be read counts as empty, and says so.
+// The verdicts of a file in pieces of the given size. A file that cannot be read counts as empty, and a line says so.
 fn judge(t: &[u8; 7920], name: &[u8], size: usize, work: &mut [u8], space: &mut [u8]) -> Verdicts
     requires { ⌜ 0 < size ⌝ }
 {

@@ -56,7 +56,7 @@ fn buffers(t: &[u8; 7920], u: &[u8; 7920], work: &mut [u8; 2 * WORK]) {
     nest::run_two(t, u, work, 6240, 12288, 63);
 }
 
-// All of them.
+// All records around the limits.
 pub fn run() {
     let mut t = [0u8; 7920];
     array_book(&mut t);

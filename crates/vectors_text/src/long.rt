@@ -100,7 +100,7 @@ pub fn run_two<'a>(
     run(t, work, space, label, 16777217, first, unit, last);
 }
 
-// The same, with one of a byte less before them.
+// A record of a byte less than a record can have, one of as many, and one of a byte more.
 pub fn run_three<'a>(
     t: &'a [u8; 7920],
     work: &mut [u8; WORK],

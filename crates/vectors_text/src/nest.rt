@@ -109,7 +109,7 @@ fn run_levels(t: &[u8; 7920], u: &[u8; 7920], work: &mut [u8], least: usize, oth
     }
 }
 
-// The same on the first bytes of the buffer.
+// Records of each number of levels from the least to below the other, on the first bytes of the buffer.
 fn run(t: &[u8; 7920], u: &[u8; 7920], work: &mut [u8], size: usize, least: usize, other: usize) {
     if size <= work.len() {
         run_levels(t, u, &mut work[..size], least, other);

@@ -55,21 +55,21 @@ module _ {n : ℕ} {p : List ℕ} where
   -- ---- the tests at byte i, where the bytes before it have no fault
 
   module _ {i : ℕ} (c : Clean n p i) (inside : i < length p) where
-    -- there is a byte too many
+    -- byte i is one too many
     pub judged-too-long : {es : List Entry} → longest ≤ i → Judged es n p Is.TooLong
     judged-too-long h =
         let e : i ≡ longest = omega (arith, c .short) in
         judged-of-fault (rw e at c) (too-long (rw e at inside)) (λ w x. omega arith)
 
-    -- no text begins with the bytes up to this one
+    -- no text begins with the bytes up to byte i
     pub judged-malformed : {es : List Entry} → i < longest → (Begins (take (suc i) p) → ⊥) → Judged es n p (Is.Malformed i)
     judged-malformed h f = judged-of-fault c (malformed (record { inside = inside; before = c .begins; behind = f })) (λ w y. one-le-rank-of-short h y)
 
-    -- some text does, and the levels are too many
+    -- some text begins with the bytes up to byte i, and the levels are too many
     pub judged-too-deep : {es : List Entry} → i < longest → Begins (take (suc i) p) → n < openLevels (take (suc i) p) → Judged es n p (Is.TooDeep i)
     judged-too-deep h b f =
         judged-of-fault c (too-deep (record { inside = inside; before = c .shallow; behind = f })) (λ w y. two-le-rank-of-begins h b y)
 
-    -- some text does, and the levels are not too many
+    -- some text begins with the bytes up to byte i, and the levels are not too many
     pub clean-suc : i < longest → Begins (take (suc i) p) → openLevels (take (suc i) p) ≤ n → Clean n p (suc i)
     clean-suc h b f = record { inside = inside; short = h; begins = b; shallow = λ j g. ⊎-elim (λ e. rw e f) (λ l. c .shallow j (omega arith)) (eq-or-lt-of-le g) }

@@ -70,11 +70,11 @@ module _ {es : List Entry} (sound-book : Sound es) (n : ℕ) (p : List ℕ) wher
 
   -- ---- from byte i on
 
-  -- where the bytes s are left, the machine finds the verdict from here
+  -- where the bytes s are left, the machine finds the verdict of the part from the track t on
   abbrev Finds : List ℕ → Track es → Type 0
   Finds s t = Judged es n p (trackEnd es (track es n t s))
 
-  -- at a fault its verdict is found, whatever follows
+  -- at a fault the verdict for it is found, whatever bytes follow
   finds-stopped : {v : Verdict} (s : List ℕ) → Judged es n p v → Finds s (stopped v)
   unfolding trackEnd
   finds-stopped {v} s j = rw (track-stopped es n v s) j
@@ -84,7 +84,7 @@ module _ {es : List Entry} (sound-book : Sound es) (n : ℕ) (p : List ℕ) wher
   stateAt i = run (judging es) (start (judging es)) (take i p)
 
   module _ {i b : ℕ} {s : List ℕ} (c : Clean n p i) (x : Next p i b s) (more : Clean n p (suc i) → Finds s (sound (stateAt (suc i)) (suc i))) where
-    -- where some text begins with the bytes up to this one, the levels decide
+    -- where some text begins with the bytes up to byte i, the levels decide
     finds-alive : i < longest → isFault (judging es) (stateAt (suc i)) ≡ false → Finds s (trackTo es n (stateAt (suc i)) i)
     finds-alive l f = by-levels (decLt n (openLevels (take (suc i) p)))
       where
@@ -99,7 +99,7 @@ module _ {es : List Entry} (sound-book : Sound es) (n : ℕ) (p : List ℕ) wher
             rw (trackTo-sound es n (stateAt (suc i)) i f (omega (arith, e)))
             (more (clean-suc c (x .inside) l (begins-of-alive (judging es) (take (suc i) p) f) (omega arith)))
 
-    -- else it is malformed
+    -- within the most bytes: where no text begins with the bytes up to byte i the part is malformed, else the levels decide
     finds-to : i < longest → Finds s (trackTo es n (stateAt (suc i)) i)
     finds-to l = by-fault (isFault (judging es) (stateAt (suc i))) refl
       where
@@ -109,7 +109,7 @@ module _ {es : List Entry} (sound-book : Sound es) (n : ℕ) (p : List ℕ) wher
             (finds-stopped s (judged-malformed c (x .inside) l (λ g. true≢false (sym f ∙ alive-of-begins (judging es) (take (suc i) p) g))))
         by-fault false f = finds-alive l f
 
-    -- where there are not too many bytes
+    -- where byte i is one too many the part is too long, else the byte is read
     finds-byte : Finds s (trackByte es n (sound (stateAt i) i) b)
     finds-byte = by-length (decLt i longest)
       where
@@ -122,7 +122,7 @@ module _ {es : List Entry} (sound-book : Sound es) (n : ℕ) (p : List ℕ) wher
             let g : longest ≤ i = omega arith in
             rw (trackByte-long es n (stateAt i) b g) (finds-stopped s (judged-too-long c (x .inside) g))
 
-  -- as long as the bytes so far have no fault
+  -- as long as the bytes so far have no fault, the machine finds the verdict of the part
   finds-from : (s : List ℕ) (i : ℕ) → drop i p ≡ s → Clean n p i → Finds s (sound (stateAt i) i)
   unfolding trackEnd
   finds-from [] i e c =

@@ -51,21 +51,21 @@ module _ {n : ℕ} {p : List ℕ} where
 -- ---- what each verdict says of the part, both ways
 
 module _ {es : List Entry} {n : ℕ} {p : List ℕ} where
-  -- valid exactly when the part is a text within the limits that is valid by the book
+  -- a part is valid exactly when it is a text within the limits that is valid by the book
   pub valid-iff : Judged es n p Is.Valid ↔ (Faultless n p × ((t : Json) × Text p t × Valid es t))
   valid-iff = (into, λ (f, (t, x, v)). by-book f x v)
     where
       into : Judged es n p Is.Valid → Faultless n p × ((t : Json) × Text p t × Valid es t)
       into (by-book {t} f x v) = (f, (t, x, v))
 
-  -- invalid exactly when it is a text within the limits that is not
+  -- a part is invalid exactly when it is a text within the limits that is not valid by the book
   pub invalid-iff : Judged es n p Is.Invalid ↔ (Faultless n p × ((t : Json) × Text p t × (Valid es t → ⊥)))
   invalid-iff = (into, λ (f, (t, x, v)). not-by-book f x v)
     where
       into : Judged es n p Is.Invalid → Faultless n p × ((t : Json) × Text p t × (Valid es t → ⊥))
       into (not-by-book {t} f x v) = (f, (t, x, v))
 
-  -- too long exactly when its first fault is a byte too many
+  -- a part is too long exactly when its first fault is a byte too many
   pub tooLong-iff : Judged es n p Is.TooLong ↔ ((longest < length p) × Earliest n p Is.TooLong longest)
   tooLong-iff = (into, λ (h, e). by-fault (too-long h) e)
     where
@@ -75,7 +75,7 @@ module _ {es : List Entry} {n : ℕ} {p : List ℕ} where
       into : Judged es n p Is.TooLong → (longest < length p) × Earliest n p Is.TooLong longest
       into (by-fault x e) = into-fault x e
 
-  -- malformed at byte i exactly when its first fault is that no text begins with the bytes up to byte i
+  -- a part is malformed at byte i exactly when its first fault is that no text begins with the bytes up to byte i
   pub malformed-iff : (i : ℕ) → Judged es n p (Is.Malformed i) ↔ (FaultAt p i × Earliest n p (Is.Malformed i) i)
   malformed-iff i = (into, λ (x, e). by-fault (malformed x) e)
     where
@@ -85,7 +85,7 @@ module _ {es : List Entry} {n : ℕ} {p : List ℕ} where
       into : Judged es n p (Is.Malformed i) → FaultAt p i × Earliest n p (Is.Malformed i) i
       into (by-fault x e) = into-fault x e
 
-  -- too deep at byte i exactly when its first fault is that byte i opens more levels than n
+  -- a part is too deep at byte i exactly when its first fault is that byte i opens more levels than n
   pub tooDeep-iff : (i : ℕ) → Judged es n p (Is.TooDeep i) ↔ (DeepAt n p i × Earliest n p (Is.TooDeep i) i)
   tooDeep-iff i = (into, λ (x, e). by-fault (too-deep x) e)
     where
@@ -95,7 +95,7 @@ module _ {es : List Entry} {n : ℕ} {p : List ℕ} where
       into : Judged es n p (Is.TooDeep i) → DeepAt n p i × Earliest n p (Is.TooDeep i) i
       into (by-fault x e) = into-fault x e
 
-  -- unfinished exactly when it has no fault and is no whole text; its place is the length
+  -- a part is unfinished exactly when it has none of the three faults and is no whole text; its place is the length
   pub unfinished-iff : (i : ℕ) → Judged es n p (Is.Unfinished i) ↔ ((i ≡ length p) × Faultless n p × ((t : Json) → Text p t → ⊥))
   unfinished-iff i = (into, λ (e, f, m). rw e (by-end f m))
     where

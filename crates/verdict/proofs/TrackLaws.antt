@@ -14,12 +14,12 @@ use Rattle.verdict.specs.Verdict.{longest}
 use Rattle.verdict.specs.Track.{sound, stopped, trackTo, trackByte, track}
 
 module _ (es : List Entry) (n : ℕ) where
-  -- below the most bytes it is read
+  -- a byte after fewer bytes than a record may have is read
   pub trackByte-short : {i : ℕ} (q : State (judging es)) (b : ℕ) → i < longest → trackByte es n (sound q i) b ≡ trackTo es n (step (judging es) q b) i
   unfolding trackByte
   trackByte-short q b h = rw lt-ltb
 
-  -- after them it is too far
+  -- a byte after as many bytes as a record may have makes the record too long
   pub trackByte-long : {i : ℕ} (q : State (judging es)) (b : ℕ) → longest ≤ i → trackByte es n (sound q i) b ≡ stopped Is.TooLong
   unfolding trackByte
   trackByte-long q b h = rw le-ltb

@@ -72,17 +72,17 @@ pub data NotLater (a : Verdict) (i : ℕ) (b : Verdict) (j : ℕ) : Type 0 where
 abbrev pub Earliest : ℕ → List ℕ → Verdict → ℕ → Type 0
 Earliest n p v i = (w : Verdict) (j : ℕ) → Fault n p w j → NotLater v i w j
 
--- a part with none of the three
+-- a part with none of the three faults
 abbrev pub Faultless : ℕ → List ℕ → Type 0
 Faultless n p = (w : Verdict) (j : ℕ) → Fault n p w j → ⊥
 
 -- ---- the verdict of a part after an RS, with n frames and the entries of the book
 
 pub data Judged (es : List Entry) (n : ℕ) (p : List ℕ) : Verdict → Type 0 where
-  -- the earliest fault is its first fault
+  -- the earliest of a part's faults is its first fault
   by-fault : {v : Verdict} {i : ℕ} → Fault n p v i → Earliest n p v i → Judged es n p v
-  -- a part with none that is no whole text has its first fault at its end
+  -- a part with none of the three faults that is no whole text has its first fault at its end
   by-end : Faultless n p → ((t : Json) → Text p t → ⊥) → Judged es n p (Is.Unfinished (length p))
-  -- any other is valid or invalid
+  -- any other part is valid or invalid
   by-book : {t : Json} → Faultless n p → Text p t → Valid es t → Judged es n p Is.Valid
   not-by-book : {t : Json} → Faultless n p → Text p t → (Valid es t → ⊥) → Judged es n p Is.Invalid

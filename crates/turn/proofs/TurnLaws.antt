@@ -80,8 +80,9 @@ module _ (t : Table) (k : Task) (level len up : ℕ) (root : Bool) (key w : List
   pub idle-done : k ≡ To.Idle → PerformedTo k t level len up root key w root key w
   idle-done h = record { same = λ old x p q u. rw h }
 
-  pub begin-done : (next : List ℕ) → k ≡ To.Begin → length key ≡ 32 → next ≡ replicate (length key) 0 → PerformedTo k t level len up root key w false next w
-  begin-done next h l e = record { same = λ old x p q u. rw (h, e, l) }
+  pub begin-done : (r : Bool) (next : List ℕ) → k ≡ To.Begin → length key ≡ 32 → next ≡ replicate (length key) 0 → r ≡ false
+      → PerformedTo k t level len up root key w r next w
+  begin-done r next h l e none = record { same = λ old x p q u. rw (h, e, l, none) }
 
   pub put-done : (c : ℕ) (next : List ℕ) → k ≡ To.Put c → next ≡ keptIn key len c → PerformedTo k t level len up root key w root next w
   put-done c next h e = record { same = λ old x p q u. rw (h, q, e) }

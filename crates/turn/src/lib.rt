@@ -1,7 +1,8 @@
 // One byte that ends no record: what it does to the record, its key and its frames.
+ghost use mathlib.Core.Bool.{false};
 ghost use mathlib.Core.Path.{_≡_};
 ghost use Prim.Native.Nat.{_≤_};
-ghost use lib.ListN.{length};
+ghost use lib.ListN.{length, replicate};
 ghost use Rattle.table.specs.Flat.{tableIn};
 ghost use Rattle.progress.specs.Memory.{mem, topAt};
 ghost use Rattle.turn.specs.Turn.{ClosedTo, namedAt, PerformedTo, turned};
@@ -57,6 +58,14 @@ fn name_level<'a>(work: &mut [u8], level: usize, table: &'a [u8; 7920], key: &'a
     frame::key_level(work, level, k);
 }
 
+// A record begins: no character of a key is kept, and no root is closed.
+fn begin(key: &mut [u8]) -> bool
+    ensures { λ r. ⌜ (now (key .exit) ≡ replicate (length (now (key .entry))) 0) × (r ≡ false) ⌝ }
+{
+    bytes::clear(key);
+    false
+}
+
 // Does a task to the key, of which len characters are kept, and to the frames: level is that of the record before the byte, up that after it.
 // Gives whether the root fits rule 0.
 fn perform(
@@ -74,10 +83,7 @@ fn perform(
 {
     match task {
         Task::Idle => root,
-        Task::Begin => {
-            bytes::clear(key);
-            false
-        }
+        Task::Begin => begin(key),
         Task::Put(c) => {
             key::keep_char(key, len, c);
             root

@@ -29,4 +29,10 @@ returns-8 : tie.Need-returns-8
 returns-8 c = search (needs, finish-close-done)
 
 pub perform-spec : {M : Type 1} → statement M
-perform-spec = tie.close (tie.spec (λ c. search needs) (λ c. search needs) (λ c κs. search needs) (λ c. search needs) (λ c κs. search needs) (λ c. search needs) (λ c κs. search needs) (λ c. search needs) (λ c κs. search needs) (λ c. search needs) (λ c κs. search needs) (λ c. search needs) (λ c κs. search needs) (λ c. search needs) (λ c κs. search needs) (λ c κs. search needs) returns (λ c. search needs) returns-2 (λ c. search needs) returns-3 (λ c. search needs) (λ c. search needs) returns-4 (λ c. search needs) returns-5 (λ c. search needs) returns-6 (λ c. search needs) returns-7 (λ c. search needs) returns-8)
+perform-spec =
+    tie.close
+    (tie.spec (λ c. search needs) (λ c. search needs) (λ c κs. search needs) (λ c. search needs) (λ c κs. search needs) (λ c. search needs)
+    (λ c κs. search needs) (λ c. search needs) (λ c κs. search needs) (λ c. search needs) (λ c κs. search needs) (λ c. search needs)
+    (λ c κs. search needs) (λ c. search needs) (λ c κs. search needs) (λ c κs. search needs) returns (λ c. search needs) returns-2
+    (λ c. search needs) returns-3 (λ c. search needs) (λ c. search needs) returns-4 (λ c. search needs) returns-5 (λ c. search needs) returns-6
+    (λ c. search needs) returns-7 (λ c. search needs) returns-8)

@@ -1,13 +1,12 @@
 -- `files::run_names` is safe and ends: each line ends after its beginning. Assumes nothing.
 use Prim.Native.Nat.{_≤_, _-_}
 use lib.ListN.{length}
-use mathlib.Core.Path.{_≡_}
 use borrow.Author.Needs.{needs}
 use Rattle.vectors_text.proofs.files.run_names.Statement.{statement}
 use Rattle.vectors_text.proofs.files.run_names.Tie as tie
 
 abbrev Inv-loop : tie.InvT-loop
-Inv-loop t names work₀ space₀ counts₀ at₀ work space counts at = (at ≤ length names) × (length work ≡ length work₀) × (length space ≡ length space₀)
+Inv-loop t names work₀ space₀ counts₀ at₀ work space counts at = (at ≤ length names)
 
 abbrev μ-loop : tie.MeasureT-loop
 μ-loop t names work₀ space₀ counts₀ at₀ work space counts at = length names - at

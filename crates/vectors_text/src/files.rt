@@ -62,12 +62,28 @@ fn run_stream<'a>(t: &'a [u8; 7920], name: &[u8], stream: &'a [u8], work: &mut [
     say::is_json(&whole, made)
 }
 
-// One file, after an RS: whether it is JSON.
-fn run_file(t: &[u8; 7920], name: &[u8], work: &mut [u8; WORK], space: &mut [u8; SPACE]) -> bool {
-    space[0] = 30;
+// The first byte of the space and n more as a stream.
+fn run_first<'a>(
+    t: &'a [u8; 7920],
+    name: &[u8],
+    space: &'a [u8],
+    n: usize,
+    work: &mut [u8; WORK],
+) -> bool {
+    if n < space.len() {
+        let end = n + 1;
+        return run_stream(t, name, &space[..end], work);
+    }
+    false
+}
+
+// One file, after the first byte of the space, which is an RS: whether the file is JSON.
+fn run_file(t: &[u8; 7920], name: &[u8], work: &mut [u8; WORK], space: &mut [u8]) -> bool {
+    if space.len() == 0 {
+        return false;
+    }
     let n = content(name, &mut space[1..]);
-    let end = n + 1;
-    run_stream(t, name, &space[..end], work)
+    run_first(t, name, space, n, work)
 }
 
 // Where a file is counted, by the first letter of its name: those that are JSON, then those that are not.
@@ -117,7 +133,7 @@ fn run_names(
     t: &[u8; 7920],
     names: &[u8],
     work: &mut [u8; WORK],
-    space: &mut [u8; SPACE],
+    space: &mut [u8],
     counts: &mut [u32; 6],
 ) {
     let mut at: usize = 0;
@@ -164,6 +180,7 @@ pub fn run() {
     let m = content(b"names", &mut names);
     let mut work = [0u8; WORK];
     let mut space = [0u8; SPACE];
+    space[0] = 30;
     let mut counts = [0u32; 6];
     run_names(&t, &names[..m], &mut work, &mut space, &mut counts);
     say_summary(&counts);

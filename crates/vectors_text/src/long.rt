@@ -70,14 +70,17 @@ fn feed_many<'a>(
     t: &'a [u8; 7920],
     work: &mut [u8; WORK],
     out: &mut [u8; OUT],
-    block: &'a [u8; BLOCK],
+    block: &'a [u8],
     n: usize,
 ) -> Stream {
+    if block.len() == 0 {
+        return s;
+    }
     let mut now = s;
     let mut left = n;
-    while BLOCK <= left {
+    while block.len() <= left {
         now = feed_all(now, t, work, out, block);
-        left -= BLOCK;
+        left -= block.len();
     }
     feed_all(now, t, work, out, &block[..left])
 }

@@ -77,10 +77,11 @@ fn close_levels(text: &mut [u8; TEXT], at: usize, shape: Shape, levels: usize) -
 }
 
 // Judges the first n bytes of the text as a stream, and says its entries after a label.
-fn judge(t: &[u8; 7920], work: &mut [u8], text: &[u8; TEXT], n: usize, label: &[u8]) {
-    if n <= TEXT {
+fn judge<'a>(t: &'a [u8; 7920], work: &mut [u8], text: &'a [u8; TEXT], n: usize, label: &[u8]) {
+    let all: &[u8] = text;
+    if n <= all.len() {
         let mut out = [0u8; OUT];
-        let made = feeds::judge(t, &text[..n], 0, work, &mut out);
+        let made = feeds::judge(t, &all[..n], 0, work, &mut out);
         say::say_all(label, &out, made);
     }
 }

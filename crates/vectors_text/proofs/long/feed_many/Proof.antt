@@ -15,7 +15,7 @@ abbrev μ-loop : tie.MeasureT-loop
 μ-loop t work₀ out₀ block n now₀ left₀ work out now left = left
 
 slice-aggregate-feed-all : tie.Need-slice-aggregate-feed-all Inv-loop μ-loop
-slice-aggregate-feed-all c = sym (length-take-le _ _ (omega (arith, c .before .before .loop-test .left)))
+slice-aggregate-feed-all c = sym (length-take-le _ _ (omega arith))
 
 pub feed-many-spec : {M : Type 1} → statement M
 feed-many-spec =

@@ -7,9 +7,10 @@ use Rattle.vectors_text.proofs.nest.judge.Statement.{statement}
 use Rattle.vectors_text.proofs.nest.judge.Tie as tie
 
 slice-aggregate-judge : tie.Need-slice-aggregate-judge
-slice-aggregate-judge c = sym (length-take-le _ _ (omega (arith, c .before .if1 .taken)))
+slice-aggregate-judge c = sym (length-take-le _ _ (omega arith))
 
 pub judge-spec : {M : Type 1} → statement M
 judge-spec =
     tie.close
-    (tie.spec (λ c. search needs) slice-aggregate-judge (λ c κs. search needs) (λ c. search needs) (λ c. search needs) (λ c. search needs))
+    (tie.spec slice-aggregate-judge (λ c. search needs) (λ c κs. search needs) (λ c κs. search needs) (λ c. search needs) (λ c. search needs)
+    (λ c. search needs))

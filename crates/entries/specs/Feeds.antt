@@ -1,4 +1,4 @@
--- A stream that the library feeds in pieces and closes, and the entries of the answers: docs/LIBRARY.md. Stated. Assumes nothing.
+-- A stream that the library starts, feeds in pieces and closes, and the entries of the answers: docs/LIBRARY.md. Stated. Assumes nothing.
 use mathlib.Core.Bool.{Bool, true, false, cond}
 use mathlib.Core.List.{List, [], _∷_, _++_}
 use mathlib.Core.Path.{_≡_}
@@ -10,6 +10,7 @@ use Rattle.reader.specs.declared.Reader.{Reader}
 use Rattle.reader.specs.declared.Answer.{Answer}
 use Rattle.reader.specs.declared.Answer.the-variants as Says
 use Rattle.reader.specs.Refusals.{refusalNumber}
+use Rattle.reader.specs.Start.{startOf}
 use Rattle.reader.specs.Machine.{Outcome, feedOf, closeOf}
 use Rattle.entries.specs.Entries.{Entry, verdictEntry, refusalEntry, withEntries}
 
@@ -91,6 +92,12 @@ closes t f = record { work = f .work; entries = f .entries ++ answerEntries (clo
 unfoldable pub streamed : Table → ℕ → Reader → List ℕ → List ℕ → StreamEntries
 streamed t size r w s = closes t (feeds (length s) t size r w 0 s)
 
+-- a start; where it is refused, only its entry
+abbrev pub started : Table → ℕ → List ℕ → List ℕ → StreamEntries
+started t size w s =
+    cond (isQuiet (startOf t w .answer)) (streamed t size (startOf t w .reader) w s)
+    (record { work = w; entries = answerEntries (startOf t w .answer) 0 })
+
 -- ---- what a call gives and leaves
 
 pub record Called : Type 0 where
@@ -101,3 +108,7 @@ pub record Called : Type 0 where
 -- entries from the first place of the output on
 abbrev pub inOut : List ℕ → StreamEntries → Called
 inOut o x = record { work = x .work; out = withEntries o 0 (x .entries); made = length (x .entries) }
+
+-- a call with a table that is lent
+unfoldable pub judgeTableOf : Table → List ℕ → ℕ → List ℕ → List ℕ → Called
+judgeTableOf t s size w o = inOut o (started t size w s)

@@ -1,9 +1,9 @@
-// A stream fed piece by piece, and closed.
+// A stream from the start on: fed piece by piece, and closed.
 ghost use mathlib.Core.Path.{_≡_};
 ghost use Prim.Native.Nat.{_+_, _≤_, _<_};
 ghost use lib.ListN.{length};
 ghost use Rattle.table.specs.Flat.{tableIn};
-ghost use Rattle.entries.specs.Feeds.{isQuiet, isRefused, feeds as Feeds·feeds, streamed, pieceEnd, inOut, Feeds};
+ghost use Rattle.entries.specs.Feeds.{isQuiet, isRefused, feeds as Feeds·feeds, streamed, pieceEnd, inOut, Feeds, judgeTableOf};
 ghost use Rattle.entries.specs.Turn.{feedNext, turnOf};
 use crate::entry;
 use reader::Answer;
@@ -17,7 +17,7 @@ struct Fed {
     refused: bool,
 }
 
-pub fn is_quiet(a: Answer) -> bool
+fn is_quiet(a: Answer) -> bool
     ensures { λ r. ⌜ r ≡ isQuiet a ⌝ }
 {
     match a {
@@ -135,7 +135,7 @@ fn feed_all<'a>(
 }
 
 // The feeds of a stream, then the close.
-pub fn feed_close<'a>(
+fn feed_close<'a>(
     r: Reader,
     table: &'a [u8; 7920],
     stream: &'a [u8],
@@ -152,4 +152,25 @@ pub fn feed_close<'a>(
     let c = reader::close(next, table, work);
     let a = c.answer;
     entry::put_answer(out, made, a, f.read)
+}
+
+// Starts with a table that is lent, feeds a stream cut at the multiples of a size, and closes. Answers how many entries that gives; each stands in
+// the output where that has its place. A table that start refuses is one entry, with 23. Ruled out: a program that judges after a refused start, and
+// one that says nothing of it.
+pub fn judge<'a>(
+    table: &'a [u8; 7920],
+    stream: &'a [u8],
+    size: usize,
+    work: &mut [u8],
+    out: &mut [u8],
+) -> usize
+    ensures { λ r. ⌜ record { work = now (work .exit); out = now (out .exit); made = r } ≡ judgeTableOf (tableIn (now (table .entry))) (now (stream .entry)) size (now (work .entry)) (now (out .entry)) ⌝ }
+{
+    let b = Reader::start(table, work);
+    let r = b.reader;
+    let said = b.answer;
+    if is_quiet(said) {
+        return feed_close(r, table, stream, size, work, out);
+    }
+    entry::put_answer(out, 0, said, 0)
 }

@@ -1,45 +1,18 @@
--- A call of the library by its parts: the book, the start, and the stream. Assumes nothing.
-use mathlib.Core.Bool.{Bool, true, false}
+-- A call of the library with a book: refused, or judged by its table. Assumes nothing.
+use mathlib.Core.Bool.{true, false}
 use mathlib.Core.List.{List}
-use mathlib.Core.Path.{_≡_, refl, sym, ap, _∙_}
-use Prim.Native.Nat.{ℕ, _+_}
-use native.Mathlib.Omega.{arith}
+use mathlib.Core.Path.{_≡_, sym, _∙_}
+use Prim.Native.Nat.{ℕ}
 use lib.Dec.{eqb}
-use lib.ListN.{length}
 use borrow.Author.Tests.{eq-eqb, ne-eqb}
-use Rattle.table.specs.Table.{Table}
 use Rattle.book.specs.Load.{loads}
 use Rattle.load.specs.Step.{Loaded}
 use Rattle.load.specs.BookAnswer.{numbered}
 use Rattle.load.specs.Loads.{LoadsAs}
 use Rattle.load.proofs.LoadedLaws.{number-of-book, line-of-book}
-use Rattle.reader.specs.Refusals.{startGate}
-use Rattle.reader.specs.Start.{Start, startOf}
-use Rattle.reader.proofs.RefusalLaws.{through-elim}
 use Rattle.entries.specs.Entries.{withEntry, withEntries}
-use Rattle.entries.specs.Feeds.{answerEntries, isQuiet, Called, streamed, inOut}
-use Rattle.fieldtext.specs.Judge.{judges, judgeTableOf, judgeOf}
-
--- ---- a start
-
-pub start-fresh : (t : Table) (w : List ℕ) (y : Start) → y ≡ startOf t w → y .reader .progress .pos ≡ 0
-unfolding startOf
-start-fresh t w y e =
-    rw e (through-elim (λ (z : Start). z .reader .progress .pos ≡ 0) (startGate t (length w)) (λ _ _. refl) (λ _. refl))
-
-module _ (t : Table) (s : List ℕ) (size : ℕ) (w o : List ℕ) (y : Start) (st : y ≡ startOf t w) (quiet : Bool) (q : quiet ≡ isQuiet (y .answer)) where
-  pub judge-streamed : quiet ≡ true → (z : Called) → z ≡ inOut o (streamed t size (y .reader) w s) → z ≡ judgeTableOf t s size w o
-  unfolding judgeTableOf
-  judge-streamed e z h = h ∙ rw (sym st, sym q, e)
-
-  pub judge-unstarted : quiet ≡ false → (after : List ℕ) (made : ℕ) → after ≡ withEntries o 0 (answerEntries (y .answer) 0)
-      → made ≡ 0 + length (answerEntries (y .answer) 0) → record { work = w; out = after; made = made } ≡ judgeTableOf t s size w o
-  unfolding judgeTableOf
-  judge-unstarted e after made h m =
-      let k : made ≡ length (answerEntries (y .answer) 0) = omega (arith, m) in
-      rw (sym st, sym q, e, h, k)
-
--- ---- the book
+use Rattle.entries.specs.Feeds.{Called, judgeTableOf}
+use Rattle.fieldtext.specs.Judge.{judges, judgeOf}
 
 module _ (b : List ℕ) (x : Loaded) (l : LoadsAs b x) where
   module _ (s : List ℕ) (size : ℕ) (w o : List ℕ) (number : ℕ) (n : number ≡ numbered (x .answer) .number) where

@@ -4,27 +4,16 @@ use mathlib.Core.Bool.{cond}
 use mathlib.Core.List.{List, [], _∷_}
 use Prim.Native.Nat.{ℕ}
 use lib.Dec.{eqb}
-use Rattle.table.specs.Table.{Table}
 use Rattle.book.specs.Load.{loads}
 use Rattle.load.specs.Loads.{bookTable}
-use Rattle.reader.specs.Start.{startOf}
 use Rattle.entries.specs.Entries.{refusalEntry}
-use Rattle.entries.specs.Feeds.{answerEntries, isQuiet, StreamEntries, streamed, Called, inOut}
+use Rattle.entries.specs.Feeds.{StreamEntries, started, Called, inOut}
 
--- a start; where it is refused, only its entry
-abbrev pub started : Table → ℕ → List ℕ → List ℕ → StreamEntries
-started t size w s =
-    cond (isQuiet (startOf t w .answer)) (streamed t size (startOf t w .reader) w s)
-    (record { work = w; entries = answerEntries (startOf t w .answer) 0 })
-
+-- a book; where it is refused, only its entry
 unfoldable pub judges : List ℕ → ℕ → List ℕ → List ℕ → StreamEntries
 judges b size w s =
     cond (eqb (loads b .number) 0) (started (bookTable b) size w s)
     (record { work = w; entries = refusalEntry (loads b .number) (loads b .line) 0 ∷ [] })
-
--- a call with a table that is lent
-unfoldable pub judgeTableOf : Table → List ℕ → ℕ → List ℕ → List ℕ → Called
-judgeTableOf t s size w o = inOut o (started t size w s)
 
 -- a call with a book
 unfoldable pub judgeOf : List ℕ → List ℕ → ℕ → List ℕ → List ℕ → Called

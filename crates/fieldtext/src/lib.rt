@@ -3,10 +3,10 @@ ghost use mathlib.Core.Path.{_≡_};
 ghost use Rattle.table.specs.Flat.{tableIn};
 ghost use Rattle.book.specs.Load.{loads};
 ghost use Rattle.load.specs.Loads.{bookTable, Blank};
-ghost use Rattle.fieldtext.specs.Judge.{judgeTableOf, judgeOf};
+ghost use Rattle.entries.specs.Feeds.{judgeTableOf};
+ghost use Rattle.fieldtext.specs.Judge.{judgeOf};
 use entries::entry;
 use entries::feeds;
-use reader::Reader;
 
 // Fills the table that is lent with what a book says, and answers the number of its refusal; 0 where it is accepted. After a refusal every byte of
 // the table is 0. Ruled out: a library that accepts every book, and one that leaves the lent table as it was.
@@ -52,13 +52,7 @@ pub extern "C" fn fieldtext_judge_table<'a>(
 ) -> usize
     ensures { λ r. ⌜ record { work = now (work .exit); out = now (out .exit); made = r } ≡ judgeTableOf (tableIn (now (table .entry))) (now (stream .entry)) size (now (work .entry)) (now (out .entry)) ⌝ }
 {
-    let b = Reader::start(table, work);
-    let r = b.reader;
-    let said = b.answer;
-    if feeds::is_quiet(said) {
-        return feeds::feed_close(r, table, stream, size, work, out);
-    }
-    entry::put_answer(out, 0, said, 0)
+    feeds::judge(table, stream, size, work, out)
 }
 
 // Loads a book, and judges a stream by its table. A refused book is one entry, with its number and line. Ruled out: a library that judges by a

@@ -1,113 +1,89 @@
-// The files that data/names lists, as they stand after an RS, under data/book.txt with 64 frames: read in pieces as large as the buffer, and
-// again in pieces of 1, 2, 3 and 7 bytes. A line for each verdict of a file, one more for each size of piece that has other verdicts, and in the
-// end how many files are JSON.
+// The files that data/names lists, each after an RS, under data/book.txt with 64 frames: judged in one piece, and again in pieces of 1, 2, 3 and 7
+// bytes. A line for each verdict of a file, one more for each size of piece that has other entries, and in the end how many files are JSON.
 ghost use Prim.Native.Nat.{_<_, _≤_};
 ghost use lib.ListN.{length};
 ghost use Rattle.io.specs.Counts.{Counts};
-use crate::verdicts;
-use crate::verdicts::Stream;
-use crate::verdicts::Verdicts;
-use crate::verdicts::WORK;
+use crate::WORK;
+use crate::say;
+use crate::say::OUT;
+use entries::feeds;
 use libc::STDOUT_FILENO;
+use table::bytes;
 
-// The bytes, in pieces of the given size.
-fn feed_cut<'a>(
-    t: &'a [u8; 7920],
-    s: Stream,
-    work: &mut [u8],
-    bytes: &'a [u8],
-    size: usize,
-) -> Stream
-    requires { ⌜ 0 < size ⌝ }
-{
-    let mut now = s;
-    let mut i: usize = 0;
-    while i < bytes.len() {
-        if bytes.len() - i <= size {
-            return verdicts::feed_all(t, now, work, &bytes[i..]);
-        }
-        let e = i + size;
-        now = verdicts::feed_all(t, now, work, &bytes[i..e]);
-        i = e;
-    }
-    now
-}
+// More bytes than an RS and any file of data/ have.
+const SPACE: usize = 262144;
 
-// The content of an open file, of at most 1,024 buffers.
-fn feed_file(
-    t: &[u8; 7920],
-    s: Stream,
-    work: &mut [u8],
-    space: &mut [u8],
-    fd: i32,
-    size: usize,
-) -> Stream
-    requires { ⌜ 0 < size ⌝ }
+// The content of a file, as far as there is space. A file that cannot be read counts as empty, and says so.
+fn content(path: &[u8], space: &mut [u8]) -> usize
+    ensures { λ r. ⌜ Counts r (now (space .exit)) ⌝ }
 {
-    let mut now = s;
-    let mut turns: usize = 0;
-    while turns < 1024 {
-        let n = io::read_full(fd, space);
-        if n == 0 {
-            return now;
-        }
-        now = feed_cut(t, now, work, &space[..n], size);
-        turns += 1;
-    }
-    now
-}
-
-// The verdicts of a file in pieces of the given size. A file that cannot be read counts as empty, and a line says so.
-fn judge(t: &[u8; 7920], name: &[u8], size: usize, work: &mut [u8], space: &mut [u8]) -> Verdicts
-    requires { ⌜ 0 < size ⌝ }
-{
-    let began = verdicts::begin(t, work);
-    let s = verdicts::feed_all(t, began, work, b"\x1e");
-    let fd = os::open_read(name);
+    let fd = os::open_read(path);
     if fd < 0 {
-        os::fail(name);
-        return verdicts::end(t, s, work);
+        os::fail(path);
+        return 0;
     }
-    let last = feed_file(t, s, work, space, fd, size);
+    let n = io::read_full(fd, space);
     libc::close(fd);
-    verdicts::end(t, last, work)
+    n
 }
 
-// Says where pieces of the given size lead to other verdicts.
-fn compare(
-    t: &[u8; 7920],
+// Says where pieces of the given size lead to other entries than the whole.
+fn compare<'a>(
+    t: &'a [u8; 7920],
     name: &[u8],
+    stream: &'a [u8],
     size: usize,
-    whole: Verdicts,
-    work: &mut [u8],
-    space: &mut [u8],
-)
-    requires { ⌜ 0 < size ⌝ }
-{
-    let cut = judge(t, name, size, work, space);
-    if verdicts::same(whole, cut) {
-        return;
+    work: &mut [u8; WORK],
+    whole: &[u8; OUT],
+    made: usize,
+) {
+    let mut cut = [0u8; OUT];
+    let n = feeds::judge(t, stream, size, work, &mut cut);
+    if n == made {
+        if bytes::equal(whole, &cut) {
+            return;
+        }
     }
     io::write_all(STDOUT_FILENO, b"in pieces of ");
     io::print_decimal(STDOUT_FILENO, size as u64);
     io::write_all(STDOUT_FILENO, b": ");
-    verdicts::say_all(name, cut);
+    say::say_all(name, &cut, n);
 }
 
-// One file in small pieces.
-fn compare_all(t: &[u8; 7920], name: &[u8], whole: Verdicts, work: &mut [u8], space: &mut [u8]) {
-    compare(t, name, 1, whole, work, space);
-    compare(t, name, 2, whole, work, space);
-    compare(t, name, 3, whole, work, space);
-    compare(t, name, 7, whole, work, space);
+// The stream of a file: whether the file is JSON.
+fn run_stream<'a>(t: &'a [u8; 7920], name: &[u8], stream: &'a [u8], work: &mut [u8; WORK]) -> bool {
+    let mut whole = [0u8; OUT];
+    let made = feeds::judge(t, stream, 0, work, &mut whole);
+    say::say_all(name, &whole, made);
+    compare(t, name, stream, 1, work, &whole, made);
+    compare(t, name, stream, 2, work, &whole, made);
+    compare(t, name, stream, 3, work, &whole, made);
+    compare(t, name, stream, 7, work, &whole, made);
+    say::is_json(&whole, made)
 }
 
-// One file: whether it is JSON.
-fn run_file(t: &[u8; 7920], name: &[u8], work: &mut [u8], space: &mut [u8]) -> bool {
-    let whole = judge(t, name, 65536, work, space);
-    verdicts::say_all(name, whole);
-    compare_all(t, name, whole, work, space);
-    verdicts::is_json(whole)
+// The first byte of the space and n more as a stream.
+fn run_first<'a>(
+    t: &'a [u8; 7920],
+    name: &[u8],
+    space: &'a [u8],
+    n: usize,
+    work: &mut [u8; WORK],
+) -> bool {
+    if n < space.len() {
+        let end = n + 1;
+        return run_stream(t, name, &space[..end], work);
+    }
+    false
+}
+
+// One file, after the first byte of the space, which is an RS: whether the file is JSON.
+fn run_file(t: &[u8; 7920], name: &[u8], work: &mut [u8; WORK], space: &mut [u8]) -> bool {
+    if space.len() == 0 {
+        return false;
+    }
+    let n = content(name, &mut space[1..]);
+    run_first(t, name, space, n, work)
 }
 
 // Where a file is counted, by the first letter of its name: those that are JSON, then those that are not.
@@ -156,7 +132,7 @@ fn line_end(names: &[u8], at: usize) -> usize
 fn run_names(
     t: &[u8; 7920],
     names: &[u8],
-    work: &mut [u8],
+    work: &mut [u8; WORK],
     space: &mut [u8],
     counts: &mut [u32; 6],
 ) {
@@ -195,29 +171,16 @@ fn say_summary(counts: &[u32; 6]) {
     say_two(b"i_ JSON ", counts[4], b" and not ", counts[5]);
 }
 
-// The content of a file, as far as there is space.
-fn content(path: &[u8], space: &mut [u8]) -> usize
-    ensures { λ r. ⌜ Counts r (now (space .exit)) ⌝ }
-{
-    let fd = os::open_read(path);
-    if fd < 0 {
-        os::fail(path);
-        return 0;
-    }
-    let n = io::read_full(fd, space);
-    libc::close(fd);
-    n
-}
-
 // The files, and then the summary.
 pub fn run() {
-    let mut space = io::large_buffer();
-    let n = content(b"book.txt", &mut space);
-    let mut t = [0u8; 7920];
-    load::load(&space[..n], &mut t);
     let mut names = io::large_buffer();
+    let n = content(b"book.txt", &mut names);
+    let mut t = [0u8; 7920];
+    load::load(&names[..n], &mut t);
     let m = content(b"names", &mut names);
     let mut work = [0u8; WORK];
+    let mut space = [0u8; SPACE];
+    space[0] = 30;
     let mut counts = [0u32; 6];
     run_names(&t, &names[..m], &mut work, &mut space, &mut counts);
     say_summary(&counts);

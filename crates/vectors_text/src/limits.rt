@@ -2,7 +2,6 @@
 // and the bytes of the buffer.
 use crate::long;
 use crate::nest;
-use crate::verdicts::WORK;
 
 // Any tree of arrays, and of objects with the key a; strings and numbers in arrays.
 fn array_book(t: &mut [u8; 7920]) {
@@ -21,39 +20,37 @@ fn object_book(t: &mut [u8; 7920]) {
 }
 
 // Records that are JSON as long as they are not too long.
-fn sound_ones(t: &[u8; 7920], work: &mut [u8; WORK], space: &mut [u8; 65536]) {
-    long::run_three(t, work, space, b"string", b"[\"", b"a", b"\"]");
-    long::run_two(t, work, space, b"blanks-before", b"", b" ", b"[]");
-    long::run_two(t, work, space, b"blanks-behind", b"[]", b"\n", b"");
-    long::run_two(t, work, space, b"number", b"", b"1", b"");
-    long::run_three(t, work, space, b"array", b"[", b"1,", b"1]");
+fn sound_ones(t: &[u8; 7920]) {
+    long::run_three(t, b"string", b"\x1e[\"", b"a", b"\"]");
+    long::run_two(t, b"blanks-before", b"\x1e", b" ", b"[]");
+    long::run_two(t, b"blanks-behind", b"\x1e[]", b"\n", b"");
+    long::run_two(t, b"number", b"\x1e", b"1", b"");
+    long::run_three(t, b"array", b"\x1e[", b"1,", b"1]");
 }
 
 // Records whose last byte is a fault, that break off, or that are lost from the first bytes on.
-fn broken_ones(t: &[u8; 7920], work: &mut [u8; WORK], space: &mut [u8; 65536]) {
-    long::run_two(t, work, space, b"malformed-last", b"[", b" ", b"x");
-    long::run_two(t, work, space, b"malformed-first", b"x", b" ", b"");
+fn broken_ones(t: &[u8; 7920]) {
+    long::run_two(t, b"malformed-last", b"\x1e[", b" ", b"x");
+    long::run_two(t, b"malformed-first", b"\x1ex", b" ", b"");
     long::run_two(
         t,
-        work,
-        space,
         b"too-deep-last",
-        b"[[[[[[[[[[[[[[[[[[[[[[[[[[[[[[[[[[[[[[[[[[[[[[[[[[[[[[[[[[[[[[[[",
+        b"\x1e[[[[[[[[[[[[[[[[[[[[[[[[[[[[[[[[[[[[[[[[[[[[[[[[[[[[[[[[[[[[[[[[",
         b" ",
         b"[",
     );
-    long::run_two(t, work, space, b"too-deep-first", b"", b"[", b"");
-    long::run_two(t, work, space, b"broken-off", b"[\"", b"a", b"");
+    long::run_two(t, b"too-deep-first", b"\x1e", b"[", b"");
+    long::run_two(t, b"broken-off", b"\x1e[\"", b"a", b"");
 }
 
 // Buffers of k frames to the byte, with all but a byte of one more, and beyond 64 frames.
-fn buffers(t: &[u8; 7920], u: &[u8; 7920], work: &mut [u8; 2 * WORK]) {
-    nest::run_two(t, u, work, 96, 191, 1);
-    nest::run_two(t, u, work, 192, 287, 1);
-    nest::run_two(t, u, work, 5952, 6047, 61);
-    nest::run_two(t, u, work, 6048, 6143, 62);
-    nest::run_two(t, u, work, 6144, 6239, 63);
-    nest::run_two(t, u, work, 6240, 12288, 63);
+fn buffers(t: &[u8; 7920], u: &[u8; 7920]) {
+    nest::run_two(t, u, 96, 191, 1);
+    nest::run_two(t, u, 192, 287, 1);
+    nest::run_two(t, u, 5952, 6047, 61);
+    nest::run_two(t, u, 6048, 6143, 62);
+    nest::run_two(t, u, 6144, 6239, 63);
+    nest::run_two(t, u, 6240, 12288, 63);
 }
 
 // All records around the limits.
@@ -62,14 +59,10 @@ pub fn run() {
     array_book(&mut t);
     let mut u = [0u8; 7920];
     object_book(&mut u);
-    let mut large = [0u8; 2 * WORK];
-    buffers(&t, &u, &mut large);
+    buffers(&t, &u);
     nest::run_texts(&t);
-    nest::pairs(&t, &mut large);
-    let mut work = [0u8; WORK];
-    let mut space = [0u8; 65536];
-    sound_ones(&t, &mut work, &mut space);
-    broken_ones(&t, &mut work, &mut space);
-    long::pair(&t, &mut work, &mut space);
-    long::head(&t, &mut work, &mut space);
+    nest::pairs(&t);
+    sound_ones(&t);
+    broken_ones(&t);
+    long::pairs(&t);
 }

@@ -1,28 +1,75 @@
-// Records of many bytes, made from three parts: the first bytes, a unit over and over, the last bytes.
-use crate::verdicts;
-use crate::verdicts::Stream;
-use crate::verdicts::WORK;
+// Streams of many bytes, which no buffer holds: the first bytes, a unit over and over, the last bytes.
+ghost use Prim.Native.Nat.{_≤_};
+use crate::WORK;
+use crate::say;
+use crate::say::OUT;
+use entries::entry;
 use libc::STDOUT_FILENO;
+use reader::Answer;
+use reader::Reader;
 
 const BLOCK: usize = 65536;
 
-// The unit over and over, in a block.
-fn fill(space: &mut [u8; 65536], unit: &[u8]) {
-    if unit.len() == 0 {
-        return;
+// A stream under way: the reader, and how many entries there are.
+struct Stream {
+    reader: Reader,
+    made: usize,
+}
+
+// The entry of an answer, which tells no number of bytes read, and how many entries there are then; no more than 17 are counted.
+fn put(out: &mut [u8; OUT], made: usize, a: Answer) -> usize {
+    if 16 < made {
+        return made;
     }
-    let mut i: usize = 0;
-    while i < BLOCK {
-        space[i] = unit[i % unit.len()];
-        i += 1;
+    entry::put_answer(out, made, a, 0)
+}
+
+// The index after n bytes more; the end where there are not so many.
+fn further(at: usize, n: usize, len: usize) -> usize
+    ensures { λ r. ⌜ r ≤ len ⌝ }
+{
+    if at <= len {
+        if n <= len - at {
+            return at + n;
+        }
+    }
+    len
+}
+
+// The whole piece: what a feed leaves unread after a verdict is fed again. A refused feed reads nothing, and is the last.
+fn feed_all<'a>(
+    s: Stream,
+    t: &'a [u8; 7920],
+    work: &mut [u8; WORK],
+    out: &mut [u8; OUT],
+    piece: &'a [u8],
+) -> Stream {
+    let mut next = s.reader;
+    let mut made = s.made;
+    let mut at: usize = 0;
+    while at < piece.len() {
+        let x = reader::feed(next, t, work, &piece[at..]);
+        let a = x.answer;
+        next = x.reader;
+        made = put(out, made, a);
+        let end = further(at, x.count, piece.len());
+        if end <= at {
+            break;
+        }
+        at = end;
+    }
+    Stream {
+        reader: next,
+        made: made,
     }
 }
 
 // As many bytes as asked, of the block over and over.
 fn feed_many<'a>(
-    t: &'a [u8; 7920],
     s: Stream,
+    t: &'a [u8; 7920],
     work: &mut [u8; WORK],
+    out: &mut [u8; OUT],
     block: &'a [u8],
     n: usize,
 ) -> Stream {
@@ -32,105 +79,136 @@ fn feed_many<'a>(
     let mut now = s;
     let mut left = n;
     while block.len() <= left {
-        now = verdicts::feed_all(t, now, work, block);
+        now = feed_all(now, t, work, out, block);
         left -= block.len();
     }
-    verdicts::feed_all(t, now, work, &block[..left])
+    feed_all(now, t, work, out, &block[..left])
 }
 
-// A record of so many bytes; nothing where its first and last bytes are more.
-fn feed_long<'a>(
+fn begin<'a>(t: &'a [u8; 7920], work: &'a [u8; WORK], out: &mut [u8; OUT]) -> Stream {
+    let b = Reader::start(t, work);
+    let r = b.reader;
+    let a = b.answer;
+    Stream {
+        reader: r,
+        made: put(out, 0, a),
+    }
+}
+
+fn end<'a>(s: Stream, t: &'a [u8; 7920], work: &'a [u8; WORK], out: &mut [u8; OUT]) -> usize {
+    let r = s.reader;
+    let c = reader::close(r, t, work);
+    let a = c.answer;
+    put(out, s.made, a)
+}
+
+// The entries of a stream: the first bytes, then n bytes of the block over and over, then the last bytes.
+fn judge<'a>(
     t: &'a [u8; 7920],
-    s: Stream,
     work: &mut [u8; WORK],
-    bytes: usize,
+    out: &mut [u8; OUT],
     first: &'a [u8],
-    block: &'a [u8; 65536],
+    block: &'a [u8; BLOCK],
+    n: usize,
     last: &'a [u8],
-) -> Stream {
-    if bytes < first.len() {
-        return s;
-    }
-    let rest = bytes - first.len();
-    if rest < last.len() {
-        return s;
-    }
-    let begun = verdicts::feed_all(t, s, work, first);
-    let filled = feed_many(t, begun, work, block, rest - last.len());
-    verdicts::feed_all(t, filled, work, last)
+) -> usize {
+    let began = begin(t, work, out);
+    let open = feed_all(began, t, work, out, first);
+    let filled = feed_many(open, t, work, out, block, n);
+    let done = feed_all(filled, t, work, out, last);
+    end(done, t, work, out)
 }
 
-fn say_label(label: &[u8], bytes: usize) {
+// The unit over and over, in a block.
+fn fill(block: &mut [u8; BLOCK], unit: &[u8]) {
+    if unit.len() == 0 {
+        return;
+    }
+    let mut i: usize = 0;
+    while i < BLOCK {
+        block[i] = unit[i % unit.len()];
+        i += 1;
+    }
+}
+
+// A stream with 64 frames that has n bytes of the unit over and over between its first and its last bytes.
+fn run_stream<'a>(
+    t: &'a [u8; 7920],
+    label: &[u8],
+    first: &'a [u8],
+    unit: &[u8],
+    n: usize,
+    last: &'a [u8],
+) {
+    let mut block = [0u8; BLOCK];
+    fill(&mut block, unit);
+    let mut work = [0u8; WORK];
+    let mut out = [0u8; OUT];
+    let made = judge(t, &mut work, &mut out, first, &block, n, last);
+    say::say_all(label, &out, made);
+}
+
+// The bytes of a stream between its first and its last ones.
+fn between(bytes: usize, first: usize, last: usize) -> usize {
+    if first <= bytes {
+        let rest = bytes - first;
+        if last <= rest {
+            return rest - last;
+        }
+    }
+    0
+}
+
+// A record of so many bytes alone in its stream. The first bytes begin with its RS.
+fn run<'a>(
+    t: &'a [u8; 7920],
+    label: &[u8],
+    bytes: u32,
+    first: &'a [u8],
+    unit: &[u8],
+    last: &'a [u8],
+) {
     io::write_all(STDOUT_FILENO, label);
     io::write_all(STDOUT_FILENO, b"-");
     io::print_decimal(STDOUT_FILENO, bytes as u64);
-}
-
-// A record alone in its stream, with 64 frames.
-fn run<'a>(
-    t: &'a [u8; 7920],
-    work: &mut [u8; WORK],
-    space: &mut [u8; 65536],
-    label: &[u8],
-    bytes: usize,
-    first: &'a [u8],
-    unit: &[u8],
-    last: &'a [u8],
-) {
-    fill(space, unit);
-    let began = verdicts::begin(t, work);
-    let open = verdicts::feed_all(t, began, work, b"\x1e");
-    let s = feed_long(t, open, work, bytes, first, space, last);
-    let vs = verdicts::end(t, s, work);
-    say_label(label, bytes);
-    verdicts::say_all(b"", vs);
+    let n = between(bytes as usize + 1, first.len(), last.len());
+    run_stream(t, b"", first, unit, n, last);
 }
 
 // A record of as many bytes as a record can have, and one of a byte more.
-pub fn run_two<'a>(
-    t: &'a [u8; 7920],
-    work: &mut [u8; WORK],
-    space: &mut [u8; 65536],
-    label: &[u8],
-    first: &'a [u8],
-    unit: &[u8],
-    last: &'a [u8],
-) {
-    run(t, work, space, label, 16777216, first, unit, last);
-    run(t, work, space, label, 16777217, first, unit, last);
+pub fn run_two<'a>(t: &'a [u8; 7920], label: &[u8], first: &'a [u8], unit: &[u8], last: &'a [u8]) {
+    run(t, label, 16777216, first, unit, last);
+    run(t, label, 16777217, first, unit, last);
 }
 
 // A record of a byte less than a record can have, one of as many, and one of a byte more.
 pub fn run_three<'a>(
     t: &'a [u8; 7920],
-    work: &mut [u8; WORK],
-    space: &mut [u8; 65536],
     label: &[u8],
     first: &'a [u8],
     unit: &[u8],
     last: &'a [u8],
 ) {
-    run(t, work, space, label, 16777215, first, unit, last);
-    run_two(t, work, space, label, first, unit, last);
+    run(t, label, 16777215, first, unit, last);
+    run_two(t, label, first, unit, last);
 }
 
-// A record that is too long, and one after it.
-pub fn pair(t: &[u8; 7920], work: &mut [u8; WORK], space: &mut [u8; 65536]) {
-    fill(space, b"[\"a\",1],");
-    let began = verdicts::begin(t, work);
-    let open = verdicts::feed_all(t, began, work, b"\x1e[");
-    let s = feed_many(t, open, work, space, 16777216);
-    let last = verdicts::feed_all(t, s, work, b"\x1e[\"a\",1]");
-    let vs = verdicts::end(t, last, work);
-    verdicts::say_all(b"too-long-then-sound", vs);
-}
-
-// A head that would be too long for a record, and a record after it.
-pub fn head(t: &[u8; 7920], work: &mut [u8; WORK], space: &mut [u8; 65536]) {
-    fill(space, b" ");
-    let began = verdicts::begin(t, work);
-    let s = feed_many(t, began, work, space, 16777217);
-    let last = verdicts::feed_all(t, s, work, b"\x1e[\"a\",1]");
-    let vs = verdicts::end(t, last, work);
-    verdicts::say_all(b"long-head-then-sound", vs);
+// A record that is too long, and a head that would be too long for a record, each with a record after it.
+pub fn pairs(t: &[u8; 7920]) {
+    run_stream(
+        t,
+        b"too-long-then-sound",
+        b"\x1e[",
+        b"[\"a\",1],",
+        16777216,
+        b"\x1e[\"a\",1]",
+    );
+    run_stream(
+        t,
+        b"long-head-then-sound",
+        b"",
+        b" ",
+        16777217,
+        b"\x1e[\"a\",1]",
+    );
 }

@@ -4,8 +4,12 @@ mod files; // files.rt: the files of data/
 mod limits; // limits.rt: the records around the limits
 mod long; // long.rt: records of many bytes
 mod nest; // nest.rt: records of many levels
-mod say; // say.rt: a verdict on a line
-mod verdicts; // verdicts.rt: the verdicts of a stream
+mod say; // say.rt: entries on lines
+
+use reader::Reader;
+
+// The bytes of as many frames as there can be levels.
+pub const WORK: usize = Reader::FRAME * Reader::LEVELS;
 
 fn main() {
     files::run();

@@ -1,9 +1,13 @@
 // Records of many levels: arrays, objects, and arrays and objects in turn, all closed or all left open.
-use crate::verdicts;
-use crate::verdicts::Stream;
-use crate::verdicts::WORK;
+use crate::WORK;
+use crate::say;
+use crate::say::OUT;
+use entries::feeds;
 use libc::STDOUT_FILENO;
 use reader::Reader;
+
+// More bytes than any stream here has.
+const TEXT: usize = 2048;
 
 pub enum Shape {
     Arrays,
@@ -20,42 +24,66 @@ fn is_object(shape: Shape, i: usize) -> bool {
     }
 }
 
-// Opens a level: an object gets a key where another level comes.
-fn open_level(t: &[u8; 7920], s: Stream, work: &mut [u8], object: bool, innermost: bool) -> Stream {
-    if object {
-        if innermost {
-            return verdicts::feed_all(t, s, work, b"{");
-        }
-        return verdicts::feed_all(t, s, work, b"{\"a\":");
-    }
-    verdicts::feed_all(t, s, work, b"[")
-}
-
-fn close_level(t: &[u8; 7920], s: Stream, work: &mut [u8], object: bool) -> Stream {
-    if object {
-        return verdicts::feed_all(t, s, work, b"}");
-    }
-    verdicts::feed_all(t, s, work, b"]")
-}
-
-fn open_levels(t: &[u8; 7920], s: Stream, work: &mut [u8], shape: Shape, levels: usize) -> Stream {
-    let mut now = s;
+// Puts bytes into the text from an index on, as many as it has room for, and gives the index after them.
+fn put(text: &mut [u8; TEXT], at: usize, bytes: &[u8]) -> usize {
+    let mut end = at;
     let mut i: usize = 0;
-    while i < levels {
-        now = open_level(t, now, work, is_object(shape, i), levels - i == 1);
+    while i < bytes.len() {
+        if end < TEXT {
+            text[end] = bytes[i];
+            end += 1;
+        }
         i += 1;
     }
-    now
+    end
 }
 
-fn close_levels(t: &[u8; 7920], s: Stream, work: &mut [u8], shape: Shape, levels: usize) -> Stream {
-    let mut now = s;
+// Opens a level: an object gets a key where another level comes.
+fn open_level(text: &mut [u8; TEXT], at: usize, object: bool, innermost: bool) -> usize {
+    if object {
+        if innermost {
+            return put(text, at, b"{");
+        }
+        return put(text, at, b"{\"a\":");
+    }
+    put(text, at, b"[")
+}
+
+fn close_level(text: &mut [u8; TEXT], at: usize, object: bool) -> usize {
+    if object {
+        return put(text, at, b"}");
+    }
+    put(text, at, b"]")
+}
+
+fn open_levels(text: &mut [u8; TEXT], at: usize, shape: Shape, levels: usize) -> usize {
+    let mut end = at;
+    let mut i: usize = 0;
+    while i < levels {
+        end = open_level(text, end, is_object(shape, i), levels - i == 1);
+        i += 1;
+    }
+    end
+}
+
+fn close_levels(text: &mut [u8; TEXT], at: usize, shape: Shape, levels: usize) -> usize {
+    let mut end = at;
     let mut i = levels;
     while 0 < i {
         i -= 1;
-        now = close_level(t, now, work, is_object(shape, i));
+        end = close_level(text, end, is_object(shape, i));
     }
-    now
+    end
+}
+
+// Judges the first n bytes of the text as a stream, and says its entries after a label.
+fn judge<'a>(t: &'a [u8; 7920], work: &mut [u8], text: &'a [u8; TEXT], n: usize, label: &[u8]) {
+    let all: &[u8] = text;
+    if n <= all.len() {
+        let mut out = [0u8; OUT];
+        let made = feeds::judge(t, &all[..n], 0, work, &mut out);
+        say::say_all(label, &out, made);
+    }
 }
 
 fn say_shape(shape: Shape) {
@@ -74,28 +102,16 @@ fn say_label(shape: Shape, levels: usize, end: &[u8], size: usize) {
     io::print_decimal(STDOUT_FILENO, size as u64);
 }
 
-// A stream that ends here.
-fn say_end<'a>(
-    t: &'a [u8; 7920],
-    s: Stream,
-    work: &'a [u8],
-    shape: Shape,
-    levels: usize,
-    end: &[u8],
-) {
-    let vs = verdicts::end(t, s, work);
-    say_label(shape, levels, end, work.len());
-    verdicts::say_all(b"", vs);
-}
-
-// A record of so many levels, alone in its stream: left open, and closed. A close leaves the buffer, so the second goes on where the first ended.
+// A record of so many levels, alone in its stream: left open, and closed.
 fn run_shape(t: &[u8; 7920], work: &mut [u8], shape: Shape, levels: usize) {
-    let began = verdicts::begin(t, work);
-    let first = verdicts::feed_all(t, began, work, b"\x1e");
-    let open = open_levels(t, first, work, shape, levels);
-    say_end(t, open, work, shape, levels, b"-open-");
-    let closed = close_levels(t, open, work, shape, levels);
-    say_end(t, closed, work, shape, levels, b"-closed-");
+    let mut text = [0u8; TEXT];
+    let first = put(&mut text, 0, b"\x1e");
+    let open = open_levels(&mut text, first, shape, levels);
+    say_label(shape, levels, b"-open-", work.len());
+    judge(t, work, &text, open, b"");
+    let closed = close_levels(&mut text, open, shape, levels);
+    say_label(shape, levels, b"-closed-", work.len());
+    judge(t, work, &text, closed, b"");
 }
 
 // Records of each number of levels from the least to below the other.
@@ -109,64 +125,57 @@ fn run_levels(t: &[u8; 7920], u: &[u8; 7920], work: &mut [u8], least: usize, oth
     }
 }
 
-// Records of each number of levels from the least to below the other, on the first bytes of the buffer.
-fn run(t: &[u8; 7920], u: &[u8; 7920], work: &mut [u8], size: usize, least: usize, other: usize) {
-    if size <= work.len() {
-        run_levels(t, u, &mut work[..size], least, other);
+// Four numbers of levels on a buffer of so many bytes.
+fn run(t: &[u8; 7920], u: &[u8; 7920], size: usize, least: u8) {
+    let mut work = [0u8; 2 * WORK];
+    let levels = least as usize;
+    if size <= 2 * WORK {
+        run_levels(t, u, &mut work[..size], levels, levels + 4);
     }
 }
 
-// Four numbers of levels on buffers of two sizes.
-pub fn run_two(
-    t: &[u8; 7920],
-    u: &[u8; 7920],
-    work: &mut [u8],
-    size: usize,
-    larger: usize,
-    least: u8,
-) {
-    let levels = least as usize;
-    run(t, u, work, size, levels, levels + 4);
-    run(t, u, work, larger, levels, levels + 4);
+// The same on buffers of two sizes.
+pub fn run_two(t: &[u8; 7920], u: &[u8; 7920], size: usize, larger: usize, least: u8) {
+    run(t, u, size, least);
+    run(t, u, larger, least);
 }
 
-// A text on one frame, which is its own label.
-fn run_text<'a>(t: &'a [u8; 7920], work: &mut [u8; Reader::FRAME], text: &'a [u8]) {
-    let began = verdicts::begin(t, work);
-    let first = verdicts::feed_all(t, began, work, b"\x1e");
-    let last = verdicts::feed_all(t, first, work, text);
-    let vs = verdicts::end(t, last, work);
-    verdicts::say_all(text, vs);
+// A record on one frame, which is its own label.
+fn run_text(t: &[u8; 7920], record: &[u8]) {
+    let mut work = [0u8; Reader::FRAME];
+    let mut text = [0u8; TEXT];
+    let first = put(&mut text, 0, b"\x1e");
+    let n = put(&mut text, first, record);
+    judge(t, &mut work, &text, n, record);
 }
 
 // Second openings on one frame: too deep where a value can stand, malformed where none can.
 pub fn run_texts(t: &[u8; 7920]) {
-    let mut work = [0u8; Reader::FRAME];
-    run_text(t, &mut work, b"[[");
-    run_text(t, &mut work, b"[{");
-    run_text(t, &mut work, b"{[");
-    run_text(t, &mut work, b"{\"a\"[");
-    run_text(t, &mut work, b"{\"a\":[");
-    run_text(t, &mut work, b"[1[");
-    run_text(t, &mut work, b"[]{");
+    run_text(t, b"[[");
+    run_text(t, b"[{");
+    run_text(t, b"{[");
+    run_text(t, b"{\"a\"[");
+    run_text(t, b"{\"a\":[");
+    run_text(t, b"[1[");
+    run_text(t, b"[]{");
 }
 
 // Arrays left open, and after them 64 that are closed.
-fn pair(t: &[u8; 7920], work: &mut [u8; 2 * WORK], label: &[u8], levels: usize) {
-    let began = verdicts::begin(t, work);
-    let first = verdicts::feed_all(t, began, work, b"\x1e");
-    let open = open_levels(t, first, work, Shape::Arrays, levels);
-    let second = verdicts::feed_all(t, open, work, b"\x1e");
-    let inside = open_levels(t, second, work, Shape::Arrays, 64);
-    let last = close_levels(t, inside, work, Shape::Arrays, 64);
-    let vs = verdicts::end(t, last, work);
-    verdicts::say_all(label, vs);
+fn pair(t: &[u8; 7920], label: &[u8], levels: usize) {
+    let mut work = [0u8; WORK];
+    let mut text = [0u8; TEXT];
+    let first = put(&mut text, 0, b"\x1e");
+    let open = open_levels(&mut text, first, Shape::Arrays, levels);
+    let second = put(&mut text, open, b"\x1e");
+    let inside = open_levels(&mut text, second, Shape::Arrays, 64);
+    let n = close_levels(&mut text, inside, Shape::Arrays, 64);
+    judge(t, &mut work, &text, n, label);
 }
 
 // A record that fails, and one after it: the second is judged as it is alone.
-pub fn pairs(t: &[u8; 7920], work: &mut [u8; 2 * WORK]) {
-    pair(t, work, b"alone", 0);
-    pair(t, work, b"broken-off-then-sound", 64);
-    pair(t, work, b"too-deep-then-sound", 65);
-    pair(t, work, b"far-too-deep-then-sound", 1000);
+pub fn pairs(t: &[u8; 7920]) {
+    pair(t, b"alone", 0);
+    pair(t, b"broken-off-then-sound", 64);
+    pair(t, b"too-deep-then-sound", 65);
+    pair(t, b"far-too-deep-then-sound", 1000);
 }

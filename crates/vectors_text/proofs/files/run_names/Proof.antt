@@ -7,7 +7,7 @@ use Rattle.vectors_text.proofs.files.run_names.Statement.{statement}
 use Rattle.vectors_text.proofs.files.run_names.Tie as tie
 
 abbrev Inv-loop : tie.InvT-loop
-Inv-loop t names work₀ space₀ counts₀ at₀ work space counts at = (at ≤ length names) × (length work ≡ length work₀) × (length space ≡ length space₀)
+Inv-loop t names work₀ space₀ counts₀ at₀ work space counts at = (at ≤ length names) × (length space ≡ length space₀)
 
 abbrev μ-loop : tie.MeasureT-loop
 μ-loop t names work₀ space₀ counts₀ at₀ work space counts at = length names - at
@@ -16,5 +16,5 @@ pub run-names-spec : {M : Type 1} → statement M
 run-names-spec =
     tie.close
     (tie.spec Inv-loop μ-loop (λ c. search needs) (λ c κs. search needs) (λ c. search needs) (λ c. search needs) (λ c. search needs)
-    (λ c. search needs) (λ c. search needs) (λ c. search needs) (λ c κs. search needs) (λ c. search needs) (λ c κs. search needs) (λ c. search needs)
-    (λ c. search needs) (λ c. search needs) (λ c. search needs) (λ c. search needs) (λ c. search needs))
+    (λ c. search needs) (λ c. search needs) (λ c κs. search needs) (λ c. search needs) (λ c κs. search needs) (λ c. search needs) (λ c. search needs)
+    (λ c. search needs) (λ c. search needs) (λ c. search needs))

@@ -9,13 +9,13 @@ use Rattle.vectors_text.proofs.long.feed_many.Statement.{statement}
 use Rattle.vectors_text.proofs.long.feed_many.Tie as tie
 
 abbrev Inv-loop : tie.InvT-loop
-Inv-loop t work₀ block n now₀ left₀ work now left = (left ≤ n) × (length work ≡ length work₀)
+Inv-loop t work₀ out₀ block n now₀ left₀ work out now left = (left ≤ n)
 
 abbrev μ-loop : tie.MeasureT-loop
-μ-loop t work₀ block n now₀ left₀ work now left = left
+μ-loop t work₀ out₀ block n now₀ left₀ work out now left = left
 
 slice-aggregate-feed-all : tie.Need-slice-aggregate-feed-all Inv-loop μ-loop
-slice-aggregate-feed-all c = sym (length-take-le _ _ (omega (arith, c .before .before .loop-test .left)))
+slice-aggregate-feed-all c = sym (length-take-le _ _ (omega arith))
 
 pub feed-many-spec : {M : Type 1} → statement M
 feed-many-spec =

@@ -180,7 +180,7 @@ pub fn run() {
     let m = content(b"names", &mut names);
     let mut work = [0u8; WORK];
     let mut space = [0u8; SPACE];
-    space[0] = 30;
+    space[0] = 0x1E;
     let mut counts = [0u32; 6];
     run_names(&t, &names[..m], &mut work, &mut space, &mut counts);
     say_summary(&counts);

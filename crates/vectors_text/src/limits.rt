@@ -21,26 +21,26 @@ fn object_book(t: &mut [u8; 7920]) {
 
 // Records that are JSON as long as they are not too long.
 fn sound_ones(t: &[u8; 7920]) {
-    long::run_three(t, b"string", b"\x1e[\"", b"a", b"\"]");
-    long::run_two(t, b"blanks-before", b"\x1e", b" ", b"[]");
-    long::run_two(t, b"blanks-behind", b"\x1e[]", b"\n", b"");
-    long::run_two(t, b"number", b"\x1e", b"1", b"");
-    long::run_three(t, b"array", b"\x1e[", b"1,", b"1]");
+    long::run_three(t, b"string", b"\x1e[\"a\"]", 3, 4);
+    long::run_two(t, b"blanks-before", b"\x1e []", 1, 2);
+    long::run_two(t, b"blanks-behind", b"\x1e[]\n", 3, 4);
+    long::run_two(t, b"number", b"\x1e1", 1, 2);
+    long::run_three(t, b"array", b"\x1e[1,1]", 2, 4);
 }
 
-// Records whose last byte is a fault, that break off, or that are lost from the first bytes on.
+// Records whose last byte is a fault, that are lost from the first bytes on, or that break off.
 fn broken_ones(t: &[u8; 7920]) {
-    long::run_two(t, b"malformed-last", b"\x1e[", b" ", b"x");
-    long::run_two(t, b"malformed-first", b"\x1ex", b" ", b"");
+    long::run_two(t, b"malformed-last", b"\x1e[ x", 2, 3);
+    long::run_two(t, b"malformed-first", b"\x1ex ", 2, 3);
     long::run_two(
         t,
         b"too-deep-last",
-        b"\x1e[[[[[[[[[[[[[[[[[[[[[[[[[[[[[[[[[[[[[[[[[[[[[[[[[[[[[[[[[[[[[[[[",
-        b" ",
-        b"[",
+        b"\x1e[[[[[[[[[[[[[[[[[[[[[[[[[[[[[[[[[[[[[[[[[[[[[[[[[[[[[[[[[[[[[[[[ [",
+        65,
+        66,
     );
-    long::run_two(t, b"too-deep-first", b"\x1e", b"[", b"");
-    long::run_two(t, b"broken-off", b"\x1e[\"", b"a", b"");
+    long::run_two(t, b"too-deep-first", b"\x1e[", 1, 2);
+    long::run_two(t, b"broken-off", b"\x1e[\"a", 3, 4);
 }
 
 // Buffers of k frames to the byte, with all but a byte of one more, and beyond 64 frames.
@@ -53,7 +53,7 @@ fn buffers(t: &[u8; 7920], u: &[u8; 7920]) {
     nest::run_two(t, u, 6240, 12288, 63);
 }
 
-// All records around the limits.
+// All of them.
 pub fn run() {
     let mut t = [0u8; 7920];
     array_book(&mut t);

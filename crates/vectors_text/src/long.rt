@@ -1,4 +1,4 @@
-// Streams of many bytes, which no buffer holds: the first bytes, a unit over and over, the last bytes.
+// Streams of many bytes, which no buffer holds: a text in which one unit stands over and over.
 ghost use Prim.Native.Nat.{_≤_};
 use crate::WORK;
 use crate::say;
@@ -131,66 +131,54 @@ fn fill(block: &mut [u8; BLOCK], unit: &[u8]) {
     }
 }
 
-// A stream with 64 frames that has n bytes of the unit over and over between its first and its last bytes.
+// A stream with 64 frames: the text, with n bytes of a unit over and over in place of the unit, which stands from the index at to the index end.
 fn run_stream<'a>(
     t: &'a [u8; 7920],
     label: &[u8],
-    first: &'a [u8],
-    unit: &[u8],
+    text: &'a [u8],
+    at: usize,
+    end: usize,
     n: usize,
-    last: &'a [u8],
 ) {
-    let mut block = [0u8; BLOCK];
-    fill(&mut block, unit);
-    let mut work = [0u8; WORK];
-    let mut out = [0u8; OUT];
-    let made = judge(t, &mut work, &mut out, first, &block, n, last);
-    say::say_all(label, &out, made);
+    if at <= end {
+        if end <= text.len() {
+            let mut block = [0u8; BLOCK];
+            fill(&mut block, &text[at..end]);
+            let mut work = [0u8; WORK];
+            let mut out = [0u8; OUT];
+            let made = judge(t, &mut work, &mut out, &text[..at], &block, n, &text[end..]);
+            say::say_all(label, &out, made);
+        }
+    }
 }
 
-// The bytes of a stream between its first and its last ones.
-fn between(bytes: usize, first: usize, last: usize) -> usize {
-    if first <= bytes {
-        let rest = bytes - first;
-        if last <= rest {
-            return rest - last;
-        }
+// The difference, and 0 where there is none.
+fn minus(a: usize, b: usize) -> usize {
+    if b <= a {
+        return a - b;
     }
     0
 }
 
-// A record of so many bytes alone in its stream. The first bytes begin with its RS.
-fn run<'a>(
-    t: &'a [u8; 7920],
-    label: &[u8],
-    bytes: u32,
-    first: &'a [u8],
-    unit: &[u8],
-    last: &'a [u8],
-) {
+// A record of so many bytes alone in its stream. The text begins with its RS.
+fn run<'a>(t: &'a [u8; 7920], label: &[u8], bytes: u32, text: &'a [u8], at: usize, end: usize) {
     io::write_all(STDOUT_FILENO, label);
     io::write_all(STDOUT_FILENO, b"-");
     io::print_decimal(STDOUT_FILENO, bytes as u64);
-    let n = between(bytes as usize + 1, first.len(), last.len());
-    run_stream(t, b"", first, unit, n, last);
+    let n = minus(minus(bytes as usize + 1, at), minus(text.len(), end));
+    run_stream(t, b"", text, at, end, n);
 }
 
 // A record of as many bytes as a record can have, and one of a byte more.
-pub fn run_two<'a>(t: &'a [u8; 7920], label: &[u8], first: &'a [u8], unit: &[u8], last: &'a [u8]) {
-    run(t, label, 16777216, first, unit, last);
-    run(t, label, 16777217, first, unit, last);
+pub fn run_two<'a>(t: &'a [u8; 7920], label: &[u8], text: &'a [u8], at: usize, end: usize) {
+    run(t, label, 16777216, text, at, end);
+    run(t, label, 16777217, text, at, end);
 }
 
-// A record of a byte less than a record can have, one of as many, and one of a byte more.
-pub fn run_three<'a>(
-    t: &'a [u8; 7920],
-    label: &[u8],
-    first: &'a [u8],
-    unit: &[u8],
-    last: &'a [u8],
-) {
-    run(t, label, 16777215, first, unit, last);
-    run_two(t, label, first, unit, last);
+// The same, with one of a byte less before them.
+pub fn run_three<'a>(t: &'a [u8; 7920], label: &[u8], text: &'a [u8], at: usize, end: usize) {
+    run(t, label, 16777215, text, at, end);
+    run_two(t, label, text, at, end);
 }
 
 // A record that is too long, and a head that would be too long for a record, each with a record after it.
@@ -198,17 +186,17 @@ pub fn pairs(t: &[u8; 7920]) {
     run_stream(
         t,
         b"too-long-then-sound",
-        b"\x1e[",
-        b"[\"a\",1],",
+        b"\x1e[[\"a\",1],\x1e[\"a\",1]",
+        2,
+        10,
         16777216,
-        b"\x1e[\"a\",1]",
     );
     run_stream(
         t,
         b"long-head-then-sound",
-        b"",
-        b" ",
+        b" \x1e[\"a\",1]",
+        0,
+        1,
         16777217,
-        b"\x1e[\"a\",1]",
     );
 }

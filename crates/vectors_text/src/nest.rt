@@ -56,8 +56,9 @@ fn close_level(text: &mut [u8; TEXT], at: usize, object: bool) -> usize {
     put(text, at, b"]")
 }
 
+// An RS, and the openings of so many levels.
 fn open_levels(text: &mut [u8; TEXT], at: usize, shape: Shape, levels: usize) -> usize {
-    let mut end = at;
+    let mut end = put(text, at, b"\x1e");
     let mut i: usize = 0;
     while i < levels {
         end = open_level(text, end, is_object(shape, i), levels - i == 1);
@@ -95,23 +96,30 @@ fn say_shape(shape: Shape) {
     ;
 }
 
-fn say_label(shape: Shape, levels: usize, end: &[u8], size: usize) {
+// The first n bytes of the text as a stream, after its label.
+fn run_end<'a>(
+    t: &'a [u8; 7920],
+    work: &mut [u8],
+    text: &'a [u8; TEXT],
+    n: usize,
+    shape: Shape,
+    levels: usize,
+    end: &[u8],
+) {
     say_shape(shape);
     io::print_decimal(STDOUT_FILENO, levels as u64);
     io::write_all(STDOUT_FILENO, end);
-    io::print_decimal(STDOUT_FILENO, size as u64);
+    io::print_decimal(STDOUT_FILENO, work.len() as u64);
+    judge(t, work, text, n, b"");
 }
 
 // A record of so many levels, alone in its stream: left open, and closed.
 fn run_shape(t: &[u8; 7920], work: &mut [u8], shape: Shape, levels: usize) {
     let mut text = [0u8; TEXT];
-    let first = put(&mut text, 0, b"\x1e");
-    let open = open_levels(&mut text, first, shape, levels);
-    say_label(shape, levels, b"-open-", work.len());
-    judge(t, work, &text, open, b"");
+    let open = open_levels(&mut text, 0, shape, levels);
+    run_end(t, work, &text, open, shape, levels, b"-open-");
     let closed = close_levels(&mut text, open, shape, levels);
-    say_label(shape, levels, b"-closed-", work.len());
-    judge(t, work, &text, closed, b"");
+    run_end(t, work, &text, closed, shape, levels, b"-closed-");
 }
 
 // Records of each number of levels from the least to below the other.
@@ -164,10 +172,8 @@ pub fn run_texts(t: &[u8; 7920]) {
 fn pair(t: &[u8; 7920], label: &[u8], levels: usize) {
     let mut work = [0u8; WORK];
     let mut text = [0u8; TEXT];
-    let first = put(&mut text, 0, b"\x1e");
-    let open = open_levels(&mut text, first, Shape::Arrays, levels);
-    let second = put(&mut text, open, b"\x1e");
-    let inside = open_levels(&mut text, second, Shape::Arrays, 64);
+    let open = open_levels(&mut text, 0, Shape::Arrays, levels);
+    let inside = open_levels(&mut text, open, Shape::Arrays, 64);
     let n = close_levels(&mut text, inside, Shape::Arrays, 64);
     judge(t, &mut work, &text, n, label);
 }

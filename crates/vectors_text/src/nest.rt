@@ -170,7 +170,7 @@ pub fn run_texts(t: &[u8; 7920]) {
 
 // Arrays left open, and after them 64 that are closed.
 fn pair(t: &[u8; 7920], label: &[u8], levels: usize) {
-    let mut work = [0u8; WORK];
+    let mut work = [0u8; 2 * WORK];
     let mut text = [0u8; TEXT];
     let open = open_levels(&mut text, 0, Shape::Arrays, levels);
     let inside = open_levels(&mut text, open, Shape::Arrays, 64);

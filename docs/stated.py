@@ -1,6 +1,6 @@
 """Holds STATED.md, CLAIMS.md and DEVELOPING.md against the heads of the files in crates/*/specs/ and the code.
 
-A head says either Stated or Derived. STATED.md lists the stated files, each with its lines. A stated file uses definitions of stated files
+A head says either Stated or Derived. STATED.md lists the stated files, each with its lines, and none uses one that stands later. A stated file uses definitions of stated files
 alone, but for the names that STATED.md lists as standing for what the code gives. The column 'stated in' of CLAIMS.md names stated files alone.
 DEVELOPING.md lists the functions with a `requires` that another crate can name.
 Prints what is not so, and ends with status 1 where anything is not."""
@@ -53,6 +53,12 @@ for name in sorted(stated ^ set(listed)):
 for name in sorted(stated & set(listed)):
     if len(texts[name].splitlines()) != listed[name]:
         wrong.append(f"STATED.md: {name} has {len(texts[name].splitlines())} lines")
+
+places = list(listed)
+for place, name in enumerate(places):
+    for other, _ in uses(texts.get(name, ""), name):
+        if other in places[place + 1:]:
+            wrong.append(f"STATED.md: {name} uses {other}, which stands later")
 
 allowed = {}
 for name, names in re.findall(r"^\| `(\w+/specs/\w+\.antt)` \| ([^|]*) \|", names_part, re.M):

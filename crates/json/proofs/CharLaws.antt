@@ -15,7 +15,10 @@ use Rattle.json.specs.Lexer.{unescape, hexOf, leadBits, tailBits, hexBit
 use Rattle.json.specs.declared.string.StringMode.{StringMode}
 use Rattle.json.specs.declared.string.StringMode.the-variants as S
 use Rattle.json.proofs.ByteLaws.{low-of-within, high-of-within, within-of-le, outside-of-not-within}
-use Rattle.json.proofs.StringLaws.{value-of-hex, lt-of-hex, hex-of-lt, Goes, backslash, lead-C2, lead-E0, lead-E1, lead-ED, lead-EE, lead-F0, lead-F1, lead-F4, second-E0, second-ED, second-F0, second-F4, tail-2, tail-3, letter-u, digit-1, digit-1D, digit-2, digit-2-below, digit-2-high, digit-3, high-3, high-4, low-backslash, low-u, low-1, low-2, low-3, Ends, plain, after-backslash, digit-4, low-4, tail-1}
+use Rattle.json.proofs.StringLaws.{value-of-hex, lt-of-hex, hex-of-lt, Goes, backslash, lead-C2, lead-E0, lead-E1, lead-ED, lead-EE, lead-F0}
+use Rattle.json.proofs.StringLaws.{lead-F1, lead-F4, second-E0, second-ED, second-F0, second-F4, tail-2, tail-3, letter-u, digit-1, digit-1D}
+use Rattle.json.proofs.StringLaws.{digit-2, digit-2-below, digit-2-high, digit-3, high-3, high-4, low-backslash, low-u, low-1, low-2, low-3}
+use Rattle.json.proofs.StringLaws.{Ends, plain, after-backslash, digit-4, low-4, tail-1}
 
 -- the bytes, from a mode with its registers on, are the rest of a string with these characters, up to and with its closing quotation mark
 pub data Continues : StringMode → ℕ → ℕ → List ℕ → List ℕ → List ℕ → Type 0 where

@@ -35,7 +35,10 @@ use Rattle.json.specs.declared.lexer.Step.{Step}
 use Rattle.json.proofs.NumberLaws.{NumberFrom, ends-here, goes-on, Starts, starts-minus, starts-zero, starts-int, begun, Moved, moved-fault, moved-end, moved-go, moved, number-of-from}
 use Rattle.json.proofs.StringLaws.{Moved as StringMoved, moved-fault as string-fault, moved-close, moved-go as string-go, moved-char, moved as string-moved}
 use Rattle.json.proofs.CharLaws.{Continues, closes, goes, ends, chars-of-continues}
-use Rattle.json.proofs.Phrases.{Ending, ending, blank-ending, FromValue, from-word, from-string, from-number, from-array, from-object, AtValue, blank-value, here-value, AtFirstElement, blank-first, close-first, value-first, AfterElement, blank-element, close-array, comma-element, AtFirstKey, blank-first-key, close-first-key, quote-first-key, AtKey, blank-key, quote-key, AtColon, blank-colon, here-colon, AfterPair, blank-pair, close-object, comma-pair, text-of-phrase}
+use Rattle.json.proofs.Phrases.{Ending, ending, blank-ending, FromValue, from-word, from-string, from-number, from-array, from-object, AtValue}
+use Rattle.json.proofs.Phrases.{blank-value, here-value, AtFirstElement, blank-first, close-first, value-first, AfterElement, blank-element}
+use Rattle.json.proofs.Phrases.{close-array, comma-element, AtFirstKey, blank-first-key, close-first-key, quote-first-key, AtKey, blank-key}
+use Rattle.json.proofs.Phrases.{quote-key, AtColon, blank-colon, here-colon, AfterPair, blank-pair, close-object, comma-pair, text-of-phrase}
 use Rattle.json.proofs.Accepted.{ends-none, topOf-finish}
 use Rattle.json.specs.Proper.{Opened, ProperAt, Proper}
 use Rattle.json.proofs.ProperLaws.{proper-step}

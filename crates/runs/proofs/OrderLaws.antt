@@ -4,7 +4,10 @@ use mathlib.Core.Logic.{_⊎_, inl, inr}
 use mathlib.Core.Path.{_≡_, refl, subst}
 use Prim.Native.Nat.{ℕ}
 use Rattle.json.specs.Tree.{Json, word, string, number, array, object, Values, no-values, values, Pairs, no-pairs, pairs}
-use Rattle.runs.specs.Runs.{Insert, in-front, behind, Order, order-word, order-string, order-number, order-array, order-object, OrderValues, order-no-values, order-values, OrderPairs, order-no-pairs, order-pairs, Among, first, later, KeyTwice, first-again, later-twice, Within, itself, in-array, in-object, WithinValues, in-element, in-later-element, WithinPairs, in-pair, in-later-pair, KeysOnce}
+use Rattle.runs.specs.Runs.{Insert, in-front, behind, Order, order-word, order-string, order-number, order-array, order-object, OrderValues}
+use Rattle.runs.specs.Runs.{order-no-values, order-values, OrderPairs, order-no-pairs, order-pairs, Among, first, later, KeyTwice, first-again}
+use Rattle.runs.specs.Runs.{later-twice, Within, itself, in-array, in-object, WithinValues, in-element, in-later-element, WithinPairs, in-pair}
+use Rattle.runs.specs.Runs.{in-later-pair, KeysOnce}
 
 -- ---- Insert
 

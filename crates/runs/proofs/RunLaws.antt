@@ -11,7 +11,10 @@ use Rattle.table.specs.declared.kind.ValueKind.{ValueKind}
 use Rattle.table.specs.Keys.{numberOf}
 use Rattle.book.specs.Entry.{obj, Entry, edge, keysOf, clash}
 use Rattle.book.proofs.EntryLaws.{key-member, number-lt-of-member}
-use Rattle.runs.specs.Runs.{_∈_, Fits, fits-array, fits-object, ArrayRun, array-edge, ObjectRun, object-edge, Order, order-array, order-object, Among, first, later, KeyTwice, first-again, later-twice, Within, itself, in-array, in-object, WithinValues, in-element, in-later-element, WithinPairs, in-pair, in-later-pair, KeysOnce, Compound, compound-array, compound-object, FitsInSomeOrder, in-order, Valid}
+use Rattle.runs.specs.Runs.{_∈_, Fits, fits-array, fits-object, ArrayRun, array-edge, ObjectRun, object-edge, Order, order-array, order-object}
+use Rattle.runs.specs.Runs.{Among, first, later, KeyTwice, first-again, later-twice, Within, itself, in-array, in-object, WithinValues}
+use Rattle.runs.specs.Runs.{in-element, in-later-element, WithinPairs, in-pair, in-later-pair, KeysOnce, Compound, compound-array}
+use Rattle.runs.specs.Runs.{compound-object, FitsInSomeOrder, in-order, Valid}
 use Rattle.runs.specs.Sound.{Sound}
 use Rattle.runs.specs.Walk.{keyCount, numberIn}
 use Rattle.runs.proofs.OrderLaws.{order-sym, order-trans, keys-once-of-order}

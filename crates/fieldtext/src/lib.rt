@@ -20,7 +20,7 @@ pub extern "C" fn fieldtext_load(book: &[u8], table: &mut [u8; 7920]) -> u8
     load::number_of(a)
 }
 
-// The number of a book's refusal; 0 where it is accepted.
+// The number of a book's refusal; 0 where it is accepted. Ruled out: a library that answers 0 for every book, and one that answers the line.
 #[no_mangle]
 pub extern "C" fn fieldtext_book_number(book: &[u8]) -> u8
     ensures { λ r. ⌜ r ≡ loads (now (book .entry)) .number ⌝ }
@@ -29,7 +29,7 @@ pub extern "C" fn fieldtext_book_number(book: &[u8]) -> u8
     fieldtext_load(book, &mut table)
 }
 
-// The line of a book's refusal; 0 where it has none.
+// The line of a book's refusal; 0 where it has none. Ruled out: a library that does not count the names line, and one that answers the number.
 #[no_mangle]
 pub extern "C" fn fieldtext_book_line(book: &[u8]) -> usize
     ensures { λ r. ⌜ r ≡ loads (now (book .entry)) .line ⌝ }

@@ -7,6 +7,8 @@ calls.py answer  prints what each call must answer, by the paper alone: no frame
 A call is a letter, a number and a length, each in two bytes with the low one first, and as many bytes as the length says."""
 import os, sys
 
+if hasattr(sys, 'set_int_max_str_digits'):
+    sys.set_int_max_str_digits(0)
 RS = b'\x1e'
 HERE = os.path.dirname(os.path.abspath(__file__))
 
@@ -112,24 +114,27 @@ class Text:
             self.i += 1
 
     def number(self):
-        whole = True
         if self.byte() == 0x2D:
             self.i += 1
+        begin = self.i
         if self.byte() == 0x30:
             self.i += 1
         else:
             self.digits()
+        digits, places, exponent = self.part[begin:self.i], 0, 0
         if self.i < len(self.part) and self.part[self.i] == 0x2E:
-            whole = False
             self.i += 1
             self.digits()
+            fraction = self.part[begin + len(digits) + 1:self.i]
+            digits, places = digits + fraction, len(fraction)
         if self.i < len(self.part) and self.part[self.i] in b'eE':
-            whole = False
             self.i += 1
+            begin = self.i
             if self.byte() in b'+-':
                 self.i += 1
             self.digits()
-        return 'int' if whole else 'num'
+            exponent = int(self.part[begin:self.i])
+        return 'int' if whole(digits, places, exponent) else 'num'
 
     def unit(self, first):
         hexes = b'0123456789abcdefABCDEF'
@@ -188,6 +193,17 @@ class Text:
                     self.take(range(low, high + 1))
                 return ord(self.part[begin:self.i].decode('utf-8'))
         raise Fault(self.i)
+
+
+# ---- numbers
+
+def whole(digits, places, exponent):
+    """the digits as one number, times ten to the power of the exponent less the places, have no fraction"""
+    number, power = int(digits), places - exponent
+    if power <= 0 or number == 0:
+        return True
+    # a power of ten with more digits than the number does not divide it, and may be too large to write down
+    return power < len(digits) and number % 10 ** power == 0
 
 
 # ---- runs of a rule, by searching for an order: one is given up at the first pair that no edge takes
@@ -332,6 +348,12 @@ BROKEN = RS.join([b'z', b'{"corners":[[1,2],[3,', b'{"corners":[[1,2],[3,4]],"na
                   b'{"name":"a","name":"b","corners":[]}', b'{"corners":[[1.0,2]],"name":""}', b'01', b'"\\uDC00"', b'"\xe0\x80"', b'"\xed\xa0\x80"',
                   b'"\\ud83d\\ude00"', b'"\\ud83dx', b'nulx', b'{}x', b'\n', b'12', b'-', b'{"corners":[[-0,2e0]],"name":""}',
                   b' { "name" : "\xf0\x9f\x9a\x9c" , "corners" : [ [ 0 , -12 ] ] } ', b'\xef\xbb\xbf{}', b'{"name":"","corners":[],"x":1}', b'[1,2'])
+# a number of any value, and then whole ones
+BOOK_WHOLE = NAMES + b'0 arr 0 - num 1\n0 arr 1 - int 1\n0 arr 1 - end -\n'
+WHOLE = ['1.0', '1e2', '1.50e1', '0e-5', '100e-2', '10e-1', '0.0e-1', '-0.0', '1e-0', '1E+2', '100.0e-2', '0.10e1', '5e-000', '10e-01',
+         '1.5e18446744073709551616', '0e-99999999999999999999']
+NOT_WHOLE = ['15e-1', '1.5', '1.05e1', '120e-2', '0.01e1', '10.50e0', '10e-02', '10e-65537', '10e-4294967297', '10e-18446744073709551617']
+NUMBERS = RS + RS.join([b'[1e-1,%s]' % n.encode() for n in WHOLE + NOT_WHOLE] + [b'[2.5,100,1.0,30e-1]', b'[1,100,10e-2]', b'[1,1.0', b'[1,1.', b'1.0'])
 NESTED = RS + RS.join([b'[[[[1],2],[true,null]]]', b'[[[[[[[[[[[[]]]]]]]]]]]]', b'[' * 66, b'[' * 30, b'[1,true,null,null]', b'[1,true,2]', b'[]',
                        b'[1e5,0.5,-0]', b'[01]', b'{"a":[]}', b'[' * 64 + b']' * 64])
 
@@ -395,6 +417,12 @@ def all_calls():
         c.stream(NESTED[:9], 4, 0)
         c.make('b', 0, BOOK_B)
         c.stream(DAY, 400, 0)
+    c.make('n', 96)
+    c.make('s')
+    c.make('b', 0, BOOK_WHOLE)
+    for size in (1, 2, 3, 4, 5, 7, 11, 19):
+        c.make('w', 11 * size)
+        c.stream(NUMBERS, size, 0)
     return c
 
 

@@ -64,7 +64,7 @@ fn feed_piece<'a>(
 ) -> reader::Fed
     requires { ⌜ read ≤ length (now stream) ⌝ }
     ensures { λ x. ⌜ record { reader = x .reader; count = x .count; answer = x .answer; work = now (work .exit) } ≡ feedNext (tableIn (now (table .entry))) size (now (stream .entry)) r (now (work .entry)) read ⌝ }
-    ensures { λ x. ⌜ read + x .count ≤ length (now (stream .entry)) ⌝ }
+    ensures { λ x. ⌜ (read + x .count ≤ length (now (stream .entry))) × (read + x .count < 18446744073709551616) ⌝ }
 {
     let end = piece_end(read, size, stream.len());
     reader::feed(r, table, work, &stream[read..end])

@@ -11,6 +11,7 @@ use Rattle.json.specs.declared.lexer.Awaited.the-variants as P
 use Rattle.json.specs.declared.lexer.Mode.{Mode}
 use Rattle.json.specs.declared.lexer.Mode.the-variants as M
 use Rattle.json.specs.Proper.{Opened, ProperAt}
+use Rattle.whole.specs.declared.Decimal.{Decimal}
 use Rattle.table.specs.Table.{Table}
 use Rattle.table.specs.declared.kind.Scalar.{Scalar}
 use Rattle.table.specs.declared.kind.Finished.the-variants as Done
@@ -26,7 +27,7 @@ use Rattle.verdict.specs.Track.{trackTo}
 use Rattle.verdict.proofs.TrackLaws.{trackTo-fault, trackTo-deep, trackTo-sound}
 use Rattle.progress.specs.declared.Fault.the-variants as F
 use Rattle.progress.specs.declared.Progress.{Progress}
-use Rattle.progress.specs.Count.{bump}
+use Rattle.laws.specs.Count.{bump}
 use Rattle.progress.specs.Progress.{faulted}
 use Rattle.progress.specs.Memory.{mem, valueAt, rulesAt, closeAt}
 use Rattle.progress.proofs.MemoryLaws.{length-valueAt}
@@ -67,18 +68,18 @@ module _ (es : List Entry) (n : ℕ) {i : ℕ} where
       rw (trackTo-deep es n (at m g k) i refl l) (off-track {v = Is.TooDeep i} h (refl, e) (one-le-bump (x .pos)))
 
   -- a byte that is no fault
-  pub lands : {m : Mode} {g : Token (judging es)} {k : Stack (judging es)} {level place bits high len : ℕ} {root : Bool} {key w : List ℕ} → i < longest
-      → level ≡ depth (judging es) k → bits ≡ g .bits → high ≡ g .high → Shown es n m g k (suc i) len root key w
-      → Tracks es n (mem (lexAt m level (bump i) place bits high len) root key w) (trackTo es n (at m g k) i)
+  pub lands : {m : Mode} {g : Token (judging es)} {k : Stack (judging es)} {level place bits high : ℕ} {d : Decimal} {len : ℕ} {root : Bool} {key w : List ℕ} → i < longest
+      → level ≡ depth (judging es) k → bits ≡ g .bits → high ≡ g .high → Shown es n m g k (suc i) d len root key w
+      → Tracks es n (mem (lexAt m level (bump i) place bits high d len) root key w) (trackTo es n (at m g k) i)
   lands {m} {g} {k} h e eb eh s = rw (e, eb, eh, bump-below i (omega arith), trackTo-sound es n (at m g k) i refl (s .room)) (on-track (follows s))
 
-module _ {t : Table} {es : List Entry} (kept : Carries t es) (n : ℕ) (few : n ≤ 64) (i : ℕ) (h : i < longest) (place len : ℕ) (root : Bool) (key : List ℕ)
+module _ {t : Table} {es : List Entry} (kept : Carries t es) (n : ℕ) (few : n ≤ 64) (i : ℕ) (h : i < longest) (place : ℕ) (d : Decimal) (len : ℕ) (root : Bool) (key : List ℕ)
     (keyLong : length key ≡ 32) (g : Token (judging es)) (level bits high : ℕ) (eb : bits ≡ g .bits) (eh : high ≡ g .high) (w : List ℕ)
     (long : 96 * n ≤ length w) where
   -- a scalar is finished
   pub lands-finished : (k : Stack (judging es)) → level ≡ depth (judging es) k → depth (judging es) k ≤ n → ShowsStack es w k → (s : Scalar) (p : Awaited)
       → ProperAt (judging es) (M.At p) (finish (judging es) (ofScalar s) k) → ShowsRoot es (M.At p) root (finish (judging es) (ofScalar s) k)
-      → Tracks es n (mem (lexAt (M.At p) level (bump i) place bits high len) root key (valueAt t w level (Done.Scalar s)))
+      → Tracks es n (mem (lexAt (M.At p) level (bump i) place bits high d len) root key (valueAt t w level (Done.Scalar s)))
       (trackTo es n (at (M.At p) g (finish (judging es) (ofScalar s) k)) i)
   lands-finished k e room stack s p y r =
       lands es n h (e ∙ sym (depth-finish es (ofScalar s) k)) eb eh
@@ -98,7 +99,7 @@ module _ {t : Table} {es : List Entry} (kept : Carries t es) (n : ℕ) (few : n 
   lands-joined : (k : Stack (judging es)) → depth (judging es) k ≤ n → ShowsStack es w k → (v : ValueKind → Bool)
       → ShowsValue (Done.Rules (rulesAt t w (suc (depth (judging es) k)))) v → NoRoot es root k
       → ProperAt (judging es) (M.At P.After) (finish (judging es) v k)
-      → Tracks es n (closeAt t (lexAt (M.At P.After) (suc (depth (judging es) k) - 1) (bump i) place bits high len) root key w (suc (depth (judging es) k)))
+      → Tracks es n (closeAt t (lexAt (M.At P.After) (suc (depth (judging es) k) - 1) (bump i) place bits high d len) root key w (suc (depth (judging es) k)))
       (trackTo es n (at (M.At P.After) g (finish (judging es) v k)) i)
   unfolding closeAt
   lands-joined k room stack v s r y =
@@ -120,7 +121,7 @@ module _ {t : Table} {es : List Entry} (kept : Carries t es) (n : ℕ) (few : n 
   -- the innermost open value is closed
   pub lands-closed : (k : Stack (judging es)) → level ≡ depth (judging es) k → depth (judging es) k ≤ n → ShowsStack es w k → NoRoot es root k
       → Opened (judging es) k → ProperAt (judging es) (M.At P.After) (close (judging es) k)
-      → Tracks es n (closeAt t (lexAt (M.At P.After) (level - 1) (bump i) place bits high len) root key w level)
+      → Tracks es n (closeAt t (lexAt (M.At P.After) (level - 1) (bump i) place bits high d len) root key w level)
       (trackTo es n (at (M.At P.After) g (close (judging es) k)) i)
   lands-closed bare e room stack r o y = absurd o
   lands-closed (whole v) e room stack r o y = absurd o

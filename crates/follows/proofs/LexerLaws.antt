@@ -1,9 +1,9 @@
 -- What the lexer does with the first byte of a value and with a byte after one: a claim about every step that may come is one about the step
 -- that comes. Assumes nothing.
-use mathlib.Core.Bool.{not}
+use mathlib.Core.Bool.{Bool, true, false, not}
+use mathlib.Core.Path.{_≡_, refl}
 use Prim.Native.Nat.{ℕ}
-use lib.Dec.{eqb}
-use borrow.Author.Tests.{eqb-true}
+use lib.Dec.{T, eqb}
 use Rattle.laws.proofs.TestLaws.{cond-elim, true-of-T}
 use Rattle.json.specs.Bytes.{isBlank}
 use Rattle.json.specs.Numbers.{isDigit1-9}
@@ -20,21 +20,25 @@ use Rattle.json.specs.declared.lexer.Mode.the-variants as M
 use Rattle.json.specs.declared.lexer.Act.the-variants as A
 use Rattle.json.specs.declared.lexer.Step.{Step}
 use Rattle.json.specs.Proper.{Opened}
-use Rattle.runs.specs.Runs.{beginsPart}
-use Rattle.follows.specs.Follows.{ShowsNumber}
-use Rattle.follows.proofs.NumberLaws.{beginsPart-digit1-9}
+use Rattle.whole.specs.Fresh.{fresh}
+use Rattle.whole.specs.Count.{unbounded}
+use Rattle.whole.specs.Read.{goneTo, begins}
+
+false-of-not : (v : Bool) → T (not v) → v ≡ false
+false-of-not true h = absurd h
+false-of-not false h = refl
 
 module _ (Q : Step → Type 0) (b : ℕ) where
   -- the first byte of a value
   pub valueStart-elim : Q faultStep → Q (stepTo (M.Text S.Char) A.TextStart) → Q (stepTo (M.At P.First) A.OpenArray) → Q (stepTo (M.At P.First) A.OpenObject)
-      → ((n : NumberMode) → ShowsNumber (M.Number n) (not (beginsPart b)) → Q (stepTo (M.Number n) A.NumberStart))
+      → ((n : NumberMode) → begins unbounded b ≡ goneTo unbounded n fresh b → Q (stepTo (M.Number n) A.NumberStart))
       → ((w : Word) → Q (stepTo (M.Word w 1) A.Pass)) → Q (valueStart b)
-  unfolding valueStart beginsPart
+  unfolding valueStart begins
   valueStart-elim fault text array object number word =
       cond-elim Q (eqb b 0x22) (λ _. text) (λ _. cond-elim Q (eqb b 0x5B) (λ _. array) (λ _. cond-elim Q (eqb b 0x7B) (λ _. object) (λ _.
-      cond-elim Q (isDigit1-9 b) (λ h. number N.Int (rw (beginsPart-digit1-9 b h))) (λ _.
-      cond-elim Q (eqb b 0x30) (λ h. number N.Zero (rw (eqb-true b 0x30 (true-of-T (eqb b 0x30) h)))) (λ _.
-      cond-elim Q (eqb b 0x2D) (λ h. number N.Minus (rw (eqb-true b 0x2D (true-of-T (eqb b 0x2D) h)))) (λ _.
+      cond-elim Q (isDigit1-9 b) (λ h. number N.Int (rw (true-of-T (isDigit1-9 b) h))) (λ c.
+      cond-elim Q (eqb b 0x30) (λ h. number N.Zero (rw (false-of-not (isDigit1-9 b) c, true-of-T (eqb b 0x30) h))) (λ d.
+      cond-elim Q (eqb b 0x2D) (λ h. number N.Minus (rw (false-of-not (isDigit1-9 b) c, false-of-not (eqb b 0x30) d, true-of-T (eqb b 0x2D) h))) (λ _.
       cond-elim Q (eqb b 0x6E) (λ _. word W.Null) (λ _. cond-elim Q (eqb b 0x74) (λ _. word W.True) (λ _.
       cond-elim Q (eqb b 0x66) (λ _. word W.False) (λ _. fault)))))))))
 

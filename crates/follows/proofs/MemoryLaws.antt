@@ -18,7 +18,7 @@ use Rattle.progress.specs.declared.Fault.the-variants as F
 use Rattle.progress.specs.declared.Progress.{Progress}
 use Rattle.progress.specs.declared.Advanced.{Advanced}
 use Rattle.progress.specs.Act.{firstFault}
-use Rattle.progress.specs.Count.{bump}
+use Rattle.laws.specs.Count.{bump}
 use Rattle.progress.specs.Progress.{actedBy, sound, byFault, advanced}
 use Rattle.progress.specs.Memory.{Mem, topAt, advancedAt, stepMem}
 use Rattle.progress.proofs.MemoryLaws.{progress-perform}

@@ -1,5 +1,5 @@
 -- One byte: the memory that follows a state tracks what the machine makes of the byte, mode by mode. Assumes nothing.
-use mathlib.Core.Bool.{Bool, true, false, not, cond, _&&_}
+use mathlib.Core.Bool.{Bool, true, false, cond}
 use mathlib.Core.List.{List, [], _∷_, _++_}
 use mathlib.Core.Path.{_≡_, refl, sym, _∙_}
 use Prim.Native.Nat.{ℕ, suc, _+_, _≤_, _<_}
@@ -10,7 +10,7 @@ use lib.ListN.{length, length-set}
 use borrow.Author.Tests.{ltb-false, ltb-true}
 use Rattle.laws.proofs.TestLaws.{cond-elim}
 use Rattle.json.specs.Bytes.{isBlank}
-use Rattle.json.specs.Lexer.{charOf, stringMove, numberMove, wordMove, valueStart, atValue, atFirstElement, atFirstKey, atFirst, atKey, atColon, afterValue, keyStep, textStep, numberStep, wordStep, stepOf, stepTo, stay, endedBefore}
+use Rattle.json.specs.Lexer.{charOf, stringMove, numberMove, mayEnd, wordMove, valueStart, atValue, atFirstElement, atFirstKey, atFirst, atKey, atColon, afterValue, keyStep, textStep, numberStep, wordStep, stepOf, stepTo, stay, endedBefore}
 use Rattle.json.specs.Machine.{Stack, bare, whole, in-array, in-object, topOf, depth, finish, name, Token, State, at, gather, charIn, withString, withNumber, take, step}
 use Rattle.json.specs.declared.string.StringMode.{StringMode}
 use Rattle.json.specs.declared.string.StringMode.the-variants as S
@@ -32,11 +32,14 @@ use Rattle.json.specs.declared.lexer.Act.the-variants as A
 use Rattle.json.specs.declared.lexer.Step.{Step}
 use Rattle.json.specs.Proper.{Opened, InObject, ProperAt, Proper}
 use Rattle.json.proofs.ProperLaws.{proper-step}
+use Rattle.whole.specs.declared.Decimal.{Decimal}
+use Rattle.whole.specs.Fresh.{fresh}
+use Rattle.whole.specs.Count.{unbounded, bounded, counted}
+use Rattle.whole.specs.Read.{Read, begins, readByte, readsWhole}
 use Rattle.table.specs.Table.{Table}
 use Rattle.table.specs.declared.kind.Scalar.{Scalar}
 use Rattle.table.specs.declared.kind.Scalar.the-variants as K
 use Rattle.book.specs.Entry.{arr, Entry}
-use Rattle.runs.specs.Runs.{beginsPart}
 use Rattle.runs.specs.Walk.{judging, ofScalar, ofWord, startOf, atOpening}
 use Rattle.table.specs.declared.kind.Finished.the-variants as Done
 use Rattle.table.specs.declared.kind.ValueKind.{ValueKind}
@@ -53,14 +56,14 @@ use Rattle.progress.specs.declared.Fault.the-variants as F
 use Rattle.progress.specs.declared.Progress.{Progress}
 use Rattle.progress.specs.declared.Advanced.{Advanced}
 use Rattle.progress.specs.Act.{openFault, openLevel, keyLen, keyTask, keptIn}
-use Rattle.progress.specs.Count.{bump}
+use Rattle.laws.specs.Count.{bump}
 use Rattle.progress.specs.Progress.{advance, advanced, faulted, moved, sound as sounding, bitsIn, highIn, acted}
 use Rattle.progress.specs.declared.Task.the-variants as To
 use Rattle.progress.specs.Memory.{Mem, mem, valueAt, perform, stepMem}
-use Rattle.follows.specs.Follows.{PlainKeys, all-kept, ShowsText, ShowsNumber, lexAt, ShowsStack, NoRoot, AnyRoot, ShowsRoot, Shown, Follows, follows, Tracks, off-track}
+use Rattle.follows.specs.Follows.{PlainKeys, all-kept, ShowsText, NumberKept, ShowsNumber, lexAt, ShowsStack, NoRoot, AnyRoot, ShowsRoot, Shown, Follows, follows, Tracks, off-track}
 use Rattle.follows.proofs.StackLaws.{topAt-shows, shows-opened-array, shows-opened-object, shows-named, shows-finished, root-finished}
 use Rattle.follows.proofs.KeyLaws.{keyKept-put, keyKept-high, keyKept-full, showsKey-keyFound}
-use Rattle.follows.proofs.NumberLaws.{numberMove-elim}
+use Rattle.follows.proofs.NumberLaws.{kept-begun, kept-gone, kind-of-kept, numberMove-elim}
 use Rattle.follows.proofs.LexerLaws.{valueStart-elim, afterValue-elim}
 use Rattle.progress.proofs.MemoryLaws.{length-opened-frame, length-keyed-frame, length-valueAt}
 use Rattle.follows.proofs.MemoryLaws.{one-le-bump}
@@ -107,9 +110,9 @@ opened-finish es v (in-object x k) o = tt
 -- ---- one step of the lexer
 
 -- the memory at mode m, the state after a step, and the claim that the one tracks the other
-module _ (t : Table) (es : List Entry) (n : ℕ) (g : Token (judging es)) (k : Stack (judging es)) (i place len : ℕ) (root : Bool) (key w : List ℕ) (b : ℕ) (m : Mode) where
+module _ (t : Table) (es : List Entry) (n : ℕ) (g : Token (judging es)) (k : Stack (judging es)) (i place : ℕ) (d : Decimal) (len : ℕ) (root : Bool) (key w : List ℕ) (b : ℕ) (m : Mode) where
   abbrev before : Progress
-  before = lexAt m (depth (judging es) k) i place (g .bits) (g .high) len
+  before = lexAt m (depth (judging es) k) i place (g .bits) (g .high) d len
 
   abbrev behind : Step → State (judging es)
   behind st = take (judging es) st (charIn (judging es) m g b) b g (gather (judging es) m g b) k
@@ -121,26 +124,26 @@ module _ (t : Table) (es : List Entry) (n : ℕ) (g : Token (judging es)) (k : S
       (trackTo es n (behind st) i)
 
 module _ {t : Table} {es : List Entry} (kept : Carries t es) (plain : PlainKeys es) (n : ℕ) (few : n ≤ 64) (g : Token (judging es)) (k : Stack (judging es))
-    (i place len : ℕ) (root : Bool) (key w : List ℕ) (b : ℕ) (h : i < longest) where
+    (i place : ℕ) (d : Decimal) (len : ℕ) (root : Bool) (key w : List ℕ) (b : ℕ) (h : i < longest) where
   -- what is known of the state and the memory at mode m
   abbrev Known : Mode → Type 0
-  Known m = Shown es n m g k i len root key w
+  Known m = Shown es n m g k i d len root key w
 
   abbrev Tracked : Mode → Step → Type 0
-  Tracked m st = StepTracked t es n g k i place len root key w b m st
+  Tracked m st = StepTracked t es n g k i place d len root key w b m st
 
   abbrev lexer : Mode → Progress
-  lexer m = before t es n g k i place len root key w b m
+  lexer m = before t es n g k i place d len root key w b m
 
   -- a fault
   step-fault : (m m′ : Mode) (e : Bool) → Tracked m (record { mode = m′; ends = e; act = A.Fault })
   step-fault m m′ e p = lands-malformed es n (lexer m) root key w refl refl
 
   -- a byte that leaves the frames and the root
-  step-stays : (m m′ : Mode) (g′ : Token (judging es)) {len′ : ℕ} {key′ : List ℕ} → Known m → gather (judging es) m g b .bits ≡ g′ .bits
+  step-stays : (m m′ : Mode) (g′ : Token (judging es)) {d′ : Decimal} {len′ : ℕ} {key′ : List ℕ} → Known m → gather (judging es) m g b .bits ≡ g′ .bits
       → gather (judging es) m g b .high ≡ g′ .high → length key′ ≡ 32 → ProperAt (judging es) m′ k → ShowsRoot es m′ root k
-      → ShowsText m′ key′ len′ (g′ .string) → ShowsNumber m′ (g′ .number)
-      → Tracks es n (mem (lexAt m′ (depth (judging es) k) (bump i) place (bitsIn m (g .bits) b) (highIn m (g .bits) (g .high) b) len′) root key′ w)
+      → ShowsText m′ key′ len′ (g′ .string) → ShowsNumber m′ d′ (g′ .number) (suc i)
+      → Tracks es n (mem (lexAt m′ (depth (judging es) k) (bump i) place (bitsIn m (g .bits) b) (highIn m (g .bits) (g .high) b) d′ len′) root key′ w)
       (trackTo es n (at m′ g′ k) i)
   step-stays m m′ g′ s eb eh l p r x y =
       lands es n h refl (bits-gather es g b m ∙ eb) (high-gather es g b m ∙ eh)
@@ -156,7 +159,7 @@ module _ {t : Table} {es : List Entry} (kept : Carries t es) (plain : PlainKeys 
         number = y;
       }
 
-  step-pass : (m m′ : Mode) → Known m → ShowsRoot es m′ root k → ShowsText m′ key len (g .string) → ShowsNumber m′ (g .number) → Tracked m (stepTo m′ A.Pass)
+  step-pass : (m m′ : Mode) → Known m → ShowsRoot es m′ root k → ShowsText m′ key len (g .string) → ShowsNumber m′ d (g .number) (suc i) → Tracked m (stepTo m′ A.Pass)
   step-pass m m′ s r x y p =
       step-stays m m′ (gather (judging es) m g b) s refl refl (s .key-long) p r (rw (string-gather es g b m) x) (rw (number-gather es g b m) y)
 
@@ -165,20 +168,24 @@ module _ {t : Table} {es : List Entry} (kept : Carries t es) (plain : PlainKeys 
       step-stays m (M.Key S.Char) (withString (judging es) (gather (judging es) m g b) []) s refl refl (s .key-long) p r (all-kept refl (omega arith) refl) tt
 
   step-text : (m : Mode) (c : List ℕ) → Known m → NoRoot es root k
-      → Tracks es n (mem (lexAt (M.Text S.Char) (depth (judging es) k) (bump i) place (bitsIn m (g .bits) b) (highIn m (g .bits) (g .high) b) len) root key w)
+      → Tracks es n (mem (lexAt (M.Text S.Char) (depth (judging es) k) (bump i) place (bitsIn m (g .bits) b) (highIn m (g .bits) (g .high) b) d len) root key w)
       (trackTo es n (at (M.Text S.Char) (withString (judging es) (gather (judging es) m g b) c) k) i)
   step-text m c s r =
       step-stays m (M.Text S.Char) (withString (judging es) (gather (judging es) m g b) c) s refl refl (s .key-long) tt r tt tt
 
-  step-number : (m : Mode) (x : NumberMode) (d : Bool) → Known m → NoRoot es root k → ShowsNumber (M.Number x) d
-      → Tracks es n (mem (lexAt (M.Number x) (depth (judging es) k) (bump i) place (bitsIn m (g .bits) b) (highIn m (g .bits) (g .high) b) len) root key w)
-      (trackTo es n (at (M.Number x) (withNumber (judging es) (gather (judging es) m g b) d) k) i)
-  step-number m x d s r y =
-      step-stays m (M.Number x) (withNumber (judging es) (gather (judging es) m g b) d) s refl refl (s .key-long) tt r tt y
+  step-number : (m : Mode) (x : NumberMode) (d′ : Decimal) (z : Read) → Known m → NoRoot es root k → NumberKept x d′ z (suc i)
+      → Tracks es n (mem (lexAt (M.Number x) (depth (judging es) k) (bump i) place (bitsIn m (g .bits) b) (highIn m (g .bits) (g .high) b) d′ len) root key w)
+      (trackTo es n (at (M.Number x) (withNumber (judging es) (gather (judging es) m g b) z) k) i)
+  step-number m x d′ z s r y =
+      step-stays m (M.Number x) (withNumber (judging es) (gather (judging es) m g b) z) s refl refl (s .key-long) tt r tt y
+
+  -- one level more is open
+  abbrev openedTo : Mode → Progress
+  openedTo m = lexAt (M.At P.First) (depth (judging es) k + 1) (bump i) place (bitsIn m (g .bits) b) (highIn m (g .bits) (g .high) b) d len
 
   -- an array or object is opened, where there is a frame for it; y is what the limits make of the byte
   step-opened : (m : Mode) (o : Bool) (k′ : Stack (judging es)) (y : Advanced) → Known m
-      → (ltb (depth (judging es) k) n ≡ true → y ≡ advance (moved (lexer m) b (M.At P.First) (depth (judging es) k + 1) len) (To.Open o))
+      → (ltb (depth (judging es) k) n ≡ true → y ≡ advance (openedTo m) (To.Open o))
       → (ltb (depth (judging es) k) n ≡ false → y ≡ faulted (lexer m) F.TooDeep) → suc (depth (judging es) k) ≡ depth (judging es) k′
       → (depth (judging es) k < n → ShowsStack es (putFrame w (suc (depth (judging es) k)) (opened (t .forms) o)) k′) → NoRoot es root k′
       → Opened (judging es) k′
@@ -230,7 +237,7 @@ module _ {t : Table} {es : List Entry} (kept : Carries t es) (plain : PlainKeys 
       g′ = withString (judging es) (gather (judging es) (M.Key x) g b) (g .string ++ (c ∷ []))
 
       go : (v : Bool) → ltb len 32 ≡ v → (u : Bool) → ltb c 128 ≡ u
-          → Tracks es n (perform (keyTask len c) t (mem (lexer (M.Key x)) root key w) (moved (lexer (M.Key x)) b (M.Key S.Char) (depth (judging es) k) (keyLen len c)))
+          → Tracks es n (perform (keyTask len c) t (mem (lexer (M.Key x)) root key w) (moved (lexer (M.Key x)) A.KeyChar b (M.Key S.Char) (depth (judging es) k) (keyLen len c)))
           (trackTo es n (at (M.Key S.Char) g′ k) i)
       go true e true f =
           rw (e, f, e)
@@ -241,10 +248,10 @@ module _ {t : Table} {es : List Entry} (kept : Carries t es) (plain : PlainKeys 
 
   -- a word or a string is finished
   step-finished : (m : Mode) (x : Scalar) → Known m → NoRoot es root k → ProperAt (judging es) (M.At P.After) (finish (judging es) (ofScalar x) k)
-      → Tracks es n (mem (lexAt (M.At P.After) (depth (judging es) k) (bump i) place (bitsIn m (g .bits) b) (highIn m (g .bits) (g .high) b) len) root key (valueAt t w (depth (judging es) k) (Done.Scalar x)))
+      → Tracks es n (mem (lexAt (M.At P.After) (depth (judging es) k) (bump i) place (bitsIn m (g .bits) b) (highIn m (g .bits) (g .high) b) d len) root key (valueAt t w (depth (judging es) k) (Done.Scalar x)))
       (trackTo es n (at (M.At P.After) (gather (judging es) m g b) (finish (judging es) (ofScalar x) k)) i)
   step-finished m x s r p =
-      lands-finished kept n few i h place len root key (s .key-long) (gather (judging es) m g b) (depth (judging es) k) _ _ (bits-gather es g b m) (high-gather es g b m)
+      lands-finished kept n few i h place d len root key (s .key-long) (gather (judging es) m g b) (depth (judging es) k) _ _ (bits-gather es g b m) (high-gather es g b m)
       w (s .long) k refl (s .room) (s .stack) x P.After p (root-finished es root (ofScalar x) (scalar-no-rule es x) k r)
 
   -- a key is finished
@@ -252,7 +259,7 @@ module _ {t : Table} {es : List Entry} (kept : Carries t es) (plain : PlainKeys 
   step-keyEnd x s p = go k (s .room) (s .stack) (s .root-shown) (s .proper)
     where
       go : (y : Stack (judging es)) → depth (judging es) y ≤ n → ShowsStack es w y → NoRoot es root y → InObject (judging es) y
-          → Tracks es n (mem (lexAt (M.At P.Colon) (depth (judging es) y) (bump i) place (bitsIn (M.Key x) (g .bits) b) (highIn (M.Key x) (g .bits) (g .high) b) len) root key (putFrame w (depth (judging es) y) (keyed (keyFound t key len) (frameAt w (depth (judging es) y)))))
+          → Tracks es n (mem (lexAt (M.At P.Colon) (depth (judging es) y) (bump i) place (bitsIn (M.Key x) (g .bits) b) (highIn (M.Key x) (g .bits) (g .high) b) d len) root key (putFrame w (depth (judging es) y) (keyed (keyFound t key len) (frameAt w (depth (judging es) y)))))
           (trackTo es n (at (M.At P.Colon) (gather (judging es) (M.Key x) g b) (name (judging es) (g .string) y)) i)
       go bare room stack r o = absurd o
       go (whole v) room stack r o = absurd o
@@ -274,31 +281,33 @@ module _ {t : Table} {es : List Entry} (kept : Carries t es) (plain : PlainKeys 
   -- the innermost value is closed
   step-closed : (p : Awaited) → Known (M.At p) → NoRoot es root k → Opened (judging es) k → Tracked (M.At p) (stepTo (M.At P.After) A.Close)
   step-closed p s r o y =
-      lands-closed kept n few i h place len root key (s .key-long) g (depth (judging es) k) (g .bits) (g .high) refl refl w (s .long) k refl (s .room) (s .stack) r o y
+      lands-closed kept n few i h place d len root key (s .key-long) g (depth (judging es) k) (g .bits) (g .high) refl refl w (s .long) k refl (s .room) (s .stack) r o y
 
   -- ---- a byte that ends a number
 
-  module _ (x : NumberMode) (s : Known (M.Number x)) where
-    -- the kinds that the number fits
+  module _ (x : NumberMode) (s : Known (M.Number x)) (e : mayEnd x ≡ true) where
+    -- the kind of the number, and the kinds that it fits
+    abbrev kind : Scalar
+    kind = cond (readsWhole (g .number)) K.Int K.Num
+
     abbrev numberFits : ValueKind → Bool
-    numberFits = ofScalar (cond (g .number) K.Int K.Num)
+    numberFits = ofScalar kind
 
     anyRoot-number : AnyRoot es root (finish (judging es) numberFits k)
-    anyRoot-number = root-finished es root numberFits (scalar-no-rule es (cond (g .number) K.Int K.Num)) k (s .root-shown)
+    anyRoot-number = root-finished es root numberFits (scalar-no-rule es kind) k (s .root-shown)
 
     step-endedPass : (p : Awaited) → ShowsRoot es (M.At p) root (finish (judging es) numberFits k) → Tracked (M.Number x) (endedBefore (stay p))
     step-endedPass p r y =
-        rw (s .number)
-        (lands-finished kept n few i h place len root key (s .key-long) g (depth (judging es) k) (g .bits) (g .high) refl refl w (s .long) k refl (s .room) (s .stack)
-        (cond (g .number) K.Int K.Num) p y r)
+        rw (kind-of-kept x (s .number) e (s .short))
+        (lands-finished kept n few i h place d len root key (s .key-long) g (depth (judging es) k) (g .bits) (g .high) refl refl w (s .long) k refl (s .room) (s .stack)
+        kind p y r)
 
     step-endedClose : Opened (judging es) (finish (judging es) numberFits k) → Tracked (M.Number x) (endedBefore (stepTo (M.At P.After) A.Close))
     step-endedClose o y =
-        let z : Scalar = cond (g .number) K.Int K.Num in
-        rw (s .number)
-        (lands-closed kept n few i h place len root key (s .key-long) g (depth (judging es) k) (g .bits) (g .high) refl refl (valueAt t w (depth (judging es) k) (Done.Scalar z))
-        (rw (length-valueAt t w (depth (judging es) k) (Done.Scalar z)) (s .long)) (finish (judging es) numberFits k) (sym (depth-finish es numberFits k))
-        (rw (depth-finish es numberFits k) (s .room)) (shows-finished kept n few w (s .long) (Done.Scalar z) numberFits (shows-scalar z) k (s .room) (s .stack))
+        rw (kind-of-kept x (s .number) e (s .short))
+        (lands-closed kept n few i h place d len root key (s .key-long) g (depth (judging es) k) (g .bits) (g .high) refl refl (valueAt t w (depth (judging es) k) (Done.Scalar kind))
+        (rw (length-valueAt t w (depth (judging es) k) (Done.Scalar kind)) (s .long)) (finish (judging es) numberFits k) (sym (depth-finish es numberFits k))
+        (rw (depth-finish es numberFits k) (s .room)) (shows-finished kept n few w (s .long) (Done.Scalar kind) numberFits (shows-scalar kind) k (s .room) (s .stack))
         (noRoot-of-opened es root (finish (judging es) numberFits k) o anyRoot-number) o y)
 
   -- ---- mode by mode
@@ -306,7 +315,7 @@ module _ {t : Table} {es : List Entry} (kept : Carries t es) (plain : PlainKeys 
   step-valueStart : (m : Mode) → Known m → NoRoot es root k → Tracked m (valueStart b)
   step-valueStart m s r =
       valueStart-elim (Tracked m) b (step-fault m (M.At P.Value) false) (λ _. step-text m [] s r) (step-openArray m s r) (step-openObject m s r)
-      (λ x y _. step-number m x (not (beginsPart b)) s r y) (λ x. step-pass m (M.Word x 1) s r tt tt)
+      (λ x y _. step-number m x (counted bounded x fresh b) (begins unbounded b) s r (kept-begun x b i y h)) (λ x. step-pass m (M.Word x 1) s r tt tt)
 
   step-value : Known (M.At P.Value) → Tracked (M.At P.Value) (atValue b)
   unfolding atValue
@@ -364,13 +373,14 @@ module _ {t : Table} {es : List Entry} (kept : Carries t es) (plain : PlainKeys 
 
   step-digits : (x : NumberMode) → Known (M.Number x) → Tracked (M.Number x) (numberStep (numberMove x b) (topOf (judging es) k) b)
   step-digits x s =
-      let r : Opened (judging es) k → NoRoot es root (finish (judging es) (numberFits x s) k) =
-      λ o. noRoot-of-opened es root (finish (judging es) (numberFits x s) k) (opened-finish es (numberFits x s) k o) (anyRoot-number x s) in
-      numberMove-elim b (λ (y : NumberMove). Tracked (M.Number x) (numberStep y (topOf (judging es) k) b)) (g .number) (step-fault (M.Number x) (M.At P.Value) false)
-      (afterValue-elim (λ (st : Step). Tracked (M.Number x) (endedBefore st)) b (judging es) k (step-fault (M.Number x) (M.At P.Value) true)
-      (step-endedPass x s P.After (anyRoot-number x s)) (λ o. step-endedPass x s P.Value (r o)) (λ o. step-endedPass x s P.Key (r o))
-      (λ o. step-endedClose x s (opened-finish es (numberFits x s) k o)))
-      (λ y z _. step-number (M.Number x) y (g .number && not (beginsPart b)) s (s .root-shown) z) x (s .number)
+      numberMove-elim (λ (y : NumberMove). Tracked (M.Number x) (numberStep y (topOf (judging es) k) b)) x b (step-fault (M.Number x) (M.At P.Value) false)
+      (λ e.
+      let r : Opened (judging es) k → NoRoot es root (finish (judging es) (numberFits x s e) k) =
+      λ o. noRoot-of-opened es root (finish (judging es) (numberFits x s e) k) (opened-finish es (numberFits x s e) k o) (anyRoot-number x s e) in
+      afterValue-elim (λ (st : Step). Tracked (M.Number x) (endedBefore st)) b (judging es) k (step-fault (M.Number x) (M.At P.Value) true)
+      (step-endedPass x s e P.After (anyRoot-number x s e)) (λ o. step-endedPass x s e P.Value (r o)) (λ o. step-endedPass x s e P.Key (r o))
+      (λ o. step-endedClose x s e (opened-finish es (numberFits x s e) k o)))
+      (λ y z _. step-number (M.Number x) y (counted bounded y d b) (readByte unbounded (g .number) b) s (s .root-shown) (kept-gone x y b z (s .number) h))
 
   step-word : (x : Word) (j : ℕ) (v : WordMove) → Known (M.Word x j) → Tracked (M.Word x j) (wordStep v x j)
   unfolding ofWord
@@ -397,11 +407,11 @@ module _ {t : Table} {es : List Entry} (kept : Carries t es) (plain : PlainKeys 
 pub follows-step : {t : Table} {es : List Entry} → Carries t es → PlainKeys es → (n : ℕ) → n ≤ 64 → {m : Mem} {q : State (judging es)} {i : ℕ} (b : ℕ)
     → eqb b 0x1E ≡ false → Follows es n m q i → Tracks es n (stepMem t n m b) (trackByte es n (sound q i) b)
 unfolding stepMem advanced sounding step
-follows-step {t} {es} kept plain n few b e (follows {m} {g} {k} {i} {place} {len} {root} {key} {w} s) =
+follows-step {t} {es} kept plain n few b e (follows {m} {g} {k} {i} {place} {d} {len} {root} {key} {w} s) =
     rw (e, topAt-shows es w k (s .stack)) (go (ltb i longest) refl)
   where
     x : Progress
-    x = lexAt m (depth (judging es) k) i place (g .bits) (g .high) len
+    x = lexAt m (depth (judging es) k) i place (g .bits) (g .high) d len
 
     st : Step
     st = stepOf m (topOf (judging es) k) b
@@ -410,6 +420,6 @@ follows-step {t} {es} kept plain n few b e (follows {m} {g} {k} {i} {place} {len
         → Tracks es n (perform (sounding x n b st .task) t (mem x root key w) (sounding x n b st .progress)) (trackByte es n (sound (at m g k) i) b)
     go true f =
         let h = ltb-true i longest f in
-        rw (f, trackByte-short es n (at m g k) b h) (step-any kept plain n few g k i place len root key w b h m s (proper-step (judging es) (at m g k) b (s .proper)))
+        rw (f, trackByte-short es n (at m g k) b h) (step-any kept plain n few g k i place d len root key w b h m s (proper-step (judging es) (at m g k) b (s .proper)))
     go false f =
         rw (f, trackByte-long es n (at m g k) b (ltb-false i longest f)) (off-track {v = Is.TooLong} refl refl (one-le-bump i))

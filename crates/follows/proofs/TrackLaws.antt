@@ -16,6 +16,8 @@ use Rattle.json.specs.declared.lexer.Awaited.the-variants as P
 use Rattle.json.specs.declared.lexer.Mode.{Mode}
 use Rattle.json.specs.declared.lexer.Mode.the-variants as M
 use Rattle.json.specs.Proper.{Begun, ProperAt}
+use Rattle.whole.specs.Fresh.{fresh}
+use Rattle.whole.specs.Read.{unread, readsWhole}
 use Rattle.table.specs.Table.{Table}
 use Rattle.table.specs.declared.kind.Scalar.the-variants as K
 use Rattle.book.specs.Entry.{Entry}
@@ -76,7 +78,7 @@ tracks-step {t} {es} kept plain n few m (stopped v) b e r = stopped-step t es n 
 pub tracks-start : (es : List Entry) (n : ℕ) (w : List ℕ) → 96 * n ≤ length w → Tracks es n (freshMem false w) (trackStart es)
 tracks-start es n w long = on-track (follows shown)
   where
-    shown : Shown es n (M.At P.Value) (record { bits = 0; high = 0; string = []; number = true }) bare 0 0 false (replicate 32 0) w
+    shown : Shown es n (M.At P.Value) (record { bits = 0; high = 0; string = []; number = unread }) bare 0 fresh 0 false (replicate 32 0) w
     shown = record {
       short = omega arith;
       room = omega arith;
@@ -107,7 +109,7 @@ module _ (es : List Entry) (i : ℕ) where
   unfolding wholeNumber verdictOf ofScalar
   whole-number x g bare root r = go (mayEnd x)
     where
-      go : (v : Bool) → cond v Is.Invalid (Is.Unfinished i) ≡ verdictOf es (cond v (some (ofScalar (cond (g .number) K.Int K.Num))) none) i
+      go : (v : Bool) → cond v Is.Invalid (Is.Unfinished i) ≡ verdictOf es (cond v (some (ofScalar (cond (readsWhole (g .number)) K.Int K.Num))) none) i
       go true = refl
       go false = refl
   whole-number x g (whole v) root r = absurd r

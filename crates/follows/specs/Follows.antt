@@ -1,6 +1,6 @@
--- What the memory of a reader shows of the machine that finds verdicts: the frames its stack, the kept characters its key, the mode its number.
+-- What the memory of a reader shows of the machine that finds verdicts: the frames its stack, the kept characters its key, the counts its number.
 -- Derived, nothing to believe: `tracks-step` and `judged-part` in proofs/ join it to the track of crate verdict. Assumes nothing.
-use mathlib.Core.Bool.{Bool, true, false, not, cond}
+use mathlib.Core.Bool.{Bool, true, false, not}
 use mathlib.Core.List.{List, [], _∷_, List·Memᴰ}
 use mathlib.Core.Logic.{_⊎_}
 use mathlib.Core.Path.{_≡_}
@@ -9,12 +9,15 @@ use lib.Dec.{T, eqb, ltb}
 use lib.ListN.{length, take}
 use Rattle.laws.specs.Lists.{all, any}
 use Rattle.json.specs.Machine.{Stack, bare, whole, in-array, in-object, depth, Token, State, at}
+use Rattle.json.specs.declared.number.NumberMode.{NumberMode}
 use Rattle.json.specs.declared.lexer.Awaited.the-variants as P
 use Rattle.json.specs.declared.lexer.Mode.{Mode}
 use Rattle.json.specs.declared.lexer.Mode.the-variants as M
 use Rattle.json.specs.Proper.{ProperAt}
+use Rattle.whole.specs.declared.Decimal.{Decimal}
+use Rattle.whole.specs.Read.{Read, reads}
+use Rattle.whole.specs.Kept.{Kept}
 use Rattle.table.specs.Table.{Table}
-use Rattle.table.specs.declared.kind.Scalar.the-variants as K
 use Rattle.table.specs.declared.kind.ValueKind.the-variants.{Rule}
 use Rattle.book.specs.Entry.{Entry, keysOf}
 use Rattle.runs.specs.Walk.{judging}
@@ -26,7 +29,6 @@ use Rattle.verdict.specs.declared.Verdict.the-variants as Is
 use Rattle.verdict.specs.Track.{Track, sound, stopped}
 use Rattle.progress.specs.declared.Fault.the-variants as F
 use Rattle.progress.specs.declared.Progress.{Progress}
-use Rattle.progress.specs.Act.{numberKind}
 use Rattle.progress.specs.Memory.{Mem, mem, stepMem}
 
 -- ---- keys
@@ -55,19 +57,23 @@ ShowsText (M.Word x i) key len s = T true
 
 -- ---- numbers
 
--- in a number the mode tells whether only an integer was written
-abbrev pub ShowsNumber : Mode → Bool → Type 0
-ShowsNumber (M.At p) d = T true
-ShowsNumber (M.Key m) d = T true
-ShowsNumber (M.Text m) d = T true
-ShowsNumber (M.Number m) d = numberKind (M.Number m) ≡ cond d K.Int K.Num
-ShowsNumber (M.Word x i) d = T true
+-- of a number in mode m, of whose record i bytes are read, its counts are kept
+pub data NumberKept (m : NumberMode) (y : Decimal) (r : Read) (i : ℕ) : Type 0 where
+  number-kept : {x : Decimal} → r ≡ reads m x → Kept x y i → NumberKept m y r i
+
+-- in a number its counts are kept
+abbrev pub ShowsNumber : Mode → Decimal → Read → ℕ → Type 0
+ShowsNumber (M.At p) y r i = T true
+ShowsNumber (M.Key m) y r i = T true
+ShowsNumber (M.Text m) y r i = T true
+ShowsNumber (M.Number m) y r i = NumberKept m y r i
+ShowsNumber (M.Word x j) y r i = T true
 
 -- ---- what is known of a record without a fault
 
-abbrev pub lexAt : Mode → ℕ → ℕ → ℕ → ℕ → ℕ → ℕ → Progress
-lexAt m level pos place bits high len =
-    record { mode = m; fault = F.Sound; head = false; level = level; pos = pos; place = place; bits = bits; high = high; len = len }
+abbrev pub lexAt : Mode → ℕ → ℕ → ℕ → ℕ → ℕ → Decimal → ℕ → Progress
+lexAt m level pos place bits high d len =
+    record { mode = m; fault = F.Sound; head = false; level = level; pos = pos; place = place; bits = bits; high = high; number = d; len = len }
 
 -- ---- what is known of a record with a fault
 
@@ -117,8 +123,8 @@ module _ (es : List Entry) where
   ShowsRoot (M.Number m) root k = NoRoot root k
   ShowsRoot (M.Word x i) root k = NoRoot root k
 
-  -- with n frames: the state at mode m after i bytes, beside the characters kept, the root and the buffer
-  pub record Shown (n : ℕ) (m : Mode) (g : Token (judging es)) (k : Stack (judging es)) (i len : ℕ) (root : Bool) (key w : List ℕ) : Type 0 where
+  -- with n frames: the state at mode m after i bytes, beside the counts and the characters kept, the root and the buffer
+  pub record Shown (n : ℕ) (m : Mode) (g : Token (judging es)) (k : Stack (judging es)) (i : ℕ) (d : Decimal) (len : ℕ) (root : Bool) (key w : List ℕ) : Type 0 where
     -- the limits on bytes and levels
     pub short : i ≤ longest
     pub room : depth (judging es) k ≤ n
@@ -130,13 +136,13 @@ module _ (es : List Entry) where
     pub stack : ShowsStack w k
     pub root-shown : ShowsRoot m root k
     pub text : ShowsText m key len (g .string)
-    pub number : ShowsNumber m (g .number)
+    pub number : ShowsNumber m d (g .number) i
 
   -- a memory follows a state after i bytes
   pub data Follows (n : ℕ) : Mem → State (judging es) → ℕ → Type 0 where
-    follows : {m : Mode} {g : Token (judging es)} {k : Stack (judging es)} {i place len : ℕ} {root : Bool} {key w : List ℕ}
-        → Shown n m g k i len root key w
-        → Follows n (mem (lexAt m (depth (judging es) k) i place (g .bits) (g .high) len) root key w) (at m g k) i
+    follows : {m : Mode} {g : Token (judging es)} {k : Stack (judging es)} {i place : ℕ} {d : Decimal} {len : ℕ} {root : Bool} {key w : List ℕ}
+        → Shown n m g k i d len root key w
+        → Follows n (mem (lexAt m (depth (judging es) k) i place (g .bits) (g .high) d len) root key w) (at m g k) i
 
   -- ---- tracks
 

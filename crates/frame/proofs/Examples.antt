@@ -147,7 +147,7 @@ table =
       holds = at 0 1 ∷ at 16 3 ∷ at 32 3 ∷ at 96 2 ∷ at 130 1 ∷ at 192 2 ∷ at 228 4 ∷ [];
       fits = 1;
     }
-    -- `{"corners":[[1.0,2]`: 1.0 is no int, so that no state is left
+    -- `{"corners":[[1.5,2]`: 1.5 is no int, so that no state is left
     ∷ record {
       text = object ∷ key 0 ∷ array ∷ array ∷ num ∷ int ∷ close ∷ [];
       holds = at 0 1 ∷ at 16 1 ∷ at 96 2 ∷ at 192 2 ∷ [];

@@ -87,7 +87,8 @@ int-start b h =
     cond-no (λ st. st ≡ stepTo (M.Number N.Int) A.NumberStart) (isBlank b) _ (no-blank b (omega arith))
     (simp (ne-eqb b 0x22 (λ e. omega arith), ne-eqb b 0x5B (λ e. omega arith), ne-eqb b 0x7B (λ e. omega arith), true-of-T (within 0x31 0x39 b) h))
 
-number-start-step : {b : ℕ} {n : NumberMode} → Starts b n → atValue b ≡ stepTo (M.Number n) A.NumberStart
+-- the first byte of a number, where a value is awaited
+pub number-start-step : {b : ℕ} {n : NumberMode} → Starts b n → atValue b ≡ stepTo (M.Number n) A.NumberStart
 unfolding atValue isBlank valueStart isDigit1-9 within
 number-start-step starts-minus = refl
 number-start-step starts-zero = refl

@@ -2,3 +2,4 @@ pub mod Tab
 pub mod Bits
 pub mod Lists
 pub mod Ascii
+pub mod Count

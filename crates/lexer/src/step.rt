@@ -275,7 +275,7 @@ fn ended_before(st: Step) -> Step
 }
 
 // Byte b after part n of a number.
-fn number_step(n: NumberMode, top: Top, b: u8) -> Step
+pub fn number_step(n: NumberMode, top: Top, b: u8) -> Step
     ensures { λ r. ⌜ r ≡ numberStep (numberMove n b) top b ⌝ }
 {
     match number_move(n, b) {

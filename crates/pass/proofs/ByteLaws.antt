@@ -20,7 +20,7 @@ use Rattle.progress.specs.declared.Fault.the-variants as F
 use Rattle.progress.specs.declared.Progress.{Progress}
 use Rattle.progress.specs.declared.Advanced.{Advanced}
 use Rattle.progress.specs.declared.Task.the-variants as To
-use Rattle.progress.specs.Count.{bump}
+use Rattle.laws.specs.Count.{bump}
 use Rattle.progress.specs.Progress.{advance, moved, acted, sound, advanced}
 use Rattle.progress.specs.Memory.{Mem, mem, topAt, perform, stepMem, runMem, endsRecord}
 use Rattle.pass.specs.Pass.{isQuiet, passes, isSound, readsOn}
@@ -70,7 +70,8 @@ pub advanced-acted : (x : Progress) (n b : ℕ) (st : Step) → x .head ≡ fals
 unfolding advanced sound
 advanced-acted x n b st h f p r = rw (ne-eqb b 0x1E r, h, f, lt-ltb (x .pos) 16777216 p)
 
-quiet-acted : (a : Act) (x : Progress) (n b : ℕ) (m : Mode) → isQuiet a ≡ true → acted a false x n b m ≡ advance (moved x b m (x .level) (x .len)) To.Idle
+quiet-acted : (a : Act) (x : Progress) (n b : ℕ) (m : Mode) → isQuiet a ≡ true
+    → acted a false x n b m ≡ advance (moved x a b m (x .level) (x .len)) To.Idle
 quiet-acted A.Fault x n b m e = never e
 quiet-acted A.Pass x n b m e = refl
 quiet-acted A.OpenArray x n b m e = never e
@@ -105,7 +106,7 @@ next-run t n m k s i h r q =
 module _ (t : Table) (n : ℕ) (x : Progress) (root : Bool) (key w : List ℕ) (b : ℕ) (h : x .head ≡ false) (f : x .fault ≡ F.Sound) (p : x .pos < 16777216) where
   -- a byte with a quiet act only moves the record on
   pub quiet-step : (st : Step) → st ≡ stepOf (x .mode) (topAt w (x .level)) b → passes (st .act) (st .ends) b ≡ true
-      → mem (moved x b (st .mode) (x .level) (x .len)) root key w ≡ stepMem t n (mem x root key w) b
+      → mem (moved x (st .act) b (st .mode) (x .level) (x .len)) root key w ≡ stepMem t n (mem x root key w) b
   unfolding stepMem
   quiet-step st e q =
       let told = passes-quiet (st .act) (st .ends) b q in
@@ -132,3 +133,11 @@ rest-fits len from pos end i e h l =
 -- the byte at a place before the end makes no record too long
 pub byte-fits : (len from pos end j : ℕ) → end ≡ from + min (len - from) (16777216 - pos) → from ≤ j → j < end → pos + (j - from) < 16777216
 byte-fits len from pos end j e h l = omega arith
+
+-- one byte further
+pub count-more : (pos from j : ℕ) → from ≤ j → pos + (j + 1 - from) ≡ pos + (j - from) + 1
+count-more pos from j h = omega arith
+
+-- a place before the end is in the piece
+pub in-piece : (len from pos end j : ℕ) → end ≡ from + min (len - from) (16777216 - pos) → from ≤ len → j < end → j < len
+in-piece len from pos end j e h l = omega arith

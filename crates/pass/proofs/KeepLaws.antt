@@ -20,13 +20,13 @@ use Rattle.progress.specs.declared.Fault.the-variants as F
 use Rattle.progress.specs.declared.Progress.{Progress}
 use Rattle.progress.specs.declared.Advanced.{Advanced}
 use Rattle.progress.specs.Act.{keyLen, keyTask, keptIn}
-use Rattle.progress.specs.Count.{bump}
+use Rattle.laws.specs.Count.{bump}
 use Rattle.progress.specs.Progress.{advance, charIn, moved, advanced}
 use Rattle.progress.specs.Memory.{mem, topAt, perform, stepMem}
 use Rattle.chars.specs.Table.{classTable, classAt}
 use Rattle.chars.proofs.TableLaws.{classAt-classTable}
 use Rattle.progress.proofs.ActLaws.{length-keptIn}
-use Rattle.pass.specs.Pass.{plainClass, awaitsChar, readsOn, keepsIn, keepsChars, placed, PlainAt, KeptTo}
+use Rattle.pass.specs.Pass.{plainClass, awaitsChar, registersOf, withBits, readsOn, keepsIn, keepsChars, placed, PlainAt, KeptTo}
 use Rattle.pass.proofs.ByteLaws.{advanced-acted, bump-below, never, next-run, reads-told}
 use Rattle.pass.proofs.StayLaws.{plain-below, plain-char, plain-lead, plain-other}
 
@@ -68,29 +68,31 @@ unfolding keepsChars
 keeps-told x e = keeps-by (x .mode) x e
 
 key-char : (y : Progress) (t : Table) (b : ℕ) (root : Bool) (key w : List ℕ) (v : Bool) → ltb (y .len) 32 ≡ v → ltb b 128 ≡ true
-    → perform (keyTask (y .len) b) t (mem y root key w) (moved y b (M.Key S.Char) (y .level) (keyLen (y .len) b))
-    ≡ mem (moved y b (M.Key S.Char) (y .level) (keyLen (y .len) b)) root (keptIn key (y .len) b) w
+    → perform (keyTask (y .len) b) t (mem y root key w) (moved y A.KeyChar b (M.Key S.Char) (y .level) (keyLen (y .len) b))
+    ≡ mem (moved y A.KeyChar b (M.Key S.Char) (y .level) (keyLen (y .len) b)) root (keptIn key (y .len) b) w
 unfolding keyTask keptIn
 key-char y t b root key w true e l = simp (e, l)
 key-char y t b root key w false e l = simp e
 
 key-step : (t : Table) (n : ℕ) (y : Progress) (root : Bool) (key w : List ℕ) (b : ℕ) → y .mode ≡ M.Key S.Char → y .head ≡ false → y .fault ≡ F.Sound
     → y .pos < 16777216 → b < 256 → plainClass (classOf b) ≡ true
-    → stepMem t n (mem y root key w) b ≡ mem (moved y b (M.Key S.Char) (y .level) (keyLen (y .len) b)) root (keptIn key (y .len) b) w
+    → stepMem t n (mem y root key w) b ≡ mem (moved y A.KeyChar b (M.Key S.Char) (y .level) (keyLen (y .len) b)) root (keptIn key (y .len) b) w
 unfolding stepMem
 key-step t n y root key w b m h f p l e =
     ap (λ (a : Advanced). perform (a .task) t (mem y root key w) (a .progress))
     (ap (λ (k : Mode). advanced y n b (stepOf k (topAt w (y .level)) b)) m
     ∙ ap (λ (k : StringMove). advanced y n b (keyStep k)) (plain-char (classOf b) e)
     ∙ advanced-acted y n b (stepTo (M.Key S.Char) A.KeyChar) h f p (plain-other b e)
-    ∙ ap (λ (k : Mode). advance (moved y b (M.Key S.Char) (y .level) (keyLen (y .len) (charIn k (y .bits) (y .high) b))) (keyTask (y .len) (charIn k (y .bits) (y .high) b))) m)
+    ∙ ap (λ (k : Mode).
+    advance (moved y A.KeyChar b (M.Key S.Char) (y .level) (keyLen (y .len) (charIn k (y .bits) (y .high) b)))
+    (keyTask (y .len) (charIn k (y .bits) (y .high) b))) m)
     ∙ key-char y t b root key w (ltb (y .len) 32) refl (plain-below b l e)
 
 -- the record after a plain character of a key
 key-place : (x : Progress) (m : Mode) (bits p len q more b : ℕ) (root : Bool) (key next w : List ℕ) → m ≡ M.Key S.Char → bump p ≡ q → leadBits b ≡ 0
     → next ≡ keptIn key len b → more ≡ keyLen len b
-    → mem (moved (placed x m bits (x .high) p len) b (M.Key S.Char) (x .level) (keyLen len b)) root (keptIn key len b) w
-    ≡ mem (placed x m 0 (x .high) q more) root next w
+    → mem (moved (placed x m (withBits x bits) p len) A.KeyChar b (M.Key S.Char) (x .level) (keyLen len b)) root (keptIn key len b) w
+    ≡ mem (placed x m (withBits x 0) q more) root next w
 key-place x m bits p len q more b root key next w e f g h k = rw (e, f, h, k, g)
 
 pub kept-none : (x : Progress) (s : List ℕ) (from : ℕ) (key : List ℕ) → from ≤ length s → KeptTo x s from key x from key
@@ -98,20 +100,21 @@ kept-none x s from key h = record { low = omega arith; high = h; length = refl; 
 
 module _ (x : Progress) (s : List ℕ) (from : ℕ) (old : List ℕ) (o : keepsChars x ≡ true) where
   -- a plain character of a key is kept
-  pub keep-on : (bits p len i q more : ℕ) (key next : List ℕ) → KeptTo x s from old (placed x (x .mode) bits (x .high) p len) i key → i < length s → p < 16777216
+  pub keep-on : (bits p len i q more : ℕ) (key next : List ℕ) → KeptTo x s from old (placed x (x .mode) (withBits x bits) p len) i key
+      → i < length s → p < 16777216
       → getD s i 0 < 256 → plainClass (classOf (getD s i 0)) ≡ true → next ≡ keptIn key len (getD s i 0) → more ≡ keyLen len (getD s i 0) → q ≡ p + 1
-      → KeptTo x s from old (placed x (x .mode) 0 (x .high) q more) (i + 1) next
+      → KeptTo x s from old (placed x (x .mode) (withBits x 0) q more) (i + 1) next
   keep-on bits p len i q more key next r l v c e d g u =
       let told = keeps-told x o in
       let read = reads-told x (told .1) in
       let b = getD s i 0 in
-      let y = placed x (x .mode) bits (x .high) p len in
+      let y = placed x (x .mode) (withBits x bits) p len in
       record {
         low = omega (arith, r .low);
         high = omega arith;
         length = ap length d ∙ length-keptIn key len b ∙ r .length;
         same = λ t n root w.
-            next-run t n (mem y root key w) (mem (placed x (x .mode) 0 (x .high) q more) root next w) s i l (plain-other b e)
+            next-run t n (mem y root key w) (mem (placed x (x .mode) (withBits x 0) q more) root next w) s i l (plain-other b e)
             (sym
             (key-step t n y root key w b (told .0) (read .0) (read .1) v c e
             ∙ key-place x (x .mode) bits p len q more b root key next w (told .0) (bump-below p v ∙ sym u) (plain-lead b c e) d g))
@@ -130,7 +133,7 @@ plain-of-lent s at classes k v h c e p =
     }
 
 pub kept-start : (x : Progress) (s : List ℕ) (from : ℕ) (key : List ℕ) → from ≤ length s
-    → KeptTo x s from key (placed x (x .mode) (x .bits) (x .high) (x .pos + (from - from)) (x .len)) from key
+    → KeptTo x s from key (placed x (x .mode) (registersOf x) (x .pos + (from - from)) (x .len)) from key
 kept-start x s from key h = let z : x .pos + (from - from) ≡ x .pos = omega arith in rw z (kept-none x s from key h)
 
 -- the record y as it was put together
@@ -140,9 +143,9 @@ kept-at x s from old y z at key e r = rw e r
 module _ (x : Progress) (s : List ℕ) (from end : ℕ) (old : List ℕ) (o : keepsChars x ≡ true) (w : from ≤ length s)
     (d : end ≡ from + min (length s - from) (16777216 - x .pos)) where
   pub kept-on : (bits len i more : ℕ) (key next : List ℕ) (v : Bool)
-      → KeptTo x s from old (placed x (x .mode) bits (x .high) (x .pos + (i - from)) len) i key → i < end → PlainAt s i v → v ≡ true
+      → KeptTo x s from old (placed x (x .mode) (withBits x bits) (x .pos + (i - from)) len) i key → i < end → PlainAt s i v → v ≡ true
       → next ≡ keptIn key len (getD s i 0) → more ≡ keyLen len (getD s i 0)
-      → KeptTo x s from old (placed x (x .mode) 0 (x .high) (x .pos + (i + 1 - from)) more) (i + 1) next
+      → KeptTo x s from old (placed x (x .mode) (withBits x 0) (x .pos + (i + 1 - from)) more) (i + 1) next
   kept-on bits len i more key next v r l p q g u =
       keep-on x s from old o bits (x .pos + (i - from)) len i (x .pos + (i + 1 - from)) more key next r (omega arith) (omega (arith, r .low)) (p .small)
       (sym (p .told) ∙ q) g u (omega (arith, r .low))

@@ -1,4 +1,5 @@
 pub mod ByteLaws
+pub mod NumberLaws
 pub mod StayLaws
 pub mod PassLaws
 pub mod KeepLaws

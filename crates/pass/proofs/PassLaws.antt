@@ -6,23 +6,37 @@ use Prim.Native.Nat.{ℕ, suc, _+_, _-_, _<_, _≤_, min}
 use native.Mathlib.Omega.{arith}
 use lib.Dec.{ltb}
 use lib.ListN.{length, getD, drop}
-use borrow.Author.Tests.{le-ltb, ltb-true, ltb-false}
-use Rattle.json.specs.Lexer.{stepOf}
+use borrow.Author.Tests.{le-ltb, ltb-true, ltb-false, ne-eqb}
+use Rattle.json.specs.Lexer.{numberMove, numberStep, stepTo, stepOf}
+use Rattle.json.specs.declared.number.NumberMode.{NumberMode}
+use Rattle.json.specs.declared.number.NumberMove.{NumberMove}
+use Rattle.json.specs.declared.number.NumberMove.the-variants as NM
 use Rattle.json.specs.declared.lexer.Top.{Top}
 use Rattle.json.specs.declared.lexer.Mode.{Mode}
+use Rattle.json.specs.declared.lexer.Mode.the-variants as M
+use Rattle.json.specs.declared.lexer.Act.the-variants as A
 use Rattle.json.specs.declared.lexer.Step.{Step}
+use Rattle.whole.specs.declared.Decimal.{Decimal}
+use Rattle.whole.specs.Count.{bounded, countedFrom}
 use Rattle.table.specs.Table.{Table}
 use Rattle.progress.specs.declared.Fault.{Fault}
 use Rattle.progress.specs.declared.Fault.the-variants as F
 use Rattle.progress.specs.declared.Progress.{Progress}
+use Rattle.progress.specs.Act.{numberAfter}
 use Rattle.progress.specs.Progress.{bitsIn, highIn, sound, advanced}
 use Rattle.progress.specs.Memory.{mem, topAt, runMem}
 use Rattle.chars.specs.Table.{classTable, classAt}
 use Rattle.lexer.specs.Given.{stepBy}
 use Rattle.lexer.proofs.GivenLaws.{stepBy-classTable}
-use Rattle.pass.specs.Pass.{StayedTo, bitsOver, passes, isSound, readsOn, placed, reached, passedAt, RunsTo, PassedTo}
+use Rattle.pass.specs.Pass.{StayedTo, bitsOver, numberOver, sinceAfter}
+use Rattle.pass.specs.Pass.{registers, registersOf, settled, registersOver, registersAfter, partOf, Stands}
+use Rattle.pass.specs.Pass.{passes, isSound, readsOn, placed, reached, passedAt, RunsTo, PassedTo}
+use Rattle.pass.specs.declared.Part.{Part}
+use Rattle.pass.specs.declared.Part.the-variants as Of
 use Rattle.pass.specs.declared.Passed.{Passed}
-use Rattle.pass.proofs.ByteLaws.{bump-below, never, next-run, passes-quiet, quiet-step, reads-told, rest-fits, byte-fits}
+use Rattle.pass.specs.declared.Registers.{Registers}
+use Rattle.pass.proofs.ByteLaws.{bump-below, never, next-run, passes-quiet, quiet-step, reads-told, rest-fits, byte-fits, count-more, in-piece}
+use Rattle.pass.proofs.NumberLaws.{number-none, number-on, number-same, number-byte, since-below, go-other}
 use Rattle.pass.proofs.StayLaws.{stay-some}
 
 -- ---- passing over: the record x is read
@@ -40,47 +54,91 @@ runs-on r q =
       same = λ t n root key w e. q .same t n root key w (ap (topAt w) (r .level) ∙ e) ∙ r .same t n root key w e;
     }
 
+-- the bytes of s from place i to place j leave the mode as it is: the registers at place j
+abbrev stayedAt : Mode → Registers → List ℕ → ℕ → ℕ → ℕ → Registers
+stayedAt m g s since i j = registers (bitsOver (ltb i j) m (g .bits)) (g .high) (numberOver m (g .number) s since (j - since))
+
+-- a mode that is none of a number has none to count
+other-over : (m : Mode) (g : Registers) (s : List ℕ) (since i j : ℕ) → partOf m ≡ Of.Other → registersOver (ltb i j) m g ≡ stayedAt m g s since i j
+unfolding registersOver
+other-over (M.At p) g s since i j e = refl
+other-over (M.Key t) g s since i j e = refl
+other-over (M.Text t) g s since i j e = refl
+other-over (M.Number n) g s since i j e = let z : _≡_ {A = ℕ} 0 1 = cc in absurd (omega arith)
+other-over (M.Word w k) g s since i j e = refl
+
+-- the mode of a part
+mode-of-part : (m : Mode) (n : NumberMode) → partOf m ≡ Of.Number n → m ≡ M.Number n
+mode-of-part (M.At p) n e = let z : _≡_ {A = ℕ} 0 1 = cc in absurd (omega arith)
+mode-of-part (M.Key t) n e = let z : _≡_ {A = ℕ} 0 1 = cc in absurd (omega arith)
+mode-of-part (M.Text t) n e = let z : _≡_ {A = ℕ} 0 1 = cc in absurd (omega arith)
+mode-of-part (M.Number k) n e = cc
+mode-of-part (M.Word w k) n e = let z : _≡_ {A = ℕ} 0 1 = cc in absurd (omega arith)
+
+-- the loop of numbers takes over
+pub stands-in : (x : Progress) (top : Top) (s : List ℕ) (from end : ℕ) (m : Mode) (n : NumberMode) (g : Registers) (since i : ℕ) (p : Part)
+    → Stands x top s from end m g since i → p ≡ partOf m → p ≡ Of.Number n → Stands x top s from end (M.Number n) g since i
+stands-in x top s from end m n g since i p r e q = rw (mode-of-part m n (sym e ∙ q)) at r
+
+-- the bits of no character stay
+number-over : (n : NumberMode) (g : Registers) (s : List ℕ) (since i j : ℕ)
+    → registers (g .bits) (g .high) (countedFrom bounded n (g .number) s since (j - since)) ≡ stayedAt (M.Number n) g s since i j
+unfolding bitsOver
+number-over n g s since i j = go (ltb i j) refl
+  where
+    go : (v : Bool) → ltb i j ≡ v
+        → registers (g .bits) (g .high) (countedFrom bounded n (g .number) s since (j - since)) ≡ stayedAt (M.Number n) g s since i j
+    go true e = rw e
+    go false e = rw e
+
 module _ (x : Progress) (top : Top) (s : List ℕ) (o : readsOn x ≡ true) where
   -- bytes that leave the mode as it is are passed over at once
-  stay-on : (i end j : ℕ) → StayedTo (x .mode) s i end j → end ≤ length s → x .pos + (end - i) ≤ 16777216
-      → RunsTo x top s i (placed x (x .mode) (bitsOver (ltb i j) (x .mode) (x .bits)) (x .high) (x .pos + (j - i)) (x .len)) j
+  stay-on : (i end j : ℕ) → StayedTo (x .mode) s i end j → end ≤ length s → (i < end → x .pos + (end - i) ≤ 16777216)
+      → RunsTo x top s i (placed x (x .mode) (stayedAt (x .mode) (registersOf x) s i i j) (x .pos + (j - i)) (x .len)) j
   unfolding bitsOver
   stay-on i end j g l v =
       record { low = g .low; high = omega (arith, g .high); level = refl; same = λ t n root key w z. go (ltb i j) refl t n root key w }
     where
       go : (y : Bool) → ltb i j ≡ y → (t : Table) (n : ℕ) (root : Bool) (key w : List ℕ)
-          → runMem t n (mem (placed x (x .mode) (cond (ltb i j) (bitsIn (x .mode) (x .bits) 0x20) (x .bits)) (x .high) (x .pos + (j - i)) (x .len)) root key w) j (drop j s)
+          → runMem t n (mem (placed x (x .mode) (stayedAt (x .mode) (registersOf x) s i i j) (x .pos + (j - i)) (x .len)) root key w) j (drop j s)
           ≡ runMem t n (mem x root key w) i (drop i s)
       go true y t n root key w =
           let less : i < j = ltb-true i j y in
+          let fits = v (omega (arith, g .high)) in
           let d = j - i - 1 in
-          let u : x .pos + (j - i) ≡ x .pos + suc d = omega arith in
+          let u : j - i ≡ suc d = omega arith in
           let c : j ≡ i + suc d = omega arith in
           let told = reads-told x o in
+          let more = registers (bitsIn (x .mode) (x .bits) 0x20) (x .high) (numberOver (x .mode) (x .number) s i (suc d)) in
           rw (y, u)
-          (ap (λ (k : ℕ). runMem t n (mem (placed x (x .mode) (bitsIn (x .mode) (x .bits) 0x20) (x .high) (x .pos + suc d) (x .len)) root key w) k (drop k s)) c
-          ∙ stay-some t n x (x .mode) (x .high) (x .len) root key w s (told .0) (told .1) d (x .bits) (x .pos) i (omega (arith, g .high)) (omega (arith, g .high))
-          (λ k a b. g .stays k a (omega arith)))
+          (ap (λ (k : ℕ). runMem t n (mem (placed x (x .mode) more (x .pos + suc d) (x .len)) root key w) k (drop k s)) c
+          ∙ stay-some t n x (x .mode) (x .high) (x .len) root key w s (told .0) (told .1) d (x .bits) (x .number) (x .pos) i (omega (arith, g .high))
+          (omega (arith, g .high)) (λ k a b. g .stays k a (omega arith)))
       go false y t n root key w =
           let c : j ≡ i = omega (arith, ltb-false i j y, g .low) in
-          let u : x .pos + (j - i) ≡ x .pos = omega arith in
-          rw (y, u, c)
+          let z : j - i ≡ 0 = omega arith in
+          let u : x .pos + 0 ≡ x .pos = omega arith in
+          rw (y, z, u, number-none (x .mode) (x .number) s i, c)
 
   -- a byte with a quiet act is passed over
   pass-on : (i : ℕ) (st : Step) → i < length s → x .pos < 16777216 → st ≡ stepOf (x .mode) top (getD s i 0)
       → passes (st .act) (st .ends) (getD s i 0) ≡ true
-      → RunsTo x top s i (placed x (st .mode) (bitsIn (x .mode) (x .bits) (getD s i 0)) (highIn (x .mode) (x .bits) (x .high) (getD s i 0)) (x .pos + 1) (x .len)) (i + 1)
+      → RunsTo x top s i
+      (placed x (st .mode)
+      (settled (st .mode) (registersAfter (x .mode) (st .act) (registersOf x) (getD s i 0)) s (sinceAfter (st .act) i) (i + 1)) (x .pos + 1) (x .len))
+      (i + 1)
+  unfolding registersAfter
   pass-on i st l v e c =
       let told = reads-told x o in
       let b = getD s i 0 in
+      let y = registers (bitsIn (x .mode) (x .bits) b) (highIn (x .mode) (x .bits) (x .high) b) (numberAfter (st .act) (st .mode) (x .number) b) in
+      rw (number-byte (st .act) (st .mode) (x .number) s i)
       record {
         low = omega arith;
         high = omega arith;
         level = refl;
         same = λ t n root key w z.
-            next-run t n (mem x root key w)
-            (mem (placed x (st .mode) (bitsIn (x .mode) (x .bits) b) (highIn (x .mode) (x .bits) (x .high) b) (x .pos + 1) (x .len)) root key w) s i l
-            (passes-quiet (st .act) (st .ends) b c .0)
+            next-run t n (mem x root key w) (mem (placed x (st .mode) y (x .pos + 1) (x .len)) root key w) s i l (passes-quiet (st .act) (st .ends) b c .0)
             (rw (← bump-below (x .pos) v)
             (quiet-step t n x root key w b (told .0) (told .1) v st (e ∙ ap (λ (k : Top). stepOf (x .mode) k b) (sym z)) c));
       }
@@ -108,9 +166,11 @@ out-unread x top s from st h e =
 
 -- ---- the loop, up to the end of the piece or of the longest record
 
-pub runs-start : (x : Progress) (top : Top) (s : List ℕ) (from : ℕ) → from ≤ length s
-    → RunsTo x top s from (placed x (x .mode) (x .bits) (x .high) (x .pos + (from - from)) (x .len)) from
-runs-start x top s from h = let z : x .pos + (from - from) ≡ x .pos = omega arith in rw z (runs-none x top s from h)
+pub stands-first : (x : Progress) (top : Top) (s : List ℕ) (from end : ℕ) (g : Registers) → from ≤ length s
+    → end ≡ from + min (length s - from) (16777216 - x .pos) → g ≡ registersOf x → Stands x top s from end (x .mode) g from from
+stands-first x top s from end g h d e =
+    let z : x .pos + (from - from) ≡ x .pos = omega arith in
+    record { below = omega arith; counted = omega arith; runs = rw (e, z, number-same (x .mode) (x .number) s from) (runs-none x top s from h) }
 
 too-long : (y : Progress) (n b : ℕ) (a z : Step) → y .head ≡ false → y .fault ≡ F.Sound → 16777216 ≤ y .pos → advanced y n b a ≡ advanced y n b z
 unfolding advanced sound
@@ -118,43 +178,98 @@ too-long y n b a z h f p = rw (h, f, le-ltb (y .pos) 16777216 p)
 
 module _ (x : Progress) (top : Top) (s : List ℕ) (from end : ℕ) (o : readsOn x ≡ true) (w : from ≤ length s)
     (d : end ≡ from + min (length s - from) (16777216 - x .pos)) where
-  -- at the end of the piece, or where the record is too long
-  pub out-at-end : (m : Mode) (bits high i : ℕ) (y : Passed) (st : Step) → RunsTo x top s from (reached x m bits high from i) i → end ≤ i
-      → y ≡ passedAt x m bits high from i st → PassedTo x top s from (y .progress) (y .at) (y .step)
-  out-at-end m bits high i y st r l e =
-      let told = reads-told x o in
-      rw e
-      record {
-        runs = r;
-        step = λ n h. too-long (reached x m bits high from i) n (getD s i 0) st (stepOf m top (getD s i 0)) (told .0) (told .1) (omega (arith, r .low));
-      }
-
-  -- from i the bytes up to j leave the mode as it is; more: the bits after them
-  module _ (m : Mode) (bits high i j more : ℕ) (r : RunsTo x top s from (reached x m bits high from i) i) (h : i < end) (g : StayedTo m s i end j)
-      (e : more ≡ bitsOver (ltb i j) m bits) where
-    stayed : RunsTo x top s from (reached x m more high from j) j
+  -- from i the bytes up to j leave the mode as it is; more: the registers after them
+  module _ (m : Mode) (c : Registers) (since i j : ℕ) (more : Registers) (r : Stands x top s from end m c since i) (g : StayedTo m s i end j)
+      (e : more ≡ stayedAt m c s since i j) where
+    stayed : RunsTo x top s from (reached x m more from j) j
     unfolding readsOn
     stayed =
-        let z : x .pos + (j - from) ≡ x .pos + (i - from) + (j - i) = omega (arith, r .low, g .low) in
+        let z : x .pos + (j - from) ≡ x .pos + (i - from) + (j - i) = omega (arith, r .runs .low, g .low) in
         let l : end ≤ length s = omega arith in
-        runs-on r
-        (rw (e, z) (stay-on (reached x m bits high from i) top s o i end j g l (rest-fits (length s) from (x .pos) end i d (r .low) h)))
+        runs-on (r .runs)
+        (rw (e, z, number-on m (c .number) s since i j (r .counted) (g .low))
+        (stay-on (reached x m (settled m c s since i) from i) top s o i end j g l (λ h. rest-fits (length s) from (x .pos) end i d (r .runs .low) h)))
 
-    pub out-stayed : (y : Passed) (st : Step) → j ≡ end → y ≡ passedAt x m more high from j st → PassedTo x top s from (y .progress) (y .at) (y .step)
-    out-stayed y st q f = out-at-end m more high j y st stayed (omega arith) f
+    -- at the end of the piece, or where the record is too long
+    stayed-out : (y : Passed) (st : Step) → j ≡ end → y ≡ passedAt x m more from j st → PassedTo x top s from (y .progress) (y .at) (y .step)
+    stayed-out y st q f =
+        let told = reads-told x o in
+        rw f
+        record {
+          runs = stayed;
+          step = λ n h. too-long (reached x m more from j) n (getD s j 0) st (stepOf m top (getD s j 0)) (told .0) (told .1) (omega (arith, stayed .low));
+        }
 
     -- of the byte at j the lexer makes the step st
     module _ (st : Step) (a : st ≡ stepOf m top (getD s j 0)) where
       -- the byte at j is not passed over
-      pub out-at-byte : (y : Passed) → y ≡ passedAt x m more high from j st → PassedTo x top s from (y .progress) (y .at) (y .step)
-      out-at-byte y f = rw f record { runs = stayed; step = λ n l. ap (λ (z : Step). advanced (reached x m more high from j) n (getD s j 0) z) a }
+      byte-out : (y : Passed) → y ≡ passedAt x m more from j st → PassedTo x top s from (y .progress) (y .at) (y .step)
+      byte-out y f = rw f record { runs = stayed; step = λ n l. ap (λ (z : Step). advanced (reached x m more from j) n (getD s j 0) z) a }
 
       -- the byte at j is passed over
-      pub passed-on : (later next : ℕ) (v : Bool) → (j ≡ end → ⊥) → v ≡ passes (st .act) (st .ends) (getD s j 0) → v ≡ true → next ≡ highIn m more high (getD s j 0)
-          → later ≡ bitsIn m more (getD s j 0) → RunsTo x top s from (reached x (st .mode) later next from (j + 1)) (j + 1)
+      byte-on : (next : Registers) (later : ℕ) → (j ≡ end → ⊥) → passes (st .act) (st .ends) (getD s j 0) ≡ true
+          → next ≡ registersAfter m (st .act) more (getD s j 0) → later ≡ sinceAfter (st .act) j → Stands x top s from end (st .mode) next later (j + 1)
       unfolding readsOn
-      passed-on later next v n q y f c =
+      byte-on next later n q f k =
           let less : j < end = omega (arith, g .high) in
-          let z : x .pos + (j + 1 - from) ≡ x .pos + (j - from) + 1 = omega (arith, r .low, g .low) in
+          let z = count-more (x .pos) from j (stayed .low) in
           let short : x .pos + (j - from) < 16777216 = byte-fits (length s) from (x .pos) end j d (stayed .low) less in
-          runs-on stayed (rw (z, f, c) (pass-on (reached x m more high from j) top s o j st (omega arith) short a (sym q ∙ y)))
+          record {
+            below = omega arith;
+            counted = since-below (st .act) j later k;
+            runs = runs-on stayed (rw (z, f, k) (pass-on (reached x m more from j) top s o j st (in-piece (length s) from (x .pos) end j d w less) short a q));
+          }
+
+  -- ---- the loop over other bytes than those of a number
+
+  module _ (m : Mode) (p : Part) (c : Registers) (since i j : ℕ) (more : Registers) (t : p ≡ partOf m) (u : p ≡ Of.Other)
+      (r : Stands x top s from end m c since i) (g : StayedTo m s i end j) (e : more ≡ registersOver (ltb i j) m c) where
+    same : more ≡ stayedAt m c s since i j
+    same = e ∙ other-over m c s since i j (sym t ∙ u)
+
+    pub out-stayed : (y : Passed) (st : Step) → j ≡ end → y ≡ passedAt x m more from j st → PassedTo x top s from (y .progress) (y .at) (y .step)
+    out-stayed y st q f = stayed-out m c since i j more r g same y st q f
+
+    module _ (st : Step) (a : st ≡ stepOf m top (getD s j 0)) where
+      pub out-at-byte : (y : Passed) → y ≡ passedAt x m more from j st → PassedTo x top s from (y .progress) (y .at) (y .step)
+      out-at-byte y f = byte-out m c since i j more r g same st a y f
+
+      pub passed-on : (next : Registers) (later : ℕ) (v : Bool) → (j ≡ end → ⊥) → v ≡ passes (st .act) (st .ends) (getD s j 0) → v ≡ true
+          → next ≡ registersAfter m (st .act) more (getD s j 0) → later ≡ sinceAfter (st .act) j → Stands x top s from end (st .mode) next later (j + 1)
+      passed-on next later v n q y f k = byte-on m c since i j more r g same st a next later n (sym q ∙ y) f k
+
+  -- ---- the loop over the bytes of a number
+
+  module _ (n : NumberMode) (c : Registers) (old new : Decimal) (since i j : ℕ)
+      (r : Stands x top s from end (M.Number n) (registers (c .bits) (c .high) old) since i) (g : StayedTo (M.Number n) s i end j)
+      (e : new ≡ countedFrom bounded n old s since (j - since)) where
+    now : Registers
+    now = registers (c .bits) (c .high) new
+
+    same-number : now ≡ stayedAt (M.Number n) (registers (c .bits) (c .high) old) s since i j
+    unfolding now
+    same-number = rw e (number-over n (registers (c .bits) (c .high) old) s since i j)
+
+    pub number-out : (u : Registers) (y : Passed) (st : Step) → j ≡ end → u ≡ registers (c .bits) (c .high) new → y ≡ passedAt x (M.Number n) u from j st
+        → PassedTo x top s from (y .progress) (y .at) (y .step)
+    unfolding now
+    number-out u y st q e f =
+        stayed-out (M.Number n) (registers (c .bits) (c .high) old) since i j now r g same-number y st q
+        (f ∙ ap (λ (v : Registers). passedAt x (M.Number n) v from j st) e)
+
+    pub number-at-byte : (st : Step) (u : Registers) (y : Passed) → st ≡ numberStep (numberMove n (getD s j 0)) top (getD s j 0)
+        → u ≡ registers (c .bits) (c .high) new → y ≡ passedAt x (M.Number n) u from j st → PassedTo x top s from (y .progress) (y .at) (y .step)
+    unfolding now
+    number-at-byte st u y a e f =
+        byte-out (M.Number n) (registers (c .bits) (c .high) old) since i j now r g same-number st a y
+        (f ∙ ap (λ (v : Registers). passedAt x (M.Number n) v from j st) e)
+
+    pub number-goes : (k : NumberMove) (next : NumberMode) → (j ≡ end → ⊥) → k ≡ numberMove n (getD s j 0) → k ≡ NM.Go next
+        → Stands x top s from end (M.Number next) (registers (c .bits) (c .high) new) j (j + 1)
+    unfolding now registersAfter passes
+    number-goes k next l a q =
+        let b = getD s j 0 in
+        let goes : numberMove n b ≡ NM.Go next = sym a ∙ q in
+        let other = go-other n next b goes in
+        byte-on (M.Number n) (registers (c .bits) (c .high) old) since i j now r g same-number (stepTo (M.Number next) A.NumberByte)
+        (ap (λ (z : NumberMove). numberStep z top b) (sym goes)) now j l (rw (ne-eqb b 0x1E other)) refl (omega arith)

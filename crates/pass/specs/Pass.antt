@@ -22,13 +22,19 @@ use Rattle.json.specs.declared.lexer.Top.{Top}
 use Rattle.json.specs.declared.lexer.Act.{Act}
 use Rattle.json.specs.declared.lexer.Act.the-variants as A
 use Rattle.json.specs.declared.lexer.Step.{Step}
+use Rattle.whole.specs.declared.Decimal.{Decimal}
+use Rattle.whole.specs.Fresh.{fresh}
+use Rattle.whole.specs.Count.{bounded, countedFrom}
 use Rattle.table.specs.Table.{Table}
 use Rattle.progress.specs.declared.Fault.{Fault}
 use Rattle.progress.specs.declared.Fault.the-variants as F
 use Rattle.progress.specs.declared.Progress.{Progress}
-use Rattle.progress.specs.Progress.{bitsIn, advanced}
+use Rattle.progress.specs.Progress.{bitsIn, highIn, advanced}
 use Rattle.progress.specs.Memory.{mem, topAt, runMem}
+use Rattle.pass.specs.declared.Part.{Part}
+use Rattle.pass.specs.declared.Part.the-variants as Of
 use Rattle.pass.specs.declared.Passed.{Passed}
+use Rattle.pass.specs.declared.Registers.{Registers}
 
 -- ---- bytes that leave the mode as it is
 
@@ -106,6 +112,84 @@ pub record StayedTo (m : Mode) (s : List ℕ) (from end at : ℕ) : Type 0 where
 unfoldable pub bitsOver : Bool → Mode → ℕ → ℕ
 bitsOver some m bits = cond some (bitsIn m bits 0x20) bits
 
+-- what is known of a number after the k bytes of s from place i on, each of which leads to mode m
+abbrev pub numberOver : Mode → Decimal → List ℕ → ℕ → ℕ → Decimal
+numberOver (M.At p) d s i k = d
+numberOver (M.Key t) d s i k = d
+numberOver (M.Text t) d s i k = d
+numberOver (M.Number n) d s i k = countedFrom bounded n d s i k
+numberOver (M.Word w j) d s i k = d
+
+-- ---- the registers
+
+abbrev pub registers : ℕ → ℕ → Decimal → Registers
+registers bits high d = record { bits = bits; high = high; number = d }
+
+abbrev pub registersOf : Progress → Registers
+registersOf x = registers (x .bits) (x .high) (x .number)
+
+-- those of a record, but for the bits
+abbrev pub withBits : Progress → ℕ → Registers
+withBits x bits = registers bits (x .high) (x .number)
+
+-- the bytes of s from place `since` on, which lead to mode m, are still to be counted for the number: the registers at place i
+abbrev pub settled : Mode → Registers → List ℕ → ℕ → ℕ → Registers
+settled m g s since i = registers (g .bits) (g .high) (numberOver m (g .number) s since (i - since))
+
+-- after some bytes that leave a mode as it is, which is none of a number, or after none
+unfoldable pub registersOver : Bool → Mode → Registers → Registers
+registersOver some m g = registers (bitsOver some m (g .bits)) (g .high) (g .number)
+
+-- the number before a byte with an act: one that begins is fresh
+abbrev pub numberBefore : Act → Decimal → Decimal
+numberBefore A.Fault d = d
+numberBefore A.Pass d = d
+numberBefore A.OpenArray d = d
+numberBefore A.OpenObject d = d
+numberBefore A.Close d = d
+numberBefore A.KeyStart d = d
+numberBefore A.KeyChar d = d
+numberBefore A.KeyEnd d = d
+numberBefore A.TextStart d = d
+numberBefore A.TextChar d = d
+numberBefore A.TextEnd d = d
+numberBefore A.NumberStart d = fresh
+numberBefore A.NumberByte d = d
+numberBefore (A.WordEnd w) d = d
+
+-- after byte b with an act, but that b is still to be counted for the number
+unfoldable pub registersAfter : Mode → Act → Registers → ℕ → Registers
+registersAfter m a g b = registers (bitsIn m (g .bits) b) (highIn m (g .bits) (g .high) b) (numberBefore a (g .number))
+
+-- how many bytes of a number are still to be counted after one with an act
+abbrev pub uncounted : Act → ℕ
+uncounted A.Fault = 0
+uncounted A.Pass = 0
+uncounted A.OpenArray = 0
+uncounted A.OpenObject = 0
+uncounted A.Close = 0
+uncounted A.KeyStart = 0
+uncounted A.KeyChar = 0
+uncounted A.KeyEnd = 0
+uncounted A.TextStart = 0
+uncounted A.TextChar = 0
+uncounted A.TextEnd = 0
+uncounted A.NumberStart = 1
+uncounted A.NumberByte = 1
+uncounted (A.WordEnd w) = 0
+
+-- from where on they stand after the one at place i
+abbrev pub sinceAfter : Act → ℕ → ℕ
+sinceAfter a i = i + 1 - uncounted a
+
+-- a mode of a number, or another
+abbrev pub partOf : Mode → Part
+partOf (M.At p) = Of.Other
+partOf (M.Key s) = Of.Other
+partOf (M.Text s) = Of.Other
+partOf (M.Number n) = Of.Number n
+partOf (M.Word w i) = Of.Other
+
 -- ---- bytes with a quiet act
 
 -- the act changes neither levels, key nor frames
@@ -153,16 +237,27 @@ unfoldable pub keepsChars : Progress → Bool
 keepsChars x = keepsIn (x .mode) x
 
 -- the record x at another mode, with other registers, after pos bytes, with len characters of its key
-abbrev pub placed : Progress → Mode → ℕ → ℕ → ℕ → ℕ → Progress
-placed x m bits high pos len =
-    record { mode = m; fault = x .fault; head = x .head; level = x .level; pos = pos; place = x .place; bits = bits; high = high; len = len }
+abbrev pub placed : Progress → Mode → Registers → ℕ → ℕ → Progress
+placed x m g pos len =
+    record {
+      mode = m;
+      fault = x .fault;
+      head = x .head;
+      level = x .level;
+      pos = pos;
+      place = x .place;
+      bits = g .bits;
+      high = g .high;
+      number = g .number;
+      len = len;
+    }
 
 -- the record x, whose next byte stood at one place of a piece, at another place of it
-abbrev pub reached : Progress → Mode → ℕ → ℕ → ℕ → ℕ → Progress
-reached x m bits high from at = placed x m bits high (x .pos + (at - from)) (x .len)
+abbrev pub reached : Progress → Mode → Registers → ℕ → ℕ → Progress
+reached x m g from at = placed x m g (x .pos + (at - from)) (x .len)
 
-abbrev pub passedAt : Progress → Mode → ℕ → ℕ → ℕ → ℕ → Step → Passed
-passedAt x m bits high from at st = record { progress = reached x m bits high from at; at = at; step = st }
+abbrev pub passedAt : Progress → Mode → Registers → ℕ → ℕ → Step → Passed
+passedAt x m g from at st = record { progress = reached x m g from at; at = at; step = st }
 
 -- ---- passing over
 
@@ -173,6 +268,13 @@ pub record RunsTo (x : Progress) (top : Top) (s : List ℕ) (from : ℕ) (y : Pr
   pub level : y .level ≡ x .level
   pub same : (t : Table) (n : ℕ) (root : Bool) (key w : List ℕ) → topAt w (x .level) ≡ top
       → runMem t n (mem y root key w) at (drop at s) ≡ runMem t n (mem x root key w) from (drop from s)
+
+-- the loop stands at place i of s, not past an end: the bytes before it make of the record x one in mode m, with the registers g, where the bytes from
+-- place `since` on are still to be counted for the number
+pub record Stands (x : Progress) (top : Top) (s : List ℕ) (from end : ℕ) (m : Mode) (g : Registers) (since i : ℕ) : Type 0 where
+  pub below : i ≤ end
+  pub counted : since ≤ i
+  pub runs : RunsTo x top s from (reached x m (settled m g s since i) from i) i
 
 -- the bytes of s up to place `at` make y of the record x, and of the byte there the limits make with the step st what they make with its own
 pub record PassedTo (x : Progress) (top : Top) (s : List ℕ) (from : ℕ) (y : Progress) (at : ℕ) (st : Step) : Type 0 where

@@ -7,7 +7,9 @@ ghost use lib.ListN.{length, getD};
 ghost use Rattle.json.specs.Lexer.{stepOf};
 ghost use Rattle.json.specs.Numbers.{isDigit};
 ghost use Rattle.chars.specs.Table.{classTable, classAt};
-ghost use Rattle.pass.specs.Pass.{plainClass, awaitsChar, inDigits, staysIn, StayedTo, bitsOver, isQuiet, passes, readsOn, keepsChars, placed, passedAt, PassedTo, PlainAt, KeptTo};
+ghost use Rattle.pass.specs.Pass.{plainClass, awaitsChar, inDigits, staysIn, StayedTo};
+ghost use Rattle.pass.specs.Pass.{bitsOver, numberBefore, uncounted, sinceAfter, registers, registersOf, registersOver, registersAfter, partOf};
+ghost use Rattle.pass.specs.Pass.{isQuiet, passes, readsOn, keepsChars, placed, passedAt, Stands, PassedTo, PlainAt, KeptTo};
 use json::class::Class;
 use json::lexer::Act;
 use json::lexer::Awaited;
@@ -15,11 +17,13 @@ use json::lexer::Mode;
 use json::lexer::Step;
 use json::lexer::Top;
 use json::number::NumberMode;
+use json::number::NumberMove;
 use json::string::StringMode;
 use progress::Fault;
 use progress::Progress;
 use progress::key;
 use progress::register;
+use whole::Decimal;
 
 // After the bytes passed over: what is known of the record, where that is in the piece, and the step that the lexer makes of the byte there.
 pub struct Passed {
@@ -32,6 +36,19 @@ pub struct Passed {
 pub struct KeyRead {
     pub progress: Progress,
     pub at: usize,
+}
+
+// The registers of the open character and of the open number.
+struct Registers {
+    bits: u32,
+    high: u32,
+    number: Decimal,
+}
+
+// A mode of a number, or another.
+enum Part {
+    Number(NumberMode),
+    Other,
 }
 
 // A byte of the class is a whole character of a string.
@@ -164,6 +181,133 @@ fn bits_over(some: bool, m: Mode, bits: u32) -> u32
     bits
 }
 
+// The place after the digits that leave a number's mode as it is.
+fn digits_end(n: NumberMode, s: &[u8], from: usize, end: usize) -> usize
+    requires { ⌜ (from ≤ end) × (end ≤ length (now s)) ⌝ }
+    ensures { λ r. ⌜ StayedTo (Mode.Number n) (now (s .entry)) from end r ⌝ }
+{
+    let mut i = from;
+    while i < end {
+        if stays_digit(n, s[i]) {} else {
+            return i;
+        }
+        i += 1;
+    }
+    i
+}
+
+// The registers of a record.
+fn registers_of(x: Progress) -> Registers
+    ensures { λ r. ⌜ r ≡ registersOf x ⌝ }
+{
+    let d = x.number;
+    Registers {
+        bits: x.bits,
+        high: x.high,
+        number: d,
+    }
+}
+
+// The registers with another number.
+fn with_number(g: Registers, d: Decimal) -> Registers
+    ensures { λ r. ⌜ r ≡ registers (g .bits) (g .high) d ⌝ }
+{
+    Registers {
+        bits: g.bits,
+        high: g.high,
+        number: d,
+    }
+}
+
+// The registers after some bytes that leave a mode as it is, which is none of a number, or after none.
+fn registers_over(some: bool, m: Mode, g: Registers) -> Registers
+    ensures { λ r. ⌜ r ≡ registersOver some m g ⌝ }
+{
+    let d = g.number;
+    Registers {
+        bits: bits_over(some, m, g.bits),
+        high: g.high,
+        number: d,
+    }
+}
+
+// The number before a byte with an act: one that begins is fresh.
+fn number_before(a: Act, d: Decimal) -> Decimal
+    ensures { λ r. ⌜ r ≡ numberBefore a d ⌝ }
+{
+    match a {
+        Act::Fault => d,
+        Act::Pass => d,
+        Act::OpenArray => d,
+        Act::OpenObject => d,
+        Act::Close => d,
+        Act::KeyStart => d,
+        Act::KeyChar => d,
+        Act::KeyEnd => d,
+        Act::TextStart => d,
+        Act::TextChar => d,
+        Act::TextEnd => d,
+        Act::NumberStart => whole::fresh(),
+        Act::NumberByte => d,
+        Act::WordEnd(_) => d,
+    }
+}
+
+// How many bytes of a number are still to be counted after one with an act: a byte of a number is counted with those that follow it in its mode.
+fn uncounted(a: Act) -> usize
+    ensures { λ r. ⌜ r ≡ uncounted a ⌝ }
+{
+    match a {
+        Act::Fault => 0,
+        Act::Pass => 0,
+        Act::OpenArray => 0,
+        Act::OpenObject => 0,
+        Act::Close => 0,
+        Act::KeyStart => 0,
+        Act::KeyChar => 0,
+        Act::KeyEnd => 0,
+        Act::TextStart => 0,
+        Act::TextChar => 0,
+        Act::TextEnd => 0,
+        Act::NumberStart => 1,
+        Act::NumberByte => 1,
+        Act::WordEnd(_) => 0,
+    }
+}
+
+// From where on they stand after the one at place i.
+fn since_after(a: Act, i: usize) -> usize
+    requires { ⌜ i < 18446744073709551615 ⌝ }
+    ensures { λ r. ⌜ r ≡ sinceAfter a i ⌝ }
+{
+    i + 1 - uncounted(a)
+}
+
+// The registers after byte b with an act, but that b is still to be counted for the number.
+fn registers_after(m: Mode, a: Act, g: Registers, b: u8) -> Registers
+    ensures { λ r. ⌜ r ≡ registersAfter m a g b ⌝ }
+{
+    let d = g.number;
+    Registers {
+        bits: register::bits_in(m, g.bits, b),
+        high: register::high_in(m, g.bits, g.high, b),
+        number: number_before(a, d),
+    }
+}
+
+// A mode of a number, or another.
+fn part_of(m: Mode) -> Part
+    ensures { λ r. ⌜ r ≡ partOf m ⌝ }
+{
+    match m {
+        Mode::At(_) => Part::Other,
+        Mode::Key(_) => Part::Other,
+        Mode::Text(_) => Part::Other,
+        Mode::Number(n) => Part::Number(n),
+        Mode::Word(_, _) => Part::Other,
+    }
+}
+
 // The act changes neither levels, key nor frames.
 fn is_quiet(a: Act) -> bool
     ensures { λ r. ⌜ r ≡ isQuiet a ⌝ }
@@ -231,11 +375,12 @@ fn room(len: usize, from: usize, pos: u32) -> usize
 }
 
 // The record x at another mode, with other registers, and count bytes further.
-fn place_at(x: Progress, m: Mode, bits: u32, high: u32, count: usize, len: u8) -> Progress
+fn place_at(x: Progress, m: Mode, g: Registers, count: usize, len: u8) -> Progress
     requires { ⌜ x .pos + count ≤ 4294967295 ⌝ }
-    ensures { λ r. ⌜ r ≡ placed x m bits high (x .pos + count) len ⌝ }
+    ensures { λ r. ⌜ r ≡ placed x m g (x .pos + count) len ⌝ }
 {
     let f = x.fault;
+    let d = g.number;
     Progress {
         mode: m,
         fault: f,
@@ -243,19 +388,20 @@ fn place_at(x: Progress, m: Mode, bits: u32, high: u32, count: usize, len: u8) -
         level: x.level,
         pos: x.pos + (count as u32),
         place: x.place,
-        bits: bits,
-        high: high,
+        bits: g.bits,
+        high: g.high,
+        number: d,
         len: len,
     }
 }
 
 // The record x at another mode, with other registers, where the bytes of the piece from one place to another were passed over.
-fn passed_at(x: Progress, m: Mode, bits: u32, high: u32, from: usize, at: usize, st: Step) -> Passed
+fn passed_at(x: Progress, m: Mode, g: Registers, from: usize, at: usize, st: Step) -> Passed
     requires { ⌜ (from ≤ at) × (x .pos + (at - from) ≤ 4294967295) ⌝ }
-    ensures { λ r. ⌜ r ≡ passedAt x m bits high from at st ⌝ }
+    ensures { λ r. ⌜ r ≡ passedAt x m g from at st ⌝ }
 {
     Passed {
-        progress: place_at(x, m, bits, high, at - from, x.len),
+        progress: place_at(x, m, g, at - from, x.len),
         at: at,
         step: st,
     }
@@ -278,7 +424,46 @@ fn step_at<'a>(classes: &'a [u8; 256], m: Mode, top: Top, s: &'a [u8], at: usize
     lexer::step::step(classes, m, top, s[at])
 }
 
-// Passes over bytes up to a place where the record is not too long yet.
+// Passes over bytes of a number up to a place where the record is not too long yet. They are counted at once where they lead to one mode.
+fn number_to(
+    x: Progress,
+    top: Top,
+    first: NumberMode,
+    g: Registers,
+    s: &[u8],
+    from: usize,
+    start: usize,
+    begin: usize,
+    end: usize,
+) -> Passed
+    requires { ⌜ (readsOn x ≡ true) × (from ≤ length (now s)) × (end ≡ from + min (length (now s) - from) (16777216 - x .pos)) × Stands x top (now s) from end (Mode.Number first) g start begin ⌝ }
+    ensures { λ r. ⌜ PassedTo x top (now (s .entry)) from (r .progress) (r .at) (r .step) ⌝ }
+{
+    let mut n = first;
+    let mut d = g.number;
+    let mut since = start;
+    let mut i = begin;
+    loop {
+        let j = digits_end(n, s, i, end);
+        d = whole::run::over(n, d, s, since, j);
+        let now = with_number(g, d);
+        if j == end {
+            return passed_at(x, Mode::Number(n), now, from, j, no_step());
+        }
+        let b = s[j];
+        let k = lexer::number::number_move(n, b);
+        if let NumberMove::Go(next) = k {
+            n = next;
+            since = j;
+            i = j + 1;
+        } else {
+            let st = lexer::step::number_step(n, top, b);
+            return passed_at(x, Mode::Number(n), now, from, j, st);
+        }
+    }
+}
+
+// Passes over bytes up to a place where the record is not too long yet. A number that begins is passed over in a loop of its own.
 fn pass_to<'a>(
     classes: &'a [u8; 256],
     x: Progress,
@@ -291,28 +476,31 @@ fn pass_to<'a>(
     ensures { λ r. ⌜ PassedTo x top (now (s .entry)) from (r .progress) (r .at) (r .step) ⌝ }
 {
     let mut m = x.mode;
-    let mut bits = x.bits;
-    let mut high = x.high;
+    let mut g = registers_of(x);
+    let mut since = from;
     let mut i = from;
-    while i < end {
+    loop {
+        let p = part_of(m);
+        if let Part::Number(n) = p {
+            return number_to(x, top, n, g, s, from, since, i, end);
+        }
         let j = stay_end(classes, m, s, i, end);
-        bits = bits_over(i < j, m, bits);
+        g = registers_over(i < j, m, g);
         if j == end {
-            return passed_at(x, m, bits, high, from, j, no_step());
+            return passed_at(x, m, g, from, j, no_step());
         }
         let b = s[j];
         let st = step_at(classes, m, top, s, j);
         let a = st.act;
         if passes(a, st.ends, b) {} else {
-            return passed_at(x, m, bits, high, from, j, st);
+            return passed_at(x, m, g, from, j, st);
         }
-        high = register::high_in(m, bits, high, b);
-        bits = register::bits_in(m, bits, b);
+        g = registers_after(m, a, g, b);
+        since = since_after(a, j);
         let next = st.mode;
         m = next;
         i = j + 1;
     }
-    passed_at(x, m, bits, high, from, i, no_step())
 }
 
 // Passes over the bytes of a piece that only change where the reader stands in the record. Ruled out: a pass over the RS that ends a record,
@@ -384,8 +572,14 @@ fn keep_to<'a>(
         bits = 0;
         i += 1;
     }
+    let d = x.number;
+    let g = Registers {
+        bits: bits,
+        high: x.high,
+        number: d,
+    };
     KeyRead {
-        progress: place_at(x, m, bits, x.high, i - from, len),
+        progress: place_at(x, m, g, i - from, len),
         at: i,
     }
 }

@@ -11,12 +11,15 @@ use borrow.Author.Tests.{lt-ltb, le-ltb, ltb-true}
 use Rattle.json.specs.declared.lexer.Mode.{Mode}
 use Rattle.json.specs.declared.lexer.Act.{Act}
 use Rattle.json.specs.declared.lexer.Act.the-variants as A
+use Rattle.whole.specs.declared.Decimal.{Decimal}
+use Rattle.whole.specs.Count.{isWhole}
+use Rattle.table.specs.declared.kind.Scalar.the-variants as K
 use Rattle.progress.specs.declared.Fault.{Fault}
 use Rattle.progress.specs.declared.Fault.the-variants as F
 use Rattle.progress.specs.declared.Progress.{Progress}
 use Rattle.progress.specs.declared.Task.{Task}
 use Rattle.progress.specs.declared.Advanced.{Advanced}
-use Rattle.progress.specs.Act.{openLevel, keyLen, keptIn, firstFault, levelAfter, lenAfter, taskOf}
+use Rattle.progress.specs.Act.{openLevel, keyLen, keptIn, firstFault, levelAfter, lenAfter, numberKind, taskOf}
 use Rattle.progress.specs.Progress.{advance, charIn, moved, actedBy, acted}
 
 -- ---- the parts of an act, where f is the fault that was found
@@ -28,9 +31,20 @@ module _ (a : Act) (e : Bool) (x : Progress) (n b : ℕ) (m : Mode) (f : Fault) 
 
   -- where no fault was found, the parts of the act are put together
   pub acted-of-sound : (c level len : ℕ) (next : Progress) (task : Task) → f ≡ F.Sound → c ≡ charIn (x .mode) (x .bits) (x .high) b
-      → level ≡ levelAfter a (x .level) n → len ≡ lenAfter a (x .len) c → next ≡ moved x b m level len → task ≡ taskOf a e (x .mode) (x .len) c
+      → level ≡ levelAfter a (x .level) n → len ≡ lenAfter a (x .len) c → next ≡ moved x a b m level len → task ≡ taskOf a e (x .number) (x .len) c
       → advance next task ≡ acted a e x n b m
   acted-of-sound c level len next task k p q r u v = acted-of-fault F.Sound (advance next task) k (rw (v, u, r, q, p))
+
+-- ---- the kind of a number
+
+-- v is what the test found
+pub kind-whole : (d : Decimal) (v : Bool) → v ≡ isWhole d → v ≡ true → K.Int ≡ numberKind d
+unfolding numberKind
+kind-whole d v e h = simp (sym e ∙ h)
+
+pub kind-other : (d : Decimal) (v : Bool) → v ≡ isWhole d → v ≡ false → K.Num ≡ numberKind d
+unfolding numberKind
+kind-other d v e h = simp (sym e ∙ h)
 
 -- ---- how far levels and the key grow
 

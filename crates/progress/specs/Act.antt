@@ -1,17 +1,19 @@
--- What an act of the lexer does to the open record, part by part: the first fault, the levels, the characters kept of the key, the task. Derived:
+-- What an act of the lexer does to the open record, part by part: the first fault, the levels, the characters kept of the key, the number, the task. Derived:
 -- `acted` of `Progress` puts the parts together, and `tracks-step` of crate follows joins that to the track of crate verdict. Assumes nothing.
 use mathlib.Core.Bool.{Bool, true, false, cond}
 use mathlib.Core.List.{List}
 use Prim.Native.Nat.{ℕ, _+_, _-_}
 use lib.Dec.{ltb}
 use lib.ListN.{set}
-use Rattle.json.specs.declared.number.NumberMode.the-variants as N
 use Rattle.json.specs.declared.word.Word.{Word}
 use Rattle.json.specs.declared.word.Word.the-variants as W
 use Rattle.json.specs.declared.lexer.Mode.{Mode}
 use Rattle.json.specs.declared.lexer.Mode.the-variants as M
 use Rattle.json.specs.declared.lexer.Act.{Act}
 use Rattle.json.specs.declared.lexer.Act.the-variants as A
+use Rattle.whole.specs.declared.Decimal.{Decimal}
+use Rattle.whole.specs.Fresh.{fresh}
+use Rattle.whole.specs.Count.{bounded, counted, isWhole}
 use Rattle.table.specs.declared.kind.Scalar.{Scalar}
 use Rattle.table.specs.declared.kind.Scalar.the-variants as K
 use Rattle.progress.specs.declared.Fault.{Fault}
@@ -87,20 +89,33 @@ lenAfter A.NumberStart len c = len
 lenAfter A.NumberByte len c = len
 lenAfter (A.WordEnd w) len c = len
 
--- a number that ends in a mode was written without fraction and exponent part, or not
-abbrev pub numberKind : Mode → Scalar
-numberKind (M.At p) = K.Num
-numberKind (M.Key s) = K.Num
-numberKind (M.Text s) = K.Num
-numberKind (M.Number N.Minus) = K.Int
-numberKind (M.Number N.Zero) = K.Int
-numberKind (M.Number N.Int) = K.Int
-numberKind (M.Number N.Dot) = K.Num
-numberKind (M.Number N.Frac) = K.Num
-numberKind (M.Number N.E) = K.Num
-numberKind (M.Number N.Sign) = K.Num
-numberKind (M.Number N.Exp) = K.Num
-numberKind (M.Word w i) = K.Num
+-- the kind of a number that ends
+unfoldable pub numberKind : Decimal → Scalar
+numberKind d = cond (isWhole d) K.Int K.Num
+
+-- what is known of the number after byte b with an act, where mode m is next
+abbrev pub numberTo : Mode → Decimal → ℕ → Decimal
+numberTo (M.At p) d b = d
+numberTo (M.Key s) d b = d
+numberTo (M.Text s) d b = d
+numberTo (M.Number n) d b = counted bounded n d b
+numberTo (M.Word w i) d b = d
+
+abbrev pub numberAfter : Act → Mode → Decimal → ℕ → Decimal
+numberAfter A.Fault m d b = d
+numberAfter A.Pass m d b = d
+numberAfter A.OpenArray m d b = d
+numberAfter A.OpenObject m d b = d
+numberAfter A.Close m d b = d
+numberAfter A.KeyStart m d b = d
+numberAfter A.KeyChar m d b = d
+numberAfter A.KeyEnd m d b = d
+numberAfter A.TextStart m d b = d
+numberAfter A.TextChar m d b = d
+numberAfter A.TextEnd m d b = d
+numberAfter A.NumberStart m d b = numberTo m fresh b
+numberAfter A.NumberByte m d b = numberTo m d b
+numberAfter (A.WordEnd w) m d b = d
 
 abbrev pub scalarOf : Word → Scalar
 scalarOf W.Null = K.Null
@@ -108,27 +123,27 @@ scalarOf W.True = K.True
 scalarOf W.False = K.False
 
 -- what is to be done where the byte ends a number, or not
-abbrev pub numberTask : Bool → Mode → Task
-numberTask true m = To.Finish (numberKind m)
-numberTask false m = To.Idle
+abbrev pub numberTask : Bool → Decimal → Task
+numberTask true d = To.Finish (numberKind d)
+numberTask false d = To.Idle
 
-abbrev pub closing : Bool → Mode → Task
-closing true m = To.FinishClose (numberKind m)
-closing false m = To.Close
+abbrev pub closing : Bool → Decimal → Task
+closing true d = To.FinishClose (numberKind d)
+closing false d = To.Close
 
--- what is to be done at a byte with an act, in mode m; e tells whether the byte ends a number
-abbrev pub taskOf : Act → Bool → Mode → ℕ → ℕ → Task
-taskOf A.Fault e m len c = To.Idle
-taskOf A.Pass e m len c = numberTask e m
-taskOf A.OpenArray e m len c = To.Open false
-taskOf A.OpenObject e m len c = To.Open true
-taskOf A.Close e m len c = closing e m
-taskOf A.KeyStart e m len c = To.Idle
-taskOf A.KeyChar e m len c = keyTask len c
-taskOf A.KeyEnd e m len c = To.Named
-taskOf A.TextStart e m len c = To.Idle
-taskOf A.TextChar e m len c = To.Idle
-taskOf A.TextEnd e m len c = To.Finish K.Str
-taskOf A.NumberStart e m len c = To.Idle
-taskOf A.NumberByte e m len c = To.Idle
-taskOf (A.WordEnd w) e m len c = To.Finish (scalarOf w)
+-- what is to be done at a byte with an act; e tells whether the byte ends the number d
+abbrev pub taskOf : Act → Bool → Decimal → ℕ → ℕ → Task
+taskOf A.Fault e d len c = To.Idle
+taskOf A.Pass e d len c = numberTask e d
+taskOf A.OpenArray e d len c = To.Open false
+taskOf A.OpenObject e d len c = To.Open true
+taskOf A.Close e d len c = closing e d
+taskOf A.KeyStart e d len c = To.Idle
+taskOf A.KeyChar e d len c = keyTask len c
+taskOf A.KeyEnd e d len c = To.Named
+taskOf A.TextStart e d len c = To.Idle
+taskOf A.TextChar e d len c = To.Idle
+taskOf A.TextEnd e d len c = To.Finish K.Str
+taskOf A.NumberStart e d len c = To.Idle
+taskOf A.NumberByte e d len c = To.Idle
+taskOf (A.WordEnd w) e d len c = To.Finish (scalarOf w)

@@ -20,8 +20,8 @@ use Rattle.progress.specs.declared.Progress.{Progress}
 use Rattle.progress.specs.declared.Task.{Task}
 use Rattle.progress.specs.declared.Task.the-variants as To
 use Rattle.progress.specs.declared.Advanced.{Advanced}
-use Rattle.progress.specs.Act.{firstFault, levelAfter, lenAfter, taskOf}
-use Rattle.progress.specs.Count.{bump}
+use Rattle.progress.specs.Act.{firstFault, levelAfter, lenAfter, numberAfter, taskOf}
+use Rattle.laws.specs.Count.{bump}
 use Rattle.progress.specs.Fresh.{freshProgress}
 
 abbrev pub advance : Progress → Task → Advanced
@@ -30,12 +30,12 @@ advance x t = record { progress = x; task = t }
 -- a byte that is counted, and no more
 abbrev pub counted : Progress → Advanced
 counted x =
-    advance (record { mode = x .mode; fault = x .fault; head = x .head; level = x .level; pos = bump (x .pos); place = x .place; bits = x .bits; high = x .high; len = x .len }) To.Idle
+    advance (record { mode = x .mode; fault = x .fault; head = x .head; level = x .level; pos = bump (x .pos); place = x .place; bits = x .bits; high = x .high; number = x .number; len = x .len }) To.Idle
 
 -- the byte is the record's first fault
 abbrev pub faulted : Progress → Fault → Advanced
 faulted x f =
-    advance (record { mode = x .mode; fault = f; head = x .head; level = x .level; pos = bump (x .pos); place = x .pos; bits = x .bits; high = x .high; len = x .len }) To.Idle
+    advance (record { mode = x .mode; fault = f; head = x .head; level = x .level; pos = bump (x .pos); place = x .pos; bits = x .bits; high = x .high; number = x .number; len = x .len }) To.Idle
 
 -- the registers of the open character after byte b
 abbrev pub bitsIn : Mode → ℕ → ℕ → ℕ
@@ -60,16 +60,16 @@ charIn (M.Text s) bits high b = 0
 charIn (M.Number n) bits high b = 0
 charIn (M.Word w i) bits high b = 0
 
--- the record after byte b, at mode m
-abbrev pub moved : Progress → ℕ → Mode → ℕ → ℕ → Progress
-moved x b m level len =
-    record { mode = m; fault = x .fault; head = x .head; level = level; pos = bump (x .pos); place = x .place; bits = bitsIn (x .mode) (x .bits) b; high = highIn (x .mode) (x .bits) (x .high) b; len = len }
+-- the record after byte b with an act, at mode m
+abbrev pub moved : Progress → Act → ℕ → Mode → ℕ → ℕ → Progress
+moved x a b m level len =
+    record { mode = m; fault = x .fault; head = x .head; level = level; pos = bump (x .pos); place = x .place; bits = bitsIn (x .mode) (x .bits) b; high = highIn (x .mode) (x .bits) (x .high) b; number = numberAfter a m (x .number) b; len = len }
 
 -- a step of the lexer, whose act has the fault f: e tells whether it ends a number, m is the mode after it
 abbrev pub actedBy : Fault → Act → Bool → Progress → ℕ → ℕ → Mode → Advanced
 actedBy F.Sound a e x n b m =
-    advance (moved x b m (levelAfter a (x .level) n) (lenAfter a (x .len) (charIn (x .mode) (x .bits) (x .high) b)))
-    (taskOf a e (x .mode) (x .len) (charIn (x .mode) (x .bits) (x .high) b))
+    advance (moved x a b m (levelAfter a (x .level) n) (lenAfter a (x .len) (charIn (x .mode) (x .bits) (x .high) b)))
+    (taskOf a e (x .number) (x .len) (charIn (x .mode) (x .bits) (x .high) b))
 actedBy F.Malformed a e x n b m = faulted x F.Malformed
 actedBy F.TooDeep a e x n b m = faulted x F.TooDeep
 actedBy F.TooLong a e x n b m = faulted x F.TooLong

@@ -6,10 +6,9 @@ use super::Fault;
 use super::Task;
 use super::key::key_len;
 use json::lexer::Act;
-use json::lexer::Mode;
-use json::number::NumberMode;
 use json::word::Word;
 use table::kind::Scalar;
+use whole::Decimal;
 
 // A value that is opened is too deep where the buffer has no frame for it.
 fn open_fault(level: usize, frames: usize) -> Fault
@@ -54,26 +53,14 @@ fn key_task(len: u8, c: u32) -> Task
     Task::Idle
 }
 
-// The kind of a number that ends in a mode: written without fraction and exponent part, or not.
-fn number_kind(m: Mode) -> Scalar
-    ensures { λ r. ⌜ r ≡ numberKind m ⌝ }
+// The kind of a number that ends.
+fn number_kind(d: Decimal) -> Scalar
+    ensures { λ r. ⌜ r ≡ numberKind d ⌝ }
 {
-    match m {
-        Mode::At(_) => Scalar::Num,
-        Mode::Key(_) => Scalar::Num,
-        Mode::Text(_) => Scalar::Num,
-        Mode::Number(n) => match n {
-            NumberMode::Minus => Scalar::Int,
-            NumberMode::Zero => Scalar::Int,
-            NumberMode::Int => Scalar::Int,
-            NumberMode::Dot => Scalar::Num,
-            NumberMode::Frac => Scalar::Num,
-            NumberMode::E => Scalar::Num,
-            NumberMode::Sign => Scalar::Num,
-            NumberMode::Exp => Scalar::Num,
-        },
-        Mode::Word(_, _) => Scalar::Num,
+    if whole::is_whole(d) {
+        return Scalar::Int;
     }
+    Scalar::Num
 }
 
 // The scalar that a word is.
@@ -88,21 +75,21 @@ fn scalar_of(w: Word) -> Scalar
 }
 
 // The number that ended is finished; where none did, nothing is done.
-fn number_task(ends: bool, m: Mode) -> Task
-    ensures { λ r. ⌜ r ≡ numberTask ends m ⌝ }
+fn number_task(ends: bool, d: Decimal) -> Task
+    ensures { λ r. ⌜ r ≡ numberTask ends d ⌝ }
 {
     if ends {
-        return Task::Finish(number_kind(m));
+        return Task::Finish(number_kind(d));
     }
     Task::Idle
 }
 
 // The innermost open value is closed, after the number that ended if one did.
-fn closing(ends: bool, m: Mode) -> Task
-    ensures { λ r. ⌜ r ≡ closing ends m ⌝ }
+fn closing(ends: bool, d: Decimal) -> Task
+    ensures { λ r. ⌜ r ≡ closing ends d ⌝ }
 {
     if ends {
-        return Task::FinishClose(number_kind(m));
+        return Task::FinishClose(number_kind(d));
     }
     Task::Close
 }
@@ -173,16 +160,16 @@ pub fn len_after(a: Act, len: u8, c: u32) -> u8
     }
 }
 
-// What is to be done at an act in a mode.
-pub fn task_of(a: Act, ends: bool, from: Mode, len: u8, c: u32) -> Task
-    ensures { λ r. ⌜ r ≡ taskOf a ends from len c ⌝ }
+// What is to be done at an act, which ends the number d or not.
+pub fn task_of(a: Act, ends: bool, d: Decimal, len: u8, c: u32) -> Task
+    ensures { λ r. ⌜ r ≡ taskOf a ends d len c ⌝ }
 {
     match a {
         Act::Fault => Task::Idle,
-        Act::Pass => number_task(ends, from),
+        Act::Pass => number_task(ends, d),
         Act::OpenArray => Task::Open(false),
         Act::OpenObject => Task::Open(true),
-        Act::Close => closing(ends, from),
+        Act::Close => closing(ends, d),
         Act::KeyStart => Task::Idle,
         Act::KeyChar => key_task(len, c),
         Act::KeyEnd => Task::Named,

@@ -1,17 +1,18 @@
 // The open record, byte by byte: what the reader knows of it, its frames and the bytes of its key aside.
 ghost use mathlib.Core.Path.{_≡_};
 ghost use Rattle.progress.specs.Fresh.{freshProgress};
-ghost use Rattle.progress.specs.Count.{bump};
 ghost use Rattle.progress.specs.Progress.{counted, faulted, moved, acted, sound, advanced, judged};
+use json::lexer::Act;
 use json::lexer::Awaited;
 use json::lexer::Mode;
 use json::lexer::Step;
 use table::kind::Scalar;
 use verdict::Verdict;
+use whole::Decimal;
 
 pub mod act; // act.rt: what an act of the lexer does, part by part
 pub mod key; // key.rt: the characters kept of the open key
-pub mod register; // register.rt: the registers of the open character
+pub mod register; // register.rt: the registers of the open character and the open number
 pub mod ending; // ending.rt: the verdict of a record without a fault that ends
 
 // The first fault of a record, if there is one.
@@ -32,6 +33,8 @@ pub struct Progress {
     // of an open character: its bits, and the high surrogate before it
     pub bits: u32,
     pub high: u32,
+    // of an open number: its digits and its exponent
+    pub number: Decimal,
     // where the next byte stands
     pub mode: Mode,
     pub fault: Fault,
@@ -68,6 +71,7 @@ pub struct Advanced {
 pub fn fresh(head: bool) -> Progress
     ensures { λ r. ⌜ r ≡ freshProgress head ⌝ }
 {
+    let d = whole::fresh();
     Progress {
         mode: Mode::At(Awaited::Value),
         fault: Fault::Sound,
@@ -77,18 +81,9 @@ pub fn fresh(head: bool) -> Progress
         place: 0,
         bits: 0,
         high: 0,
+        number: d,
         len: 0,
     }
-}
-
-// The count with one more; at the largest number the count stays.
-pub fn bump(p: u32) -> u32
-    ensures { λ r. ⌜ r ≡ bump p ⌝ }
-{
-    if p < 4294967295 {
-        return p + 1;
-    }
-    p
 }
 
 // A byte that is counted, and no more.
@@ -97,15 +92,17 @@ fn counted(x: Progress) -> Advanced
 {
     let m = x.mode;
     let f = x.fault;
+    let d = x.number;
     let l = Progress {
         mode: m,
         fault: f,
         head: x.head,
         level: x.level,
-        pos: bump(x.pos),
+        pos: whole::bump(x.pos),
         place: x.place,
         bits: x.bits,
         high: x.high,
+        number: d,
         len: x.len,
     };
     Advanced {
@@ -119,15 +116,17 @@ fn faulted(x: Progress, f: Fault) -> Advanced
     ensures { λ r. ⌜ r ≡ faulted x f ⌝ }
 {
     let m = x.mode;
+    let d = x.number;
     let l = Progress {
         mode: m,
         fault: f,
         head: x.head,
         level: x.level,
-        pos: bump(x.pos),
+        pos: whole::bump(x.pos),
         place: x.pos,
         bits: x.bits,
         high: x.high,
+        number: d,
         len: x.len,
     };
     Advanced {
@@ -136,21 +135,23 @@ fn faulted(x: Progress, f: Fault) -> Advanced
     }
 }
 
-// The record after byte b, at a mode, with so many levels and so long a key.
-fn moved(x: Progress, b: u8, m: Mode, level: usize, len: u8) -> Progress
-    ensures { λ r. ⌜ r ≡ moved x b m level len ⌝ }
+// The record after byte b with an act, at a mode, with so many levels and so long a key.
+fn moved(x: Progress, a: Act, b: u8, m: Mode, level: usize, len: u8) -> Progress
+    ensures { λ r. ⌜ r ≡ moved x a b m level len ⌝ }
 {
     let from = x.mode;
     let f = x.fault;
+    let d = x.number;
     Progress {
         mode: m,
         fault: f,
         head: x.head,
         level: level,
-        pos: bump(x.pos),
+        pos: whole::bump(x.pos),
         place: x.place,
         bits: register::bits_in(from, x.bits, b),
         high: register::high_in(from, x.bits, x.high, b),
+        number: register::number_after(a, m, d, b),
         len: len,
     }
 }
@@ -167,9 +168,10 @@ fn acted(x: Progress, frames: usize, b: u8, st: Step) -> Advanced
         Fault::Sound => {
             let c = register::char_in(from, x.bits, x.high, b);
             let level = act::level_after(a, x.level, frames);
+            let d = x.number;
             Advanced {
-                progress: moved(x, b, m, level, act::len_after(a, x.len, c)),
-                task: act::task_of(a, st.ends, from, x.len, c),
+                progress: moved(x, a, b, m, level, act::len_after(a, x.len, c)),
+                task: act::task_of(a, st.ends, d, x.len, c),
             }
         }
         Fault::Malformed => faulted(x, Fault::Malformed),

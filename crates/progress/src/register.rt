@@ -1,7 +1,10 @@
-// The registers of the open character: its bits, and the high surrogate before it.
+// The registers of the open character, its bits and the high surrogate before it, and those of the open number.
 ghost use mathlib.Core.Path.{_≡_};
+ghost use Rattle.progress.specs.Act.{numberTo, numberAfter};
 ghost use Rattle.progress.specs.Progress.{bitsIn, highIn, charIn};
+use json::lexer::Act;
 use json::lexer::Mode;
+use whole::Decimal;
 
 // The bits of the open character after byte b.
 pub fn bits_in(m: Mode, bits: u32, b: u8) -> u32
@@ -39,5 +42,40 @@ pub fn char_in(m: Mode, bits: u32, high: u32, b: u8) -> u32
         Mode::Text(_) => 0,
         Mode::Number(_) => 0,
         Mode::Word(_, _) => 0,
+    }
+}
+
+// The number after a byte that leads to a mode.
+fn number_to(m: Mode, d: Decimal, b: u8) -> Decimal
+    ensures { λ r. ⌜ r ≡ numberTo m d b ⌝ }
+{
+    match m {
+        Mode::At(_) => d,
+        Mode::Key(_) => d,
+        Mode::Text(_) => d,
+        Mode::Number(n) => whole::counted(n, d, b),
+        Mode::Word(_, _) => d,
+    }
+}
+
+// The number after byte b with an act, where mode m is next.
+pub fn number_after(a: Act, m: Mode, d: Decimal, b: u8) -> Decimal
+    ensures { λ r. ⌜ r ≡ numberAfter a m d b ⌝ }
+{
+    match a {
+        Act::Fault => d,
+        Act::Pass => d,
+        Act::OpenArray => d,
+        Act::OpenObject => d,
+        Act::Close => d,
+        Act::KeyStart => d,
+        Act::KeyChar => d,
+        Act::KeyEnd => d,
+        Act::TextStart => d,
+        Act::TextChar => d,
+        Act::TextEnd => d,
+        Act::NumberStart => number_to(m, whole::fresh(), b),
+        Act::NumberByte => number_to(m, d, b),
+        Act::WordEnd(_) => d,
     }
 }

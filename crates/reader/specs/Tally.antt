@@ -2,7 +2,7 @@
 -- there (`bump`). Stated. Assumes nothing.
 use Rattle.verdict.specs.declared.Verdict.{Verdict}
 use Rattle.verdict.specs.declared.Verdict.the-variants as Is
-use Rattle.progress.specs.Count.{bump}
+use Rattle.laws.specs.Count.{bump}
 use Rattle.reader.specs.declared.Tally.{Tally}
 
 abbrev pub zeroTally : Tally

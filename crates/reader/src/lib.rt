@@ -159,7 +159,7 @@ fn count_valid(y: Tally) -> Tally
     ensures { λ r. ⌜ r ≡ countValid y ⌝ }
 {
     Tally {
-        valid: progress::bump(y.valid),
+        valid: whole::bump(y.valid),
         invalid: y.invalid,
         refused: y.refused,
     }
@@ -170,7 +170,7 @@ fn count_invalid(y: Tally) -> Tally
 {
     Tally {
         valid: y.valid,
-        invalid: progress::bump(y.invalid),
+        invalid: whole::bump(y.invalid),
         refused: y.refused,
     }
 }
@@ -181,7 +181,7 @@ fn count_refused(y: Tally) -> Tally
     Tally {
         valid: y.valid,
         invalid: y.invalid,
-        refused: progress::bump(y.refused),
+        refused: whole::bump(y.refused),
     }
 }
 

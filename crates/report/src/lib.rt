@@ -1,6 +1,6 @@
 // The judging program's work, on slices.
 ghost use mathlib.Core.Path.{_≡_};
-ghost use Prim.Native.Nat.{_+_, _≤_};
+ghost use Prim.Native.Nat.{_+_, _≤_, _<_};
 ghost use lib.ListN.{length, drop};
 ghost use Rattle.table.specs.Flat.{tableIn};
 ghost use Rattle.reader.specs.Machine.{feedOf};
@@ -48,7 +48,7 @@ fn feed_rest<'a>(
 ) -> reader::Fed
     requires { ⌜ read ≤ length (now piece) ⌝ }
     ensures { λ x. ⌜ record { reader = x .reader; count = x .count; answer = x .answer; work = now (work .exit) } ≡ feedOf r (tableIn (now (table .entry))) (now (work .entry)) (drop read (now (piece .entry))) ⌝ }
-    ensures { λ x. ⌜ read + x .count ≤ length (now (piece .entry)) ⌝ }
+    ensures { λ x. ⌜ (read + x .count ≤ length (now (piece .entry))) × (read + x .count < 18446744073709551616) ⌝ }
 {
     reader::feed(r, table, work, &piece[read..])
 }

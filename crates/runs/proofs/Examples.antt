@@ -7,12 +7,17 @@ use Rattle.laws.specs.Lists.{same, all, any}
 use Rattle.laws.proofs.TestLaws.{T-and-left, T-and-right, eq-of-beq}
 use Rattle.laws.proofs.ListLaws.{T-of-all}
 use Rattle.json.specs.Meaning.{meaning}
+use Rattle.json.specs.Bytes.{within}
+use Rattle.json.specs.Numbers.{isDigit, isDigit1-9, isE}
+use Rattle.json.specs.Lexer.{orExp, afterMinus, afterZero, afterInt, afterFrac, digitOnly}
+use Rattle.whole.specs.Count.{withDigit, enough, isWhole}
+use Rattle.whole.specs.Read.{begins}
 use Rattle.table.specs.declared.kind.ValueKind.the-variants.{Rule}
 use Rattle.table.specs.Keys.{numberOf}
 use Rattle.book.specs.Entry.{sameForm, withKey, keysFrom, keysOf, clash}
 use Rattle.book.specs.Load.{PaperAnswer}
 use Rattle.book.proofs.Examples.{entriesB, loads-bookB}
-use Rattle.runs.specs.Runs.{beginsPart, Valid}
+use Rattle.runs.specs.Runs.{Valid}
 use Rattle.runs.specs.Sound.{isKeyed, isSound}
 use Rattle.runs.specs.Walk.{ofScalar, ofRules, ofWord, isOf, asks, ofArray, hasKey, anyEdge, leads, endsIn, startOf, moved, hasEnd, afterElement, keyCount, numberIn, atOpening, afterKey, fitsEdge, afterValue, useKey, walk, objectFits, judging}
 use Rattle.runs.specs.Examples.{Row, rowsWith, rows}
@@ -33,7 +38,7 @@ agrees : Row → Bool
 agrees x = isSound (x .book) && Bool·beq (judgement x) (x .verdict)
 
 agree-with-entriesB : T (all agrees (rowsWith entriesB))
-unfolding agrees judgement isSound isKeyed clash all any same withKey keysFrom keysOf numberOf beginsPart ofScalar ofRules ofWord sameForm isOf asks ofArray hasKey anyEdge leads endsIn startOf moved hasEnd afterElement keyCount numberIn atOpening afterKey fitsEdge afterValue useKey walk objectFits
+unfolding agrees judgement isSound isKeyed clash all any same withKey keysFrom keysOf numberOf within isDigit isDigit1-9 isE orExp afterMinus afterZero afterInt afterFrac digitOnly begins withDigit enough isWhole ofScalar ofRules ofWord sameForm isOf asks ofArray hasKey anyEdge leads endsIn startOf moved hasEnd afterElement keyCount numberIn atOpening afterKey fitsEdge afterValue useKey walk objectFits
 agree-with-entriesB = tt
 
 rows-agree : T (all agrees rows)

@@ -1,17 +1,19 @@
 -- Scalars are judged as they fit. Assumes nothing.
-use mathlib.Core.Bool.{Bool, true, false, not, cond}
+use mathlib.Core.Bool.{Bool, true, false, cond}
 use mathlib.Core.List.{List}
-use mathlib.Core.Path.{_≡_, refl}
 use Prim.Native.Nat.{ℕ}
 use lib.Dec.{T}
-use Rattle.laws.proofs.TestLaws.{T-of-true}
 use Rattle.json.specs.Tree.{Word, null-word, true-word, false-word, word, string, number}
-use Rattle.json.proofs.MeaningLaws.{fold-and}
+use Rattle.json.specs.Meaning.{fold}
+use Rattle.whole.specs.Whole.{Whole}
+use Rattle.whole.specs.Count.{unbounded}
+use Rattle.whole.specs.Read.{unread, readByte, readsWhole}
+use Rattle.whole.proofs.ReadLaws.{whole-of-read, read-of-whole}
 use Rattle.table.specs.declared.kind.Scalar.the-variants.{Null, True, False, Str, Num, Int}
 use Rattle.table.specs.declared.kind.ValueKind.{ValueKind}
 use Rattle.table.specs.declared.kind.ValueKind.the-variants.{Plain, Rule}
 use Rattle.book.specs.Entry.{Entry}
-use Rattle.runs.specs.Runs.{beginsPart, isInteger, Fits, fits-null, fits-true, fits-false, fits-str, fits-num, fits-int, order-word, order-string, order-number, FitsInSomeOrder, in-order}
+use Rattle.runs.specs.Runs.{Fits, fits-null, fits-true, fits-false, fits-str, fits-num, fits-int, order-word, order-string, order-number, FitsInSomeOrder, in-order}
 use Rattle.runs.specs.Walk.{ofScalar, ofWord}
 use Rattle.runs.proofs.WalkLaws.{Evaluated}
 
@@ -78,14 +80,14 @@ module _ (es : List Entry) where
 
   -- ---- numbers
 
-  fits-of-number : (ds : List ℕ) (b : Bool) → isInteger ds ≡ b → (t : ValueKind) → T (ofScalar (cond b Int Num) t) → Fits es t (number ds)
+  fits-of-number : (ds : List ℕ) (b : Bool) → (T b → Whole ds) → (t : ValueKind) → T (ofScalar (cond b Int Num) t) → Fits es t (number ds)
   unfolding ofScalar
   fits-of-number ds true e (Plain Null) h = absurd h
   fits-of-number ds true e (Plain True) h = absurd h
   fits-of-number ds true e (Plain False) h = absurd h
   fits-of-number ds true e (Plain Str) h = absurd h
   fits-of-number ds true e (Plain Num) h = fits-num
-  fits-of-number ds true e (Plain Int) h = fits-int (T-of-true (isInteger ds) e)
+  fits-of-number ds true e (Plain Int) h = fits-int (e tt)
   fits-of-number ds true e (Rule n) h = absurd h
   fits-of-number ds false e (Plain Null) h = absurd h
   fits-of-number ds false e (Plain True) h = absurd h
@@ -100,22 +102,22 @@ module _ (es : List Entry) where
   number-fits-num true = tt
   number-fits-num false = tt
 
-  integer-fits-int : (b : Bool) → T b → T (ofScalar (cond b Int Num) (Plain Int))
+  whole-fits-int : (b : Bool) → T b → T (ofScalar (cond b Int Num) (Plain Int))
   unfolding ofScalar
-  integer-fits-int true h = tt
-  integer-fits-int false h = h
+  whole-fits-int true h = tt
+  whole-fits-int false h = h
 
-  number-of-fits : {ds : List ℕ} {t : ValueKind} → Fits es t (number ds) → T (ofScalar (cond (isInteger ds) Int Num) t)
-  number-of-fits (fits-num {ds}) = number-fits-num (isInteger ds)
-  number-of-fits (fits-int {ds} h) = integer-fits-int (isInteger ds) h
+  -- the bytes are read as a whole number
+  abbrev wholeIn : List ℕ → Bool
+  wholeIn ds = readsWhole (fold (readByte unbounded) unread ds)
+
+  number-of-fits : {ds : List ℕ} {t : ValueKind} → Fits es t (number ds) → T (ofScalar (cond (wholeIn ds) Int Num) t)
+  number-of-fits (fits-num {ds}) = number-fits-num (wholeIn ds)
+  number-of-fits (fits-int {ds} h) = whole-fits-int (wholeIn ds) (read-of-whole h)
 
   pub judged-number : (ds : List ℕ) → Evaluated es (number ds)
-  unfolding isInteger
   judged-number ds =
-      record {
-        fits = λ t h. in-order order-number (fits-of-number ds (isInteger ds) refl t (rw (fold-and (λ (c : ℕ). not (beginsPart c)) true ds) at h));
-        judged = λ t f. rw (fold-and (λ (c : ℕ). not (beginsPart c)) true ds) (back f);
-      }
+      record { fits = λ t h. in-order order-number (fits-of-number ds (wholeIn ds) (whole-of-read ds) t h); judged = λ t f. back f }
     where
-      back : {t : ValueKind} → FitsInSomeOrder es t (number ds) → T (ofScalar (cond (isInteger ds) Int Num) t)
+      back : {t : ValueKind} → FitsInSomeOrder es t (number ds) → T (ofScalar (cond (wholeIn ds) Int Num) t)
       back (in-order order-number f) = number-of-fits f

@@ -102,7 +102,7 @@ rowsWith es =
     -- {"name":""}
     ∷ row es (object1 name empty) false
     -- {"corners":[[1.0,2]],"name":""}
-    ∷ row es (object2 corners (list1 (list2 one-point-zero two)) name empty) false
+    ∷ row es (object2 corners (list1 (list2 one-point-zero two)) name empty) true
     -- {"corners":[[1,2]],"name":""}
     ∷ row es (object2 corners (list1 (list2 one two)) name empty) true
     -- 12

@@ -1,11 +1,9 @@
 -- Which values fit which kinds, and which texts are valid: REQUIREMENT.md, section 4, and demand 2, over the entries of a book and the tree of a text.
 -- Stated. Assumes nothing.
-use mathlib.Core.Bool.{Bool, not, _||_}
 use mathlib.Core.List.{List, List·Memᴰ}
 use Prim.Native.Nat.{ℕ}
-use lib.Dec.{T, eqb}
-use Rattle.laws.specs.Lists.{all}
 use Rattle.json.specs.Tree.{Word, null-word, true-word, false-word, Json, word, string, number, array, object, Values, no-values, values, Pairs, no-pairs, pairs}
+use Rattle.whole.specs.Whole.{Whole}
 use Rattle.table.specs.declared.kind.Scalar.the-variants.{Null, True, False, Str, Num, Int}
 use Rattle.table.specs.declared.kind.ValueKind.{ValueKind}
 use Rattle.table.specs.declared.kind.ValueKind.the-variants.{Plain, Rule}
@@ -18,14 +16,6 @@ x ∈ es = List·Memᴰ x es
 
 -- ---- runs
 
--- the byte that begins a fraction or an exponent part: `.`, `E`, `e`
-unfoldable pub beginsPart : ℕ → Bool
-beginsPart c = eqb c 0x2E || (eqb c 0x45 || eqb c 0x65)
-
--- a number written without fraction or exponent part
-unfoldable pub isInteger : List ℕ → Bool
-isInteger ds = all (λ (c : ℕ). not (beginsPart c)) ds
-
 module _ (es : List Entry) where
   mutual
     -- a value fits a kind
@@ -37,8 +27,8 @@ module _ (es : List Entry) where
       fits-str : {cs : List ℕ} → Fits (Plain Str) (string cs)
       -- `num` fits any number
       fits-num : {ds : List ℕ} → Fits (Plain Num) (number ds)
-      -- `int` fits a number written without fraction or exponent part
-      fits-int : {ds : List ℕ} → T (isInteger ds) → Fits (Plain Int) (number ds)
+      -- `int` fits a number whose value is whole
+      fits-int : {ds : List ℕ} → Whole ds → Fits (Plain Int) (number ds)
       -- `rN` fits an object or array with an accepting run of rule N, which begins in state 0
       fits-array : {r : ℕ} {vs : Values} → ArrayRun r 0 vs → Fits (Rule r) (array vs)
       fits-object : {r : ℕ} {ps : Pairs} → ObjectRun r 0 ps → Fits (Rule r) (object ps)

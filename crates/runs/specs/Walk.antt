@@ -8,6 +8,8 @@ use lib.ListN.{length}
 use Rattle.laws.specs.Lists.{any}
 use Rattle.json.specs.Tree.{Word, null-word, true-word, false-word}
 use Rattle.json.specs.Meaning.{Meaning}
+use Rattle.whole.specs.Count.{unbounded}
+use Rattle.whole.specs.Read.{Read, unread, readByte, readsWhole}
 use Rattle.table.specs.Kind.{scalarFits}
 use Rattle.table.specs.declared.kind.Scalar.{Scalar}
 use Rattle.table.specs.declared.kind.Scalar.the-variants.{Null, True, False, Str, Num, Int}
@@ -15,7 +17,6 @@ use Rattle.table.specs.declared.kind.ValueKind.{ValueKind}
 use Rattle.table.specs.declared.kind.ValueKind.the-variants.{Plain, Rule}
 use Rattle.table.specs.Keys.{numberOf}
 use Rattle.book.specs.Entry.{Form, obj, arr, sameForm, Entry, edge, end-state, keysOf}
-use Rattle.runs.specs.Runs.{beginsPart}
 
 -- ---- finished values: which kinds each fits
 
@@ -163,21 +164,21 @@ module _ (es : List Entry) where
 
   -- ---- the meaning
 
-  -- which kinds a value fits, found from left to right: of a key its characters are kept, of a number whether only an integer was written
+  -- which kinds a value fits, found from left to right: of a key its characters are kept, of a number what tells whether its value is whole
   abbrev pub judging : Meaning
   judging = record {
     Result = ValueKind → Bool;
     InString = List ℕ;
-    InNumber = Bool;
+    InNumber = Read;
     InArray = States;
     InObject = OpenObject;
     of-word = ofWord;
     string-start = [];
     string-char = λ (s : List ℕ) (c : ℕ). s ++ (c ∷ []);
     of-string = λ (s : List ℕ). ofScalar Str;
-    number-start = true;
-    number-byte = λ (b : Bool) (c : ℕ). b && not (beginsPart c);
-    of-number = λ (b : Bool). ofScalar (cond b Int Num);
+    number-start = unread;
+    number-byte = readByte unbounded;
+    of-number = λ (r : Read). ofScalar (cond (readsWhole r) Int Num);
     array-start = startOf arr;
     array-element = afterElement;
     of-array = λ (S : States). ofRules (hasEnd arr S);

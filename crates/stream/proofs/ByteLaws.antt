@@ -19,7 +19,7 @@ use Rattle.progress.specs.declared.Progress.{Progress}
 use Rattle.progress.specs.declared.Advanced.{Advanced}
 use Rattle.progress.specs.Act.{firstFault}
 use Rattle.progress.proofs.ActLaws.{levelAfter-le, lenAfter-le}
-use Rattle.progress.specs.Count.{bump}
+use Rattle.laws.specs.Count.{bump}
 use Rattle.progress.specs.Progress.{counted, faulted, actedBy, sound, byFault, advanced}
 use Rattle.progress.specs.Memory.{Mem, topAt, advancedAt, stepMem, endsRecord, Ran, runMem}
 use Rattle.progress.proofs.MemoryLaws.{progress-perform, fresh-of-RS}

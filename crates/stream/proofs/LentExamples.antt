@@ -10,11 +10,13 @@ use Rattle.json.specs.Numbers.{isDigit, isE}
 use Rattle.json.specs.Lexer.{orExp, afterZero, afterInt, afterElement}
 use Rattle.json.specs.declared.number.NumberMode.the-variants as N
 use Rattle.json.specs.declared.lexer.Mode.the-variants as M
+use Rattle.whole.specs.Fresh.{fresh}
+use Rattle.whole.specs.Count.{bounded, counted}
 use Rattle.table.specs.Table.{Table}
 use Rattle.table.specs.Limits.{withinLimits}
 use Rattle.frame.specs.Frame.{hasFrame, frameAt, isObject}
 use Rattle.progress.specs.declared.Fault.the-variants as F
-use Rattle.progress.specs.Count.{bump}
+use Rattle.laws.specs.Count.{bump}
 use Rattle.progress.specs.Progress.{sound, advanced, judged}
 use Rattle.progress.specs.Memory.{topAt, closeAt, stepMem, endsRecord, runMem}
 use Rattle.reader.specs.declared.Reader.{Reader}
@@ -50,7 +52,7 @@ abbrev reader : Reader
 reader =
     record {
       frames = 2;
-      progress = record { mode = M.Number N.Int; fault = F.Sound; head = false; level = 1; pos = 2; place = 0; bits = 0; high = 0; len = 0 };
+      progress = record { mode = M.Number N.Int; fault = F.Sound; head = false; level = 1; pos = 2; place = 0; bits = 0; high = 0; number = counted bounded N.Int fresh 0x31; len = 0 };
       root = false;
       key = replicate 32 0;
       tally = zeroTally;

@@ -28,6 +28,7 @@ use Rattle.stream.specs.Lent.{Spares, levelOf, modeOf, inToken, byteFed,
 use Rattle.stream.proofs.CallLaws.{unchanged-of-refused}
 use Rattle.stream.proofs.FedLaws.{gateOf, bounds-of-open, IsSound, Idles, ways-of-byte, fed-none, fed-in-two}
 use Rattle.stream.proofs.NumberLaws.{fed-of-number-end}
+use Rattle.stream.proofs.ValueLaws.{kind-of-number}
 use Rattle.stream.proofs.SoundLaws.{not-faulty, level-le, frame-of-level, sound-opens, sound-closes, sound-between, sound-in-token, sound-ends-key, sound-ends-string, sound-ends-word, sound-not-faulty, sound-reaches}
 use Rattle.stream.proofs.SpareLaws.{spares-all, spares-after, spares-fewer, spares-put, withValue-none, spares-withValue, frameAt-of-spares}
 
@@ -154,6 +155,7 @@ lent =
       empty = fed-none;
       piece = fed-in-two;
       byte = byte-writes;
+      number = kind-of-number;
       past = λ r t w s. piece-past t (r .frames) s r w refl;
       unopened = λ r t w s l all. piece-unopened t l s r w all;
       close = close-leaves;

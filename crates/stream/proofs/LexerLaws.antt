@@ -30,6 +30,7 @@ use Rattle.json.specs.declared.lexer.Top.the-variants as Top
 use Rattle.json.specs.declared.lexer.Act.{Act}
 use Rattle.json.specs.declared.lexer.Act.the-variants as A
 use Rattle.json.specs.declared.lexer.Step.{Step}
+use Rattle.whole.specs.declared.Decimal.{Decimal}
 use Rattle.table.specs.Table.{Table}
 use Rattle.progress.specs.declared.Fault.the-variants as F
 use Rattle.progress.specs.declared.Progress.{Progress}
@@ -59,7 +60,7 @@ OpensBy (A.WordEnd w) b = Unit {0}
 
 -- a step that leaves a token open leaves the buffer
 abbrev pub LeavesIn : Bool → Step → Type 0
-LeavesIn true st = (m : Mode) (len c : ℕ) (t : Table) (x : Mem) (y : Progress) → perform (taskOf (st .act) (st .ends) m len c) t x y .work ≡ x .work
+LeavesIn true st = (d : Decimal) (len c : ℕ) (t : Table) (x : Mem) (y : Progress) → perform (taskOf (st .act) (st .ends) d len c) t x y .work ≡ x .work
 LeavesIn false st = Unit {0}
 
 -- an act that finishes no key, string or word

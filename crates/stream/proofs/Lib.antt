@@ -13,6 +13,7 @@ pub mod FedLaws
 pub mod SpareLaws
 pub mod TaskLaws
 pub mod NumberLaws
+pub mod ValueLaws
 pub mod SoundLaws
 pub mod LentLaws
 pub mod LentExamples

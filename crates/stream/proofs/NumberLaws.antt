@@ -6,7 +6,6 @@ use Prim.Native.Nat.{ℕ}
 use native.Mathlib.Omega.{arith}
 use Rattle.json.specs.Lexer.{numberMove, numberStep, endedBefore, afterValue}
 use Rattle.json.specs.declared.number.NumberMode.{NumberMode}
-use Rattle.json.specs.declared.number.NumberMode.the-variants as N
 use Rattle.json.specs.declared.number.NumberMove.{NumberMove}
 use Rattle.json.specs.declared.number.NumberMove.the-variants as NM
 use Rattle.json.specs.declared.lexer.Awaited.the-variants as P
@@ -28,21 +27,10 @@ use Rattle.progress.specs.Act.{firstFault, numberKind}
 use Rattle.progress.specs.Memory.{topAt, valueAt, closeAt}
 use Rattle.progress.proofs.MemoryLaws.{worked-elim, keeps-valued}
 use Rattle.reader.specs.declared.Reader.{Reader}
-use Rattle.stream.specs.Lent.{withValue, levelOf, modeOf, inToken, kindSoFar, inMode, byteFed}
+use Rattle.stream.specs.Lent.{withValue, levelOf, modeOf, inToken, inMode, byteFed}
 use Rattle.stream.proofs.LexerLaws.{afterValue-elim, number-ended}
 use Rattle.stream.proofs.FedLaws.{stepAt, done, IsSound, fed-of-sound, progress-fed}
 use Rattle.stream.proofs.SpareLaws.{spares-withValue}
-
--- the kind of a number is that of its mode
-kindSoFar-is : (n : NumberMode) → kindSoFar n ≡ numberKind (M.Number n)
-kindSoFar-is N.Minus = refl
-kindSoFar-is N.Zero = refl
-kindSoFar-is N.Int = refl
-kindSoFar-is N.Dot = refl
-kindSoFar-is N.Frac = refl
-kindSoFar-is N.E = refl
-kindSoFar-is N.Sign = refl
-kindSoFar-is N.Exp = refl
 
 -- a finished value leaves the kind of the value that it stands in
 topAt-withValue : (t : Table) (w : List ℕ) (l : ℕ) (v : Finished) → topAt (withValue t w l v) l ≡ topAt w l
@@ -64,7 +52,7 @@ module _ (r : Reader) (t : Table) (w : List ℕ) (b : ℕ) (n : NumberMode) wher
   behind = inMode (M.At P.After) r
 
   abbrev finished : List ℕ
-  finished = withValue t w (levelOf r) (Done.Scalar (numberKind (M.Number n)))
+  finished = withValue t w (levelOf r) (Done.Scalar (numberKind (r .progress .number)))
 
   -- the byte ends the number and has its own effect, or has that alone after the number
   Alike : Step → Type 0
@@ -84,7 +72,7 @@ module _ (r : Reader) (t : Table) (w : List ℕ) (b : ℕ) (n : NumberMode) wher
     step-inside = ap (λ (k : NumberMove). numberStep k (topAt w (levelOf r)) b) ended
 
     step-behind : stepAt behind finished b ≡ afterValue (topAt w (levelOf r)) b
-    step-behind = ap (λ (k : Top). afterValue k b) (topAt-withValue t w (levelOf r) (Done.Scalar (numberKind (M.Number n))))
+    step-behind = ap (λ (k : Top). afterValue k b) (topAt-withValue t w (levelOf r) (Done.Scalar (numberKind (r .progress .number))))
 
     no-fault : firstFault (afterValue (topAt w (levelOf r)) b .act) (levelOf r) (r .frames) ≡ F.Sound
     no-fault = rw step-inside at (s .first)
@@ -92,7 +80,7 @@ module _ (r : Reader) (t : Table) (w : List ℕ) (b : ℕ) (n : NumberMode) wher
     sound-behind : IsSound behind t finished b
     sound-behind =
         record {
-          gate = rw (spares-withValue t w (levelOf r) (Done.Scalar (numberKind (M.Number n))) .long) (s .gate);
+          gate = rw (spares-withValue t w (levelOf r) (Done.Scalar (numberKind (r .progress .number))) .long) (s .gate);
           byte = s .byte;
           head = s .head;
           fault = s .fault;
@@ -109,10 +97,10 @@ module _ (r : Reader) (t : Table) (w : List ℕ) (b : ℕ) (n : NumberMode) wher
 -- a byte that ends a number, fed to a reader in the number, does what it does after the number, in the buffer where the number is finished
 pub fed-of-number-end : (r : Reader) (t : Table) (w : List ℕ) (b : ℕ) → IsSound r t w b → (n : NumberMode) → modeOf r ≡ M.Number n
     → inToken (modeOf (byteFed r t w b .reader)) ≡ false
-    → byteFed r t w b ≡ byteFed (inMode (M.At P.After) r) t (withValue t w (levelOf r) (Done.Scalar (kindSoFar n))) b
+    → byteFed r t w b ≡ byteFed (inMode (M.At P.After) r) t (withValue t w (levelOf r) (Done.Scalar (numberKind (r .progress .number)))) b
 fed-of-number-end r t w b s n m e =
     let q : r ≡ inMode (M.Number n) r = ap (λ (x : Mode). inMode x r) m in
     let c : IsSound (inMode (M.Number n) r) t w b = subst (λ (x : Reader). IsSound x t w b) q s in
     let f : inToken (modeOf (byteFed (inMode (M.Number n) r) t w b .reader)) ≡ false
     = subst (λ (x : Reader). inToken (modeOf (byteFed x t w b .reader)) ≡ false) q e in
-    ap (λ (x : Reader). byteFed x t w b) q ∙ rw (kindSoFar-is n) (alike-fed r t w b n c f)
+    ap (λ (x : Reader). byteFed x t w b) q ∙ alike-fed r t w b n c f

@@ -102,7 +102,7 @@ module _ (r : Reader) (t : Table) (w : List ℕ) (b : ℕ) (s : IsSound r t w b)
   tells = tells-stepOf b (modeOf r) (topAt w (levelOf r))
 
   told : Told task b (levelOf r) (next .level) (step .ends)
-  told = told-of-act b (levelOf r) (r .frames) (modeOf r) (r .progress .len) _ (step .act) (step .ends) (s .first) (tells .opens)
+  told = told-of-act b (levelOf r) (r .frames) (r .progress .number) (r .progress .len) _ (step .act) (step .ends) (s .first) (tells .opens)
 
   -- there is a frame for each level that is open after a sound byte
   pub level-le : levelOf (o .reader) ≤ r .frames
@@ -131,7 +131,7 @@ module _ (r : Reader) (t : Table) (w : List ℕ) (b : ℕ) (s : IsSound r t w b)
   pub sound-between : inToken (modeOf r) ≡ false → levelOf (o .reader) ≡ levelOf r → o .work ≡ w
   sound-between m q =
       let p = placed-stepOf b (modeOf r) (topAt w (levelOf r)) m in
-      let n = noFinish-of-between (step .act) (step .ends) (modeOf r) (r .progress .len) _ (p .between) (p .ends) in
+      let n = noFinish-of-between (step .act) (step .ends) (r .progress .number) (r .progress .len) _ (p .between) (p .ends) in
       work-fed r t w b s ∙ between-of-task t (memoryOf r w) next b (step .ends) task n told (p .ends) (sym level-fed ∙ q)
 
   mode-fed : inToken (step .mode) ≡ inToken (modeOf (o .reader))
@@ -140,7 +140,7 @@ module _ (r : Reader) (t : Table) (w : List ℕ) (b : ℕ) (s : IsSound r t w b)
   -- a sound byte after which a token is open writes nothing
   pub sound-in-token : inToken (modeOf (o .reader)) ≡ true → o .work ≡ w
   sound-in-token e =
-      work-fed r t w b s ∙ (rw (mode-fed ∙ e) at (tells .leaves)) (modeOf r) (r .progress .len) _ t (memoryOf r w) next
+      work-fed r t w b s ∙ (rw (mode-fed ∙ e) at (tells .leaves)) (r .progress .number) (r .progress .len) _ t (memoryOf r w) next
 
   -- a sound byte that ends a key, a string or a word finishes it
   module _ (e : inToken (modeOf (o .reader)) ≡ false) where

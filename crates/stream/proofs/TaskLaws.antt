@@ -5,13 +5,13 @@ use Prim.Native.Nat.{ℕ, _+_, _-_}
 use native.Mathlib.Omega.{arith}
 use lib.Dec.{eqb, ltb}
 use Rattle.laws.proofs.TestLaws.{true-neq-false, cond-elim}
-use Rattle.json.specs.declared.lexer.Mode.{Mode}
 use Rattle.json.specs.declared.lexer.Act.{Act}
 use Rattle.json.specs.declared.lexer.Act.the-variants as A
 use Rattle.table.specs.Table.{Table}
 use Rattle.table.specs.declared.kind.Finished.the-variants as Done
 use Rattle.frame.specs.Frame.{putFrame}
 use Rattle.frame.specs.Ops.{opened}
+use Rattle.whole.specs.declared.Decimal.{Decimal}
 use Rattle.progress.specs.declared.Fault.the-variants as F
 use Rattle.progress.specs.declared.Progress.{Progress}
 use Rattle.progress.specs.declared.Task.{Task}
@@ -72,8 +72,8 @@ openLevel-of-sound l n = go (ltb l n)
     go true e = refl
     go false e = let z : _≡_ {A = ℕ} 0 1 = cc in absurd (omega arith)
 
-module _ (b l n : ℕ) (m : Mode) (len c : ℕ) where
-  pub told-of-act : (a : Act) (e : Bool) → firstFault a l n ≡ F.Sound → OpensBy a b → Told (taskOf a e m len c) b l (levelAfter a l n) e
+module _ (b l n : ℕ) (d : Decimal) (len c : ℕ) where
+  pub told-of-act : (a : Act) (e : Bool) → firstFault a l n ≡ F.Sound → OpensBy a b → Told (taskOf a e d len c) b l (levelAfter a l n) e
   unfolding keyTask
   told-of-act A.Fault e f o = record { level = refl; object = tt; ends = tt }
   told-of-act A.Pass true f o = record { level = refl; object = tt; ends = tt }
@@ -107,25 +107,25 @@ NoFinish (To.Finish s) = ⊥
 NoFinish To.Close = Unit {0}
 NoFinish (To.FinishClose s) = Unit {0}
 
-pub noFinish-of-between : (a : Act) (e : Bool) (m : Mode) (len c : ℕ) → Between a → e ≡ false → NoFinish (taskOf a e m len c)
+pub noFinish-of-between : (a : Act) (e : Bool) (d : Decimal) (len c : ℕ) → Between a → e ≡ false → NoFinish (taskOf a e d len c)
 unfolding keyTask
-noFinish-of-between A.Fault e m len c n f = tt
-noFinish-of-between A.Pass true m len c n f = true-neq-false f
-noFinish-of-between A.Pass false m len c n f = tt
-noFinish-of-between A.OpenArray e m len c n f = tt
-noFinish-of-between A.OpenObject e m len c n f = tt
-noFinish-of-between A.Close true m len c n f = tt
-noFinish-of-between A.Close false m len c n f = tt
-noFinish-of-between A.KeyStart e m len c n f = tt
-noFinish-of-between A.KeyChar e m len c n f =
+noFinish-of-between A.Fault e d len c n f = tt
+noFinish-of-between A.Pass true d len c n f = true-neq-false f
+noFinish-of-between A.Pass false d len c n f = tt
+noFinish-of-between A.OpenArray e d len c n f = tt
+noFinish-of-between A.OpenObject e d len c n f = tt
+noFinish-of-between A.Close true d len c n f = tt
+noFinish-of-between A.Close false d len c n f = tt
+noFinish-of-between A.KeyStart e d len c n f = tt
+noFinish-of-between A.KeyChar e d len c n f =
     cond-elim NoFinish (ltb len 32) (λ _. cond-elim NoFinish (ltb c 128) (λ _. tt) (λ _. tt)) (λ _. tt)
-noFinish-of-between A.KeyEnd e m len c n f = absurd n
-noFinish-of-between A.TextStart e m len c n f = tt
-noFinish-of-between A.TextChar e m len c n f = tt
-noFinish-of-between A.TextEnd e m len c n f = absurd n
-noFinish-of-between A.NumberStart e m len c n f = tt
-noFinish-of-between A.NumberByte e m len c n f = tt
-noFinish-of-between (A.WordEnd v) e m len c n f = absurd n
+noFinish-of-between A.KeyEnd e d len c n f = absurd n
+noFinish-of-between A.TextStart e d len c n f = tt
+noFinish-of-between A.TextChar e d len c n f = tt
+noFinish-of-between A.TextEnd e d len c n f = absurd n
+noFinish-of-between A.NumberStart e d len c n f = tt
+noFinish-of-between A.NumberByte e d len c n f = tt
+noFinish-of-between (A.WordEnd v) e d len c n f = absurd n
 
 -- ---- what a task writes, by how the level moves
 

@@ -4,19 +4,20 @@
 -- Assumes nothing.
 use mathlib.Core.Bool.{Bool, true, false}
 use mathlib.Core.List.{List, [], _∷_, _++_}
-use mathlib.Core.Logic.{_⊎_}
+use mathlib.Core.Logic.{_⊎_, _↔_}
 use mathlib.Core.Path.{_≡_}
 use Prim.Native.Nat.{ℕ, _+_, _*_, _-_, _<_, _≤_}
 use lib.Dec.{eqb}
 use lib.ListN.{length, getD}
+use Rattle.json.specs.Numbers.{Number}
 use Rattle.json.specs.declared.string.StringMode.{StringMode}
 use Rattle.json.specs.declared.number.NumberMode.{NumberMode}
-use Rattle.json.specs.declared.number.NumberMode.the-variants as N
 use Rattle.json.specs.declared.word.Word.{Word}
 use Rattle.json.specs.declared.word.Word.the-variants as W
 use Rattle.json.specs.declared.lexer.Awaited.the-variants as P
 use Rattle.json.specs.declared.lexer.Mode.{Mode}
 use Rattle.json.specs.declared.lexer.Mode.the-variants as M
+use Rattle.whole.specs.Whole.{Whole}
 use Rattle.table.specs.Table.{Table}
 use Rattle.table.specs.Keys.{keyFound}
 use Rattle.table.specs.declared.kind.Scalar.{Scalar}
@@ -26,9 +27,12 @@ use Rattle.table.specs.declared.kind.Finished.the-variants as Done
 use Rattle.frame.specs.Frame.{frameStart, frameAt, putFrame}
 use Rattle.frame.specs.Edges.{edgesIn}
 use Rattle.frame.specs.Ops.{opened, keyed, valued, closed}
+use Rattle.verdict.specs.Verdict.{longest}
 use Rattle.verdict.specs.declared.Verdict.{Verdict}
 use Rattle.verdict.specs.declared.Verdict.the-variants as Is
+use Rattle.progress.specs.declared.Fault.the-variants as F
 use Rattle.progress.specs.declared.Progress.{Progress}
+use Rattle.progress.specs.Act.{numberKind}
 use Rattle.reader.specs.declared.Reader.{Reader}
 use Rattle.reader.specs.declared.Refusal.{Refusal}
 use Rattle.reader.specs.declared.Answer.{Answer}
@@ -81,21 +85,10 @@ wordKind W.Null = K.Null
 wordKind W.True = K.True
 wordKind W.False = K.False
 
--- the kind of the open number as it stands: `int` until a fraction or an exponent part begins
-abbrev pub kindSoFar : NumberMode → Scalar
-kindSoFar N.Minus = K.Int
-kindSoFar N.Zero = K.Int
-kindSoFar N.Int = K.Int
-kindSoFar N.Dot = K.Num
-kindSoFar N.Frac = K.Num
-kindSoFar N.E = K.Num
-kindSoFar N.Sign = K.Num
-kindSoFar N.Exp = K.Num
-
 -- what is known of a record, and a reader, in another mode
 abbrev pub atMode : Mode → Progress → Progress
 atMode m x =
-    record { mode = m; fault = x .fault; head = x .head; level = x .level; pos = x .pos; place = x .place; bits = x .bits; high = x .high; len = x .len }
+    record { mode = m; fault = x .fault; head = x .head; level = x .level; pos = x .pos; place = x .place; bits = x .bits; high = x .high; number = x .number; len = x .len }
 
 abbrev pub inMode : Mode → Reader → Reader
 inMode m r = record { frames = r .frames; progress = atMode m (r .progress); root = r .root; key = r .key; tally = r .tally }
@@ -148,9 +141,9 @@ pub record ByteWrites (r : Reader) (t : Table) (w : List ℕ) (b : ℕ) (o : Out
   pub ends-string : (s : StringMode) → modeOf r ≡ M.Text s → EndsToken b o → o .work ≡ withValue t w (levelOf r) (Done.Scalar K.Str)
   pub ends-word : (v : Word) (i : ℕ) → modeOf r ≡ M.Word v i → EndsToken b o → o .work ≡ withValue t w (levelOf r) (Done.Scalar (wordKind v))
   -- a number is finished by the byte after it, before that byte's own effect: the outcome is that of the byte after a value, in the buffer where the
-  -- number is finished
+  -- number is finished, with the kind that the reader found
   pub ends-number : (n : NumberMode) → modeOf r ≡ M.Number n → EndsToken b o
-      → o ≡ byteFed (inMode (M.At P.After) r) t (withValue t w (levelOf r) (Done.Scalar (kindSoFar n))) b
+      → o ≡ byteFed (inMode (M.At P.After) r) t (withValue t w (levelOf r) (Done.Scalar (numberKind (r .progress .number)))) b
   -- a faulty byte writes nothing, even where it ends a number; nor do the bytes of the record after it, nor those of the head
   pub faulty : faultyIn (o .reader) t (o .work) ≡ true → o .work ≡ w
   pub after-fault : faultyIn r t w ≡ true → o .work ≡ w
@@ -175,6 +168,13 @@ inTwo t o s = thenFed (o .answer) o (feedOf (o .reader) t (o .work) s)
 abbrev pub NotOpened : Reader → Table → List ℕ → List ℕ → ℕ → Type 0
 NotOpened r t w s l = (p q : List ℕ) → p ++ q ≡ s → levelOf (feedOf r t w p .reader) < l
 
+-- the call is let in, and the record is not the head, has no fault so far and awaits a value
+pub record AwaitsValue (r : Reader) (t : Table) (w : List ℕ) : Type 0 where
+  pub let-in : feedOf r t w [] .answer ≡ Says.Quiet
+  pub head : r .progress .head ≡ false
+  pub fault : r .progress .fault ≡ F.Sound
+  pub mode : modeOf r ≡ M.At P.Value
+
 -- all that is said of the lent bytes
 pub record Lent : Type 0 where
   -- a piece does what its bytes do when they are fed one by one
@@ -182,6 +182,9 @@ pub record Lent : Type 0 where
   pub piece : (r : Reader) (t : Table) (w : List ℕ) (b : ℕ) (s : List ℕ) → feedOf r t w (b ∷ s) ≡ inTwo t (byteFed r t w b) s
   -- each byte writes what `ByteWrites` says
   pub byte : (r : Reader) (t : Table) (w : List ℕ) (b : ℕ) → ByteWrites r t w b (byteFed r t w b)
+  -- of a number that is fed where a value is awaited, and that makes no record too long, the reader finds `int` exactly where the value is whole
+  pub number : (r : Reader) (t : Table) (w ds : List ℕ) → AwaitsValue r t w → Number ds → r .progress .pos + length ds ≤ longest
+      → (numberKind (feedOf r t w ds .reader .progress .number) ≡ K.Int) ↔ Whole ds
   -- bytes past the frames that were counted at start are never written
   pub past : (r : Reader) (t : Table) (w s : List ℕ) → Spares (λ i. 96 * r .frames ≤ i) w (feedOf r t w s .work)
   -- the frame of a level that is not opened is not written

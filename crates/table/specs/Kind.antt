@@ -34,7 +34,7 @@ unfoldable pub codeOf : ValueKind → ℕ
 codeOf (Plain s) = scalarCode s
 codeOf (Rule n) = 6 + n
 
--- `num` fits any number, `int` one without fraction and exponent part, the other plain kinds themselves: kind, then scalar
+-- `num` fits any number, `int` one whose value is whole, the other plain kinds themselves: kind, then scalar
 abbrev pub scalarFits : Scalar → Scalar → Bool
 scalarFits Null Null = true
 scalarFits Null True = false

@@ -2,7 +2,7 @@
 ghost use mathlib.Core.Path.{_≡_};
 ghost use Rattle.table.specs.Kind.{kindOf, scalarCode, codeOf, scalarFits, ruleFits, fitsKind};
 
-// A plain kind of value. Of a finished number, Int says that it was written without fraction and exponent part.
+// A plain kind of value. Of a finished number, Int says that its value is whole.
 pub enum Scalar {
     Null,
     True,
@@ -143,7 +143,7 @@ fn is_num(s: Scalar) -> bool
     }
 }
 
-// The scalar is a number written without fraction and exponent part.
+// The scalar is a number whose value is whole.
 fn is_int(s: Scalar) -> bool
     ensures { λ r. ⌜ r ≡ scalarFits Scalar.Int s ⌝ }
 {

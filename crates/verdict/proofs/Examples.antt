@@ -6,12 +6,13 @@ use Rattle.json.specs.Bytes.{within, isBlank}
 use Rattle.json.specs.Classes.{isBreak, isStructure, highClass, classOf}
 use Rattle.json.specs.Grammar.{spelling}
 use Rattle.json.specs.Numbers.{isDigit, isDigit1-9, isE}
-use Rattle.json.specs.Lexer.{escapeMove, hexOf, anyHex, unit1, unitD, ranged, hexBits, orExp, afterZero, afterInt, afterFrac, digitOnly, letterMove, valueStart, atValue, atFirstElement, atFirstKey, atKey, atColon, afterRoot, afterElement as behindElement, afterPair}
+use Rattle.json.specs.Lexer.{escapeMove, hexOf, anyHex, unit1, unitD, ranged, hexBits, orExp, afterMinus, afterZero, afterInt, afterFrac, afterE, afterExp, digitOnly, letterMove, valueStart, atValue, atFirstElement, atFirstKey, atKey, atColon, afterRoot, afterElement as behindElement, afterPair}
 use Rattle.json.specs.Machine.{step}
 use Rattle.table.specs.Keys.{numberOf}
 use Rattle.book.specs.Entry.{sameForm, withKey, keysFrom, keysOf, clash}
 use Rattle.book.proofs.Examples.{entriesB, loads-bookB}
-use Rattle.runs.specs.Runs.{beginsPart}
+use Rattle.whole.specs.Count.{withDigit, enough, isWhole}
+use Rattle.whole.specs.Read.{begins}
 use Rattle.runs.specs.Sound.{Sound, isKeyed, isSound}
 use Rattle.runs.specs.Walk.{ofScalar, ofRules, isOf, asks, ofArray, hasKey, anyEdge, leads, endsIn, startOf, moved, hasEnd, afterElement, keyCount, numberIn, atOpening, afterKey, fitsEdge, afterValue, useKey, walk, objectFits}
 use Rattle.runs.proofs.SoundLaws.{sound-of-isSound}
@@ -31,7 +32,7 @@ found : Row → Verdict
 found x = trackEnd entriesB (track entriesB (frameCount (x .work)) (trackStart entriesB) (x .part))
 
 rows-found : map found rows ≡ map (λ (x : Row). x .verdict) rows
-unfolding found within isBlank isBreak isStructure highClass classOf spelling isDigit isDigit1-9 isE escapeMove hexOf anyHex unit1 unitD ranged hexBits orExp afterZero afterInt afterFrac digitOnly letterMove valueStart atValue atFirstElement atFirstKey atKey atColon afterRoot behindElement afterPair step same any withKey keysFrom keysOf numberOf beginsPart ofScalar ofRules sameForm isOf asks ofArray hasKey anyEdge leads endsIn startOf moved hasEnd afterElement keyCount numberIn atOpening afterKey fitsEdge afterValue useKey walk objectFits trackTo trackByte verdictOf trackEnd
+unfolding found within isBlank isBreak isStructure highClass classOf spelling isDigit isDigit1-9 isE escapeMove hexOf anyHex unit1 unitD ranged hexBits orExp afterMinus afterZero afterInt afterFrac afterE afterExp digitOnly letterMove valueStart atValue atFirstElement atFirstKey atKey atColon afterRoot behindElement afterPair step same any withKey keysFrom keysOf numberOf begins withDigit enough isWhole ofScalar ofRules sameForm isOf asks ofArray hasKey anyEdge leads endsIn startOf moved hasEnd afterElement keyCount numberIn atOpening afterKey fitsEdge afterValue useKey walk objectFits trackTo trackByte verdictOf trackEnd
 rows-found = refl
 
 -- where two maps agree on a list, they agree at each member

@@ -1,5 +1,5 @@
 -- Parts after an RS under book B, each with the length of the work buffer given at start and its verdict: REQUIREMENT.md, section 8, then the four
--- records of the example day; the last row is ours: at one byte, 11 comes before 12. Stated. Assumes nothing.
+-- records of the example day, then numbers of section 4; the last row is ours: at one byte, 11 comes before 12. Stated. Assumes nothing.
 use mathlib.Core.List.{List, [], _∷_}
 use Prim.Native.Nat.{ℕ}
 use Rattle.laws.specs.Ascii.{ascii}
@@ -29,7 +29,7 @@ rows =
     -- name twice, then corners
     ∷ row (ascii "{\"name\":\"\",\"name\":\"\",\"corners\":[]}") 6144 Is.Invalid
     ∷ row (ascii "{\"n\\u0061me\":\"a\",\"corners\":[]}") 6144 Is.Valid
-    ∷ row (ascii "{\"corners\":[[1.0,2]],\"name\":\"\"}") 6144 Is.Invalid
+    ∷ row (ascii "{\"corners\":[[1.0,2]],\"name\":\"\"}") 6144 Is.Valid
     ∷ row (ascii "{\"corners\":[[1,2]],\"name\":\"\"}") 288 Is.Valid
     ∷ row (ascii "{\"corners\":[[1,2]],\"name\":\"\"}") 287 (Is.TooDeep 12)
     ∷ row (ascii "12") 6144 Is.Invalid
@@ -47,6 +47,20 @@ rows =
     ∷ row (ascii "{\"name\":\"N\"}\n") 6144 Is.Invalid
     ∷ row (ascii "{\"name\":") 6144 (Is.Unfinished 8)
     ∷ row (ascii "[1,]\n") 6144 (Is.Malformed 3)
+    -- whole numbers and others
+    ∷ row (ascii "{\"corners\":[[1e2,2]],\"name\":\"\"}") 6144 Is.Valid
+    ∷ row (ascii "{\"corners\":[[1.50e1,2]],\"name\":\"\"}") 6144 Is.Valid
+    ∷ row (ascii "{\"corners\":[[0e-5,2]],\"name\":\"\"}") 6144 Is.Valid
+    ∷ row (ascii "{\"corners\":[[15e-1,2]],\"name\":\"\"}") 6144 Is.Invalid
+    ∷ row (ascii "{\"corners\":[[100e-2,2]],\"name\":\"\"}") 6144 Is.Valid
+    ∷ row (ascii "{\"corners\":[[10e-1,2]],\"name\":\"\"}") 6144 Is.Valid
+    ∷ row (ascii "{\"corners\":[[0.0e-1,2]],\"name\":\"\"}") 6144 Is.Valid
+    ∷ row (ascii "{\"corners\":[[-0.0,2]],\"name\":\"\"}") 6144 Is.Valid
+    ∷ row (ascii "{\"corners\":[[1e-0,2]],\"name\":\"\"}") 6144 Is.Valid
+    ∷ row (ascii "{\"corners\":[[1E+2,2]],\"name\":\"\"}") 6144 Is.Valid
+    ∷ row (ascii "{\"corners\":[[1.5,2]],\"name\":\"\"}") 6144 Is.Invalid
+    ∷ row (ascii "{\"corners\":[[1.05e1,2]],\"name\":\"\"}") 6144 Is.Invalid
+    ∷ row (ascii "{\"corners\":[[120e-2,2]],\"name\":\"\"}") 6144 Is.Invalid
     -- malformed and too deep at one byte
     ∷ row (ascii "{[") 96 (Is.Malformed 1)
     ∷ []

@@ -1,7 +1,7 @@
 -- `keep_to` meets its contract. The loop's invariant: the bytes before its place were kept. Assumes nothing.
 use Prim.Native.Nat.{_+_, _-_, _≤_}
 use borrow.Author.Needs.{needs}
-use Rattle.pass.specs.Pass.{placed, KeptTo}
+use Rattle.pass.specs.Pass.{withBits, placed, KeptTo}
 use Rattle.pass.proofs.ByteLaws.{count-fits}
 use Rattle.pass.proofs.KeepLaws.{kept-start, kept-at, kept-on}
 use Rattle.pass.proofs.keep_to.Statement.{statement}
@@ -9,7 +9,7 @@ use Rattle.pass.proofs.keep_to.Tie as tie
 
 abbrev Inv-loop : tie.InvT-loop
 Inv-loop classes x key₀ s from end m bits₀ len₀ i₀ key bits len i =
-    (i ≤ end) × KeptTo x s from key₀ (placed x (x .mode) bits (x .high) (x .pos + (i - from)) len) i key
+    (i ≤ end) × KeptTo x s from key₀ (placed x (x .mode) (withBits x bits) (x .pos + (i - from)) len) i key
 
 abbrev μ-loop : tie.MeasureT-loop
 μ-loop classes x key₀ s from end m bits₀ len₀ i₀ key bits len i = end - i

@@ -26,7 +26,9 @@ read-on-requires : tie.Need-read-on-requires Inv-loop μ-loop
 read-on-requires c κs = search needs
 
 returns : tie.Need-returns Inv-loop μ-loop
-returns c = search (needs, piece-ended)
+returns c =
+    let loop = c .before .before .before .before .before .before .before .before .before .before in
+    search (needs, piece-ended, loop .before .before .whole-key .ensures)
 
 loop-less : tie.Need-loop-less Inv-loop μ-loop
 loop-less c = search needs

@@ -8,4 +8,4 @@ returns : tie.Need-returns
 returns c = search (needs, next-of)
 
 pub report-next-spec : {M : Type 1} → statement M
-report-next-spec = tie.close (tie.spec (λ c κs. search needs) (λ c. search needs) (λ c κs. search needs) (λ c. search needs) (λ c. search needs) returns)
+report-next-spec = tie.close (tie.spec (λ c κs. search needs) (λ c. search (needs, c .before .before .before .feed-rest .ensures)) (λ c κs. search needs) (λ c. search needs) (λ c. search needs) returns)

@@ -1,9 +1,9 @@
 -- `bump` meets its contract. Assumes nothing.
-use Rattle.progress.specs.Count.{bump}
 use Rattle.laws.proofs.Tests.{tests}
 use borrow.Author.Needs.{needs}
-use Rattle.progress.proofs.bump.Statement.{statement}
-use Rattle.progress.proofs.bump.Tie as tie
+use Rattle.laws.specs.Count.{bump}
+use Rattle.whole.proofs.bump.Statement.{statement}
+use Rattle.whole.proofs.bump.Tie as tie
 
 returns : tie.Need-returns
 unfolding bump

@@ -1,0 +1,10 @@
+pub mod CountLaws
+pub mod KeptLaws
+pub mod RunLaws
+pub mod PowerLaws
+pub mod EndLaws
+pub mod PartLaws
+pub mod ReadLaws
+pub mod BoundLaws
+pub mod ValueLaws
+pub mod Examples

@@ -303,9 +303,10 @@ record 'invalid 0 0' '{}'
 record 'valid 0 0' '{"corners":[],"name":""}'
 record 'invalid 0 0' '{"name":"","name":"","corners":[]}'
 record 'valid 0 0' '{"n\\u0061me":"a","corners":[]}'
-record 'invalid 0 0' '{"corners":[[1.0,2]],"name":""}'
+record 'valid 0 0' '{"corners":[[1.0,2]],"name":""}'
 record 'valid 0 0' '{"corners":[[1,2]],"name":""}'
 record 'invalid 0 0' '12'
+record 'invalid 0 0' '1.0'
 record 'refused 11 1' '01'
 record 'refused 14 1' '-'
 record 'refused 11 4' '"\\uDC00"'
@@ -320,6 +321,24 @@ record 'refused 11 64' "${brackets#?}{["
 printf z >one
 direct <one
 prints 'a head' 0 'verdict number place' 'refused 15 0'
+
+# ---- numbers as a corner: whole by their value, and not
+
+for number in 7 -0 1.0 1e2 1.50e1 0e-5 100e-2 10e-1 0.0e-1 -0.0 1e-0 1E+2 100.0e-2 0.10e1 5e-000 1.5e18446744073709551616 0e-99999999999999999999; do
+    record 'valid 0 0' "{\"corners\":[[0,$number]],\"name\":\"\"}"
+done
+for number in 15e-1 1.5 1.05e1 120e-2 0.01e1 10.50e0 10e-02 10e-4294967297 10e-18446744073709551617; do
+    record 'invalid 0 0' "{\"corners\":[[0,$number]],\"name\":\"\"}"
+done
+# zeros EXPONENT: a corner of a 1 with 200,000 zeros and that exponent
+zeros() { { printf '\036{"corners":[[0,1'; printf '%0200000d' 0; printf 'e%s]],"name":""}' "$1"; } >long; }
+zeros -200000
+direct <long
+prints 'a 1 with 200,000 zeros and the exponent -200000' 0 'verdict number place' 'valid 0 0'
+zeros -200001
+direct <long
+prints 'the same with the exponent -200001' 0 'verdict number place' 'invalid 0 0'
+rm -f long
 
 # ---- the worked books: what docs/ says of them
 

@@ -26,7 +26,9 @@ const EXAMPLES: &[(&[u8], &str)] = &[
     (b"\x1E{\"corners\":[],\"name\":\"\"}", "valid 0 0"),
     (b"\x1E{\"name\":\"\",\"name\":\"\",\"corners\":[]}", "invalid 0 0"),
     (b"\x1E{\"n\\u0061me\":\"a\",\"corners\":[]}", "valid 0 0"),
-    (b"\x1E{\"corners\":[[1.0,2]],\"name\":\"\"}", "invalid 0 0"),
+    (b"\x1E{\"corners\":[[1.0,2]],\"name\":\"\"}", "valid 0 0"),
+    (b"\x1E{\"corners\":[[1.5,2]],\"name\":\"\"}", "invalid 0 0"),
+    (b"\x1E1.0", "invalid 0 0"),
     (b"\x1E{\"corners\":[[1,2]],\"name\":\"\"}", "valid 0 0"),
     (b"\x1E12", "invalid 0 0"),
     (b"\x1E01", "refused 11 1"),
@@ -40,11 +42,24 @@ const EXAMPLES: &[(&[u8], &str)] = &[
     (b"", ""),
 ];
 
-/// A record with the work bytes that it leaves, as far as they are not zero: by level and byte.
-const FRAMES: (&[u8], &[(usize, usize, u8)]) = (
-    b"\x1E{\"corners\":[[1,2]],\"name\":\"\"}",
-    &[(1, 0, 1), (1, 1, 1), (1, 16, 3), (1, 32, 3), (2, 0, 2), (2, 34, 1), (3, 0, 2), (3, 36, 4)],
-);
+/// Numbers whose value is whole, and numbers whose value is not (section 4).
+const WHOLE: &[&str] = &[
+    "7", "-0", "1.0", "1e2", "1.50e1", "0e-5", "100e-2", "10e-1", "0.0e-1", "-0.0", "1e-0", "1E+2", "100.0e-2", "0.10e1", "5e-000", "-30e-01",
+    "0e-99999999999999999999", "1.5e99999999999999999999", "0.001e3",
+];
+const NOT_WHOLE: &[&str] =
+    &["15e-1", "1.5", "1.05e1", "120e-2", "0.01e1", "10.50e0", "-1.01", "10e-02", "10e-18446744073709551617", "1e-99999999999999999999"];
+
+/// Records with the work bytes that they leave, as far as they are not zero: by level and byte.
+type Frames = (&'static [u8], &'static [(usize, usize, u8)]);
+const FRAMES: &[Frames] = &[
+    (
+        b"\x1E{\"corners\":[[1,2]],\"name\":\"\"}",
+        &[(1, 0, 1), (1, 1, 1), (1, 16, 3), (1, 32, 3), (2, 0, 2), (2, 34, 1), (3, 0, 2), (3, 36, 4)],
+    ),
+    (b"\x1E{\"corners\":[[1.0,", &[(1, 0, 1), (1, 16, 1), (2, 0, 2), (2, 34, 1), (2, 36, 1), (3, 0, 2), (3, 36, 2)]),
+    (b"\x1E{\"corners\":[[1.5,", &[(1, 0, 1), (1, 16, 1), (2, 0, 2), (2, 34, 1), (2, 36, 1), (3, 0, 2)]),
+];
 
 /// What the paper says with so many work bytes.
 fn said(book: &[u8], stream: &[u8], work: usize) -> String {
@@ -55,7 +70,7 @@ fn said(book: &[u8], stream: &[u8], work: usize) -> String {
 pub fn wrong() -> Option<String> {
     let titled = |verdicts: &str| if verdicts.is_empty() { TITLE.to_string() } else { format!("{TITLE}, {verdicts}") };
     let mut list: Vec<(&[u8], usize, &str)> = EXAMPLES.iter().map(|&(stream, want)| (stream, 6144, want)).collect();
-    list.extend([(FRAMES.0, 288, "valid 0 0"), (FRAMES.0, 287, "refused 12 12")]);
+    list.extend([(FRAMES[0].0, 288, "valid 0 0"), (FRAMES[0].0, 287, "refused 12 12")]);
     for (stream, work, want) in list {
         let got = said(BOOK.as_bytes(), stream, work);
         if got != titled(want) {
@@ -66,15 +81,29 @@ pub fn wrong() -> Option<String> {
     if got != "number line, 9 2" {
         return Some(format!("a line 0 obj 0 a int 0: {got}"));
     }
-    wrong_frames()
+    wrong_number().or_else(|| FRAMES.iter().find_map(wrong_frames))
 }
 
-fn wrong_frames() -> Option<String> {
+/// A number that stands for a corner, where the book asks for `int`.
+fn wrong_number() -> Option<String> {
+    let zeros = "0".repeat(200_000);
+    let long = [(format!("1{zeros}e-200000"), true), (format!("1{zeros}e-200001"), false)];
+    let all = |list: &[&str], fits| list.iter().map(|number| (number.to_string(), fits)).collect::<Vec<_>>();
+    let numbers = [all(WHOLE, true), all(NOT_WHOLE, false), long.to_vec()].concat();
+    numbers.into_iter().find_map(|(number, fits)| {
+        let record = format!("\x1E{{\"corners\":[[0,{number}]],\"name\":\"\"}}");
+        let want = format!("{TITLE}, {} 0 0", if fits { "valid" } else { "invalid" });
+        let got = said(BOOK.as_bytes(), record.as_bytes(), 288);
+        (got != want).then(|| format!("{number} as a corner: {got}"))
+    })
+}
+
+fn wrong_frames(&(record, bytes): &Frames) -> Option<String> {
     let (mut work, mut want) = (vec![0xA5; 300], vec![0; 288]);
-    for &(level, byte, value) in FRAMES.1 {
+    for &(level, byte, value) in bytes {
         want[96 * (level - 1) + byte] = value;
     }
     want.extend([0xA5; 12]);
-    judge(&load(BOOK.as_bytes()), FRAMES.0, &mut work);
+    judge(&load(BOOK.as_bytes()), record, &mut work);
     (work != want).then(|| format!("frames {work:?}, not {want:?}"))
 }

@@ -66,14 +66,13 @@ impl Flat<'_> {
 
     /// The value fits the kind of edge e: codes 0 to 5 are the plain kinds, 6 + N is rule N, and a code above fits nothing.
     fn fits(&self, e: usize, value: &Value, fitted: u32) -> bool {
-        let whole = |value: &Value| matches!(value, Value::Num { fraction: false, exponent: false });
         match self.at(KIND + e) {
             0 => matches!(value, Value::Null),
             1 => matches!(value, Value::True),
             2 => matches!(value, Value::False),
             3 => matches!(value, Value::Str),
             4 => matches!(value, Value::Num { .. }),
-            5 => whole(value),
+            5 => matches!(value, Value::Num { whole: true }),
             code @ 6..=37 => fitted >> (code - 6) & 1 == 1,
             code => on(Plant::TableKind) && fitted >> ((code - 6) % RULES) & 1 == 1,
         }

@@ -4,6 +4,7 @@
 //! the fault are read a second time, and each frame is drawn at once, from what the value has.
 
 use crate::book::{Book, Form, Kind, RULES, STATES};
+use crate::number::Written;
 use crate::plant::{on, Plant};
 use crate::run::{fits, reached};
 use crate::stream::{Part, Verdict};
@@ -127,8 +128,7 @@ impl<R: Rules> Sound<'_, R> {
         let behind = rest.iter().position(|byte| !b"+-.0123456789eE".contains(byte));
         let number = &rest[..behind.or(self.late.then_some(rest.len()))?];
         self.at += number.len();
-        let (fraction, exponent) = (number.contains(&b'.'), number.iter().any(|byte| b"eE".contains(byte)));
-        (!number.is_empty()).then_some((Value::Num { fraction, exponent }, 0))
+        (!number.is_empty()).then(|| (Value::Num { whole: Written::new(number).whole() }, 0))
     }
 
     /// An object or array that opens here, as the last one of its level; none where it does not close.

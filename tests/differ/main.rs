@@ -9,7 +9,9 @@ mod frames;
 mod held;
 mod library;
 mod make_book;
+mod make_number;
 mod make_record;
+mod number;
 mod plant;
 mod program;
 mod rng;
@@ -20,6 +22,7 @@ mod text;
 mod trial;
 
 use library::{By, Shown};
+use make_record::LONG_STREAMS;
 use plant::Plant;
 use program::{Printed, Program};
 use std::path::PathBuf;
@@ -181,11 +184,13 @@ fn hold(trial: &Trial, given: &Given, tables: &mut Tables) -> Option<String> {
     for (i, (stream, shown)) in trial.streams.iter().zip(&given.shown).enumerate() {
         let said = held::paper(&loaded, stream);
         tables.library.count(&said.0, stream.work);
+        tables.library.count_numbers(&said.0, &stream.bytes, stream.work);
         if words.is_none() && held::difference(stream, &said, shown).is_some() {
             words = Some(format!("stream {i}\n{}", held::smaller(trial.book(), &loaded, stream)));
         }
         if let (0, Some(printed)) = (i, &given.printed) {
             tables.program.count(&said.0, stream.work);
+            tables.program.count_numbers(&said.0, &stream.bytes, stream.work);
             words = words.or_else(|| program::difference(trial, &said.0, printed));
         }
     }
@@ -226,7 +231,7 @@ fn compare_all(options: &Options, program: &Program) -> bool {
     differences == 0 && (missed == 0 || options.only.is_some())
 }
 
-/// Trials with what was given for them: those made by chance first, those with long parts last.
+/// Trials with what was given for them: those made by chance first, those with long parts last. No planted fault needs the longest numbers.
 fn kept_trials(options: &Options, program: &Program) -> Vec<(Trial, Given)> {
     let cases = options.cases.unwrap_or(50_000);
     let mut tables = Tables { library: Table::new(), program: Table::new() };
@@ -243,7 +248,7 @@ fn kept_trials(options: &Options, program: &Program) -> Vec<(Trial, Given)> {
     while keep(number) < cases {
         number += 1;
     }
-    for number in (LONG..FIRST).chain(0..LONG) {
+    for number in (LONG..FIRST).chain(0..LONG_STREAMS) {
         keep(number);
     }
     kept

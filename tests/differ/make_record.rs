@@ -1,6 +1,7 @@
 //! Makes records: valid ones along the edges of a book, near misses, damaged bytes, and odd words, numbers and strings.
 
 use crate::book::{Book, Edge, Form, Kind, RULES, STATES};
+use crate::make_number::{number, unwhole_number, whole_number};
 use crate::rng::Rng;
 use crate::stream::{LONGEST, RS};
 
@@ -13,8 +14,6 @@ enum Node {
     Obj(Vec<(Vec<u8>, Node)>),
 }
 
-const NUMBERS: &[&str] =
-    &["0", "-0", "1", "12", "-7", "10", "1.0", "0.5", "-0.25", "1e0", "1E+5", "2e-3", "0e0", "-1.5E-10", "100000000000000000000"];
 const INTS: &[&str] = &["0", "-0", "1", "12", "-7", "907", "123456789012345678901234567890"];
 const ODD: &[&str] = &[
     "01", "00", "-01", "-", "--1", "+1", "1.", ".5", "1.e1", "1e", "1e+", "1e1.5", "0x10", "1 2", "Infinity", "NaN", "nul", "nulx", "tru",
@@ -122,8 +121,9 @@ fn scalar(rng: &mut Rng, kind: Kind) -> Node {
         Kind::Null => b"null".to_vec(),
         Kind::True => b"true".to_vec(),
         Kind::False => b"false".to_vec(),
-        Kind::Num => rng.pick(NUMBERS).as_bytes().to_vec(),
-        Kind::Int => rng.pick(INTS).as_bytes().to_vec(),
+        Kind::Num => number(rng),
+        Kind::Int if rng.chance(40) => rng.pick(INTS).as_bytes().to_vec(),
+        Kind::Int => whole_number(rng),
         _ => string(rng, 0),
     })
 }
@@ -270,7 +270,7 @@ fn write_key(rng: &mut Rng, key: &[u8], out: &mut Vec<u8>) {
     out.push(b'"');
 }
 
-/// Changes one place of a value: a key missing, doubled, renamed, another kind, an element more or less.
+/// Changes one place of a value: a key missing, doubled, renamed, another kind, a number not whole, an element more or less.
 fn near_miss(rng: &mut Rng, book: &Book, node: &mut Node) {
     let down = rng.chance(50);
     match node {
@@ -291,6 +291,7 @@ fn near_miss(rng: &mut Rng, book: &Book, node: &mut Node) {
             }
         }
         Node::Obj(pairs) if rng.chance(80) => pair_miss(rng, book, pairs),
+        Node::Scalar(bytes) if bytes[0] == b'-' || bytes[0].is_ascii_digit() => *bytes = unwhole_number(rng),
         _ => *node = any_node(rng, book, 2),
     }
 }

@@ -44,15 +44,13 @@ pub fn accepting(book: &Book, value: &Value, fitted: &[u32]) -> u32 {
     found
 }
 
-/// `num` fits any number, `int` one without fraction or exponent part, `rN` what rule N has an accepting run over.
+/// `num` fits any number, `int` one whose value is whole, `rN` what rule N has an accepting run over.
 pub fn fits(kind: Kind, value: &Value, fitted: u32) -> bool {
     match (kind, value) {
         (Kind::Null, Value::Null) | (Kind::True, Value::True) | (Kind::False, Value::False) => true,
         (Kind::Str, Value::Str) => true,
-        (Kind::Num, Value::Num { fraction, exponent }) => *fraction || *exponent || !on(Plant::NumNotInt),
-        (Kind::Int, Value::Num { fraction, exponent }) => {
-            (!fraction || on(Plant::IntFraction)) && (!exponent || on(Plant::IntExponent))
-        }
+        (Kind::Num, Value::Num { whole }) => !whole || !on(Plant::NumNotInt),
+        (Kind::Int, Value::Num { whole }) => *whole,
         (Kind::Rule(n), _) => fitted >> n & 1 == 1,
         _ => false,
     }

@@ -1,6 +1,7 @@
 //! The paper, part two: one JSON text by recursive descent (docs/REQUIREMENT.md, section 2; RFC 8259, RFC 3629).
 //! A fault lies at the first byte that no text can have there: the descent stops at exactly that byte.
 
+use crate::number::Written;
 use crate::plant::{on, Plant};
 
 #[derive(Clone)]
@@ -9,7 +10,7 @@ pub enum Value {
     True,
     False,
     Str,
-    Num { fraction: bool, exponent: bool },
+    Num { whole: bool },
     Arr(Vec<Value>),
     Obj(Vec<(Vec<u8>, Value)>),
 }
@@ -25,29 +26,46 @@ struct Text<'a> {
     at: usize,
     level: usize,
     levels: usize,
+    /// The numbers so far, each by its bytes.
+    numbers: Vec<&'a [u8]>,
+    /// Set by planted faults only: some number was not whole.
+    unwhole: bool,
 }
 
 /// The string that begins at `at`, and the place after it; none where it does not end.
 pub fn string_at(bytes: &[u8], at: usize) -> Option<(Vec<u8>, usize)> {
-    let mut text = Text { bytes, at, level: 0, levels: 0 };
+    let mut text = Text::new(bytes, at, 0);
     text.string().ok().map(|string| (string, text.at))
 }
 
 /// Blanks, one value, blanks, with at most so many levels.
 pub fn whole(bytes: &[u8], levels: usize) -> Step<Value> {
-    let mut text = Text { bytes, at: 0, level: 0, levels };
-    if on(Plant::ByteOrderMark) && bytes.starts_with(b"\xEF\xBB\xBF") {
-        text.at = 3;
-    }
-    if !on(Plant::NoFirstBlanks) {
-        text.blanks();
-    }
-    let value = text.value()?;
-    text.blanks();
-    if text.at < bytes.len() { text.fault() } else { Ok(value) }
+    Text::new(bytes, 0, levels).whole()
 }
 
-impl Text<'_> {
+/// The numbers of a whole text, each by its bytes; none of other bytes.
+pub fn numbers(bytes: &[u8], levels: usize) -> Vec<&[u8]> {
+    let mut text = Text::new(bytes, 0, levels);
+    if text.whole().is_ok() { text.numbers } else { Vec::new() }
+}
+
+impl<'a> Text<'a> {
+    fn new(bytes: &'a [u8], at: usize, levels: usize) -> Text<'a> {
+        Text { bytes, at, level: 0, levels, numbers: Vec::new(), unwhole: false }
+    }
+
+    fn whole(&mut self) -> Step<Value> {
+        if on(Plant::ByteOrderMark) && self.bytes.starts_with(b"\xEF\xBB\xBF") {
+            self.at = 3;
+        }
+        if !on(Plant::NoFirstBlanks) {
+            self.blanks();
+        }
+        let value = self.value()?;
+        self.blanks();
+        if self.at < self.bytes.len() { self.fault() } else { Ok(value) }
+    }
+
     fn peek(&self) -> Option<u8> {
         self.bytes.get(self.at).copied()
     }
@@ -105,14 +123,23 @@ impl Text<'_> {
         Ok(value)
     }
 
-    /// RFC 8259, 6: minus, an integer part without leading zero, fraction, exponent.
     fn number(&mut self) -> Step<Value> {
-        let (mut fraction, mut exponent) = (false, false);
+        let start = self.at;
+        self.pass_number()?;
+        let number = &self.bytes[start..self.at];
+        self.numbers.push(number);
+        let whole = Written::new(number).whole() && !(on(Plant::NumberKept) && self.unwhole);
+        self.unwhole |= !whole;
+        Ok(Value::Num { whole })
+    }
+
+    /// RFC 8259, 6: minus, an integer part without leading zero, fraction, exponent.
+    fn pass_number(&mut self) -> Step<()> {
         if self.peek() == Some(b'-') {
             self.at += 1;
         }
         if on(Plant::MinusAlone) && !matches!(self.peek(), Some(b'0'..=b'9')) {
-            return Ok(Value::Num { fraction, exponent });
+            return Ok(());
         }
         if self.need()? == b'0' && !on(Plant::LeadingZero) {
             self.at += 1;
@@ -121,7 +148,6 @@ impl Text<'_> {
             self.digits();
         }
         if self.peek() == Some(b'.') {
-            fraction = true;
             self.at += 1;
             if !on(Plant::BareFraction) {
                 self.range(b'0', b'9')?;
@@ -129,7 +155,6 @@ impl Text<'_> {
             self.digits();
         }
         if matches!(self.peek(), Some(b'e' | b'E')) {
-            exponent = true;
             self.at += 1;
             if matches!(self.peek(), Some(b'+' | b'-')) {
                 self.at += 1;
@@ -140,7 +165,7 @@ impl Text<'_> {
         if on(Plant::NumberAtEnd) {
             self.need()?;
         }
-        Ok(Value::Num { fraction, exponent })
+        Ok(())
     }
 
     fn digits(&mut self) {

@@ -3,13 +3,15 @@
 use crate::book::load;
 use crate::flat::{changes, of_book};
 use crate::make_book::{book_lines, changed, joined};
+use crate::make_number::{long_numbers, longest_number, LISTED, LONGEST_NUMBERS};
 use crate::make_record::{every_byte, long_stream, records, stream, LONG_STREAMS};
 use crate::rng::Rng;
 use crate::stream::RS;
 
-/// Trials with a long part each come first, then those with every byte in every place, then the trials made by chance.
-pub const LONG: u64 = LONG_STREAMS;
-pub const FIRST: u64 = LONG + INSIDE.len() as u64;
+/// Trials with a long part each come first, then those with every byte in every place, two with numbers, then the trials made by chance.
+pub const LONG: u64 = LONG_STREAMS + LONGEST_NUMBERS;
+pub const FIRST: u64 = LISTS + 2;
+const LISTS: u64 = LONG + INSIDE.len() as u64;
 const INSIDE: [&[u8]; 3] = [b"", b"[\"\",", b"{\"a\":"];
 /// Records of an accepted book, about.
 const RECORDS: usize = 60;
@@ -39,6 +41,20 @@ const FIXED: &[u8] = b"rule form state key value next
 31 obj 0 a r31 3
 31 obj 3 b int 4
 31 obj 3 - end -
+";
+
+/// A number at the end of an array, or under the key a, has to be whole.
+const WHOLE: &[u8] = b"rule form state key value next
+0 arr 0 - int 0
+0 arr 0 - r1 0
+0 arr 0 - num 1
+0 arr 1 - int 2
+0 arr 0 - end -
+0 arr 2 - end -
+1 obj 0 a int 1
+1 obj 1 b num 2
+1 obj 1 - end -
+1 obj 2 - end -
 ";
 
 /// Bytes of the book's table that are changed, each with its new value, and a stream that is judged by the table then.
@@ -130,23 +146,42 @@ pub fn trial(seed: u64, number: u64) -> Trial {
     Trial { book, streams, program, books, tables }
 }
 
-/// Long parts, and every byte in every place: each record by itself, after one stream with all of them.
+/// Long parts, every byte in every place, and numbers: of these each record by itself, after one stream with all of them.
 fn fixed(rng: &mut Rng, number: u64) -> Trial {
+    let numbers = (LONG_STREAMS..LONG).contains(&number) || number >= LISTS;
     let streams = if number < LONG {
-        let (bytes, work) = (long_stream(number), 6144 + rng.below(96));
-        let calls = vec![(0, 64), (rng.range(1 << 12, 1 << 24), 40)];
+        let bytes = if numbers { longest_number(number - LONG_STREAMS) } else { long_stream(number) };
+        let (work, calls) = (6144 + rng.below(96), vec![(0, 64), (rng.range(1 << 12, 1 << 24), 40)]);
         vec![Stream { bytes, work, calls, seed: rng.next() }]
     } else {
-        let list = every_byte(INSIDE[(number - LONG) as usize]);
+        let list = match number {
+            LISTS => placed(&LISTED.map(|number| number.as_bytes().to_vec())),
+            LISTS.. => placed(&long_numbers()),
+            _ => every_byte(INSIDE[(number - LONG) as usize]),
+        };
         let mut streams = vec![whole(rng, &list, 64)];
-        for record in &list {
-            let bytes = [&[RS], &record[..]].concat();
-            let calls = vec![(0, 32), (1, 16)];
-            streams.push(Stream { bytes, work: 288 + rng.below(96), calls, seed: rng.next() });
-        }
+        streams.extend(list.iter().map(|record| alone(rng, record, numbers)));
         streams
     };
-    Trial { book: Some(FIXED.to_vec()), streams, program: Some(Handed { pieces: None }), books: Vec::new(), tables: Vec::new() }
+    let book = if numbers { WHOLE } else { FIXED };
+    Trial { book: Some(book.to_vec()), streams, program: Some(Handed { pieces: None }), books: Vec::new(), tables: Vec::new() }
+}
+
+/// Each number in several places of a text, finished or not.
+fn placed(numbers: &[Vec<u8>]) -> Vec<Vec<u8>> {
+    let around = [
+        ("[", "]"), ("[1.5,", "]"), ("[", ",1.0]"), ("[{\"a\":", "}]"), ("[{\"b\":15e-1,\"a\" : ", " } ]"), ("[1e-1,", ","), ("[", ""), ("", ""),
+    ];
+    let within = |number: &Vec<u8>| around.map(|(before, behind)| [before.as_bytes(), number, behind.as_bytes()].concat());
+    numbers.iter().flat_map(within).collect()
+}
+
+/// A record by itself, in one piece and in pieces of one byte; or, where it is short, in pieces of every size.
+fn alone(rng: &mut Rng, record: &[u8], cut: bool) -> Stream {
+    let bytes = [&[RS], record].concat();
+    let sizes = if cut && bytes.len() < 100 { 2..bytes.len() } else { 0..0 };
+    let calls = [(0, 32), (1, 16)].into_iter().chain(sizes.map(|size| (size, 16))).collect();
+    Stream { bytes, work: 288 + rng.below(96), calls, seed: rng.next() }
 }
 
 /// A number of frames from 1 to 70, few of them more often.

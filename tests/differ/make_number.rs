@@ -85,7 +85,7 @@ fn zeros(rng: &mut Rng) -> usize {
     }
 }
 
-/// How many of so many digits stand behind the point, or a few more than there are.
+/// How many of so many digits stand after the point, or a few more than there are.
 fn places(rng: &mut Rng, digits: usize) -> usize {
     match rng.below(5) {
         0 | 1 => 0,
@@ -104,7 +104,7 @@ fn far(rng: &mut Rng, near: usize) -> Vec<u8> {
     (0..length).map(|at| if at == 0 { b'9' } else { *rng.pick(b"0123456789") }).collect()
 }
 
-/// The digits, so many of them behind the point that zeros may have to stand before them, and the exponent.
+/// The digits, so many of them after the point that zeros may have to stand before them, and the exponent.
 fn written(rng: &mut Rng, digits: &[u8], places: usize, (negative, size): Exponent) -> Vec<u8> {
     let mut number = if rng.chance(30) { vec![b'-'] } else { Vec::new() };
     number.extend(vec![b'0'; (places + 1).saturating_sub(digits.len())]);

@@ -1,5 +1,5 @@
 //! The paper, part eight: the numbers of a text, and when the value of one is whole (docs/REQUIREMENT.md, section 4). All digits before and
-//! behind the point are read as one number, the exponent as another, and the value is whole where a division by a power of ten leaves nothing.
+//! after the point are read as one number, the exponent as another, and the value is whole where a division by a power of ten leaves nothing.
 
 use crate::plant::{on, Plant};
 
@@ -64,7 +64,7 @@ impl Big {
         Big::new(self.0[..count].to_vec())
     }
 
-    /// How many zeros stand behind the last other digit.
+    /// How many zeros stand after the last other digit.
     fn zeros(&self) -> usize {
         self.0.iter().take_while(|&&digit| digit == 0).count()
     }
@@ -81,15 +81,15 @@ impl Big {
     }
 }
 
-/// A number as it is written: digits before and behind the point, and those of the exponent.
+/// A number as it is written: digits before and after the point, and those of the exponent.
 pub struct Written<'a> {
     before: &'a [u8],
-    behind: Option<&'a [u8]>,
+    after: Option<&'a [u8]>,
     exponent: Option<&'a [u8]>,
     negative: bool,
 }
 
-/// The bytes before and behind the first byte of some.
+/// The bytes before and after the first byte of some.
 fn split<'a>(bytes: &'a [u8], at: &[u8]) -> (&'a [u8], Option<&'a [u8]>) {
     match bytes.iter().position(|byte| at.contains(byte)) {
         Some(place) => (&bytes[..place], Some(&bytes[place + 1..])),
@@ -101,20 +101,20 @@ impl Written<'_> {
     /// The bytes are those of a number, or of one that breaks off.
     pub fn new(bytes: &[u8]) -> Written<'_> {
         let (digits, exponent) = split(bytes.strip_prefix(b"-").unwrap_or(bytes), b"eE");
-        let (before, behind) = split(digits, b".");
+        let (before, after) = split(digits, b".");
         let sign = exponent.and_then(|exponent| exponent.first().copied()).filter(|byte| b"+-".contains(byte));
         let exponent = exponent.map(|exponent| &exponent[usize::from(sign.is_some())..]);
-        Written { before, behind, exponent, negative: sign == Some(b'-') && !on(Plant::ExponentSign) }
+        Written { before, after, exponent, negative: sign == Some(b'-') && !on(Plant::ExponentSign) }
     }
 
-    /// All digits before and behind the point, read as one number.
+    /// All digits before and after the point, read as one number.
     fn mantissa(&self) -> Big {
-        Big::shown(&[self.before, self.behind.unwrap_or(b"")].concat())
+        Big::shown(&[self.before, self.after.unwrap_or(b"")].concat())
     }
 
-    /// How many digits stand behind the point.
+    /// How many digits stand after the point.
     fn places(&self) -> Big {
-        Big::of(match self.behind.unwrap_or(b"").len() {
+        Big::of(match self.after.unwrap_or(b"").len() {
             count if on(Plant::FirstPlace) => count.saturating_sub(1),
             count if on(Plant::PlacesWrap) => count % 65_536,
             count => count,
@@ -151,8 +151,8 @@ impl Written<'_> {
 
     /// What planted faults make of the answer.
     fn planted(&self, whole: bool, mantissa: &Big, power: &Big) -> bool {
-        let (point, letter) = (self.behind.is_some(), self.exponent.is_some());
-        let places = self.behind.unwrap_or(b"").len();
+        let (point, letter) = (self.after.is_some(), self.exponent.is_some());
+        let places = self.after.unwrap_or(b"").len();
         let enough = |zeros: usize| mantissa.is_zero() || Big::of(zeros).minus(power).is_some();
         match () {
             _ if on(Plant::IntDigits) => whole && !point && !letter,
@@ -161,7 +161,7 @@ impl Written<'_> {
             _ if on(Plant::IntZero) => whole && !(mantissa.is_zero() && self.negative),
             _ if on(Plant::IntAny) => true,
             _ if on(Plant::ZerosBefore) => enough(mantissa.zeros().min(places)),
-            _ if on(Plant::ZerosBehind) => enough(if point { 0 } else { mantissa.zeros() }),
+            _ if on(Plant::ZerosAfter) => enough(if point { 0 } else { mantissa.zeros() }),
             _ if on(Plant::ZerosInside) => enough(mantissa.0.iter().filter(|&&digit| digit == 0).count()),
             _ if on(Plant::ZerosWrap) => enough(mantissa.zeros() % 65_536),
             _ => whole,
@@ -171,7 +171,7 @@ impl Written<'_> {
     /// The classes of numbers by an example of each, and whether this number is of it.
     pub fn classes(&self) -> [(&'static str, bool); CLASSES] {
         let (mantissa, exponent, power) = (self.mantissa(), self.exponent(), self.power());
-        let (whole, point, letter) = (self.whole(), self.behind.is_some(), self.exponent.is_some());
+        let (whole, point, letter) = (self.whole(), self.after.is_some(), self.exponent.is_some());
         let (raised, lowered) = (letter && !self.negative, letter && self.negative);
         let short = power.and_then(|power| power.small()?.checked_sub(mantissa.zeros())).filter(|_| !mantissa.is_zero() && (point || letter));
         let (far, long) = (exponent.0.len() > 20, mantissa.0.len() > 100_000);

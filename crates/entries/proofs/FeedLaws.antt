@@ -75,11 +75,11 @@ module _ (t : Table) (size : ℕ) (s : List ℕ) (r : Reader) (w : List ℕ) (re
   fed-count h end cut next count a work lent =
       omega (arith, ap (λ (x : Outcome). x .count) (fed-piece h end cut (record { reader = next; count = count; answer = a; work = work }) lent), fed-inside h)
 
-  -- the place behind what is read fits its type, as the length of the stream does
-  pub fed-behind : read ≤ length s → (end : ℕ) → end ≡ pieceEnd size read (length s) → (next : Reader) (count : ℕ) (a : Answer) (work : List ℕ)
+  -- the place after what is read fits its type, as the length of the stream does
+  pub fed-fits : read ≤ length s → (end : ℕ) → end ≡ pieceEnd size read (length s) → (next : Reader) (count : ℕ) (a : Answer) (work : List ℕ)
       → record { reader = next; count = count; answer = a; work = work } ≡ feedOf r t w (take (end - read) (drop read s))
       → length s < 18446744073709551616 → read + count < 18446744073709551616
-  fed-behind h end cut next count a work lent l = omega (arith, fed-count h end cut next count a work lent)
+  fed-fits h end cut next count a work lent l = omega (arith, fed-count h end cut next count a work lent)
 
   module _ (o : List ℕ) (made : ℕ) (next : Reader) (count : ℕ) (a : Answer) (work : List ℕ)
       (fed : record { reader = next; count = count; answer = a; work = work } ≡ feedNext t size s r w read) (b : Bool) (said : b ≡ isRefused a) where

@@ -55,7 +55,7 @@ use Rattle.verdict.proofs.TrackLaws.{trackByte-short, trackByte-long}
 use Rattle.progress.specs.declared.Fault.the-variants as F
 use Rattle.progress.specs.declared.Progress.{Progress}
 use Rattle.progress.specs.declared.Advanced.{Advanced}
-use Rattle.progress.specs.Act.{openFault, openLevel, keyLen, keyTask, keptIn}
+use Rattle.progress.specs.Act.{openFault, openLevel, keyLen, keyTask, keptIn, numberTo}
 use Rattle.laws.specs.Count.{bump}
 use Rattle.progress.specs.Progress.{advance, advanced, faulted, moved, sound as sounding, bitsIn, highIn, acted}
 use Rattle.progress.specs.declared.Task.the-variants as To
@@ -159,7 +159,8 @@ module _ {t : Table} {es : List Entry} (kept : Carries t es) (plain : PlainKeys 
         number = y;
       }
 
-  step-pass : (m m′ : Mode) → Known m → ShowsRoot es m′ root k → ShowsText m′ key len (g .string) → ShowsNumber m′ d (g .number) (suc i) → Tracked m (stepTo m′ A.Pass)
+  step-pass : (m m′ : Mode) → Known m → ShowsRoot es m′ root k → ShowsText m′ key len (g .string) → ShowsNumber m′ (numberTo m′ d b) (g .number) (suc i)
+      → Tracked m (stepTo m′ A.Pass)
   step-pass m m′ s r x y p =
       step-stays m m′ (gather (judging es) m g b) s refl refl (s .key-long) p r (rw (string-gather es g b m) x) (rw (number-gather es g b m) y)
 

@@ -12,14 +12,11 @@ use Rattle.json.specs.declared.number.NumberMode.the-variants as N
 use Rattle.json.specs.declared.number.NumberMove.the-variants as NM
 use Rattle.json.specs.declared.lexer.Mode.{Mode}
 use Rattle.json.specs.declared.lexer.Mode.the-variants as M
-use Rattle.json.specs.declared.lexer.Act.{Act}
-use Rattle.json.specs.declared.lexer.Act.the-variants as A
 use Rattle.whole.specs.declared.Decimal.{Decimal}
-use Rattle.whole.specs.Fresh.{fresh}
 use Rattle.whole.specs.Count.{bounded, countedFrom}
 use Rattle.whole.proofs.RunLaws.{counted-split}
-use Rattle.progress.specs.Act.{numberTo, numberAfter}
-use Rattle.pass.specs.Pass.{numberOver, numberBefore, uncounted, sinceAfter}
+use Rattle.progress.specs.Act.{numberTo}
+use Rattle.pass.specs.Pass.{numberOver}
 
 -- ---- counted at once
 
@@ -32,7 +29,7 @@ number-none (M.Text t) d s i = refl
 number-none (M.Number n) d s i = refl
 number-none (M.Word w j) d s i = refl
 
--- one byte, and those behind it
+-- one byte, and those after it
 pub number-more : (m : Mode) (d : Decimal) (s : List ℕ) (i k : ℕ) → numberOver m (numberOver m d s i 1) s (i + 1) k ≡ numberOver m d s i (suc k)
 unfolding countedFrom
 number-more (M.At p) d s i k = refl
@@ -41,7 +38,7 @@ number-more (M.Text t) d s i k = refl
 number-more (M.Number n) d s i k = refl
 number-more (M.Word w j) d s i k = refl
 
--- some bytes, and those behind them
+-- some bytes, and those after them
 pub number-on : (m : Mode) (d : Decimal) (s : List ℕ) (since i j : ℕ) → since ≤ i → i ≤ j
     → numberOver m d s since (j - since) ≡ numberOver m (numberOver m d s since (i - since)) s i (j - i)
 number-on (M.At p) d s since i j h l = refl
@@ -67,7 +64,7 @@ go-other N.E next b e q = let z : _≡_ {A = ℕ} 0 1 = cc in omega arith
 go-other N.Sign next b e q = let z : _≡_ {A = ℕ} 0 1 = cc in omega arith
 go-other N.Exp next b e q = let z : _≡_ {A = ℕ} 0 1 = cc in omega arith
 
--- a byte that leads to a mode, counted with none behind it
+-- a byte that leads to a mode, counted with none after it
 number-one : (m : Mode) (d : Decimal) (s : List ℕ) (i : ℕ) → numberOver m d s i 1 ≡ numberTo m d (getD s i 0)
 unfolding countedFrom
 number-one (M.At p) d s i = refl
@@ -80,51 +77,6 @@ number-one (M.Word w j) d s i = refl
 pub number-same : (m : Mode) (d : Decimal) (s : List ℕ) (i : ℕ) → numberOver m d s i (i - i) ≡ d
 number-same m d s i = let z : i - i ≡ 0 = omega arith in rw z (number-none m d s i)
 
--- the last byte is still to be counted, or none is
-number-last : (m : Mode) (d : Decimal) (s : List ℕ) (i : ℕ) → numberOver m d s (i + 1 - 1) (i + 1 - (i + 1 - 1)) ≡ numberTo m d (getD s i 0)
-number-last m d s i =
-    let z : i + 1 - 1 ≡ i = omega arith in
-    let u : i + 1 - i ≡ 1 = omega arith in
-    rw (z, u) (number-one m d s i)
-
-number-no-more : (m : Mode) (d : Decimal) (s : List ℕ) (i : ℕ) → numberOver m d s (i + 1 - 0) (i + 1 - (i + 1 - 0)) ≡ d
-number-no-more m d s i = let z : i + 1 - (i + 1 - 0) ≡ 0 = omega arith in rw z (number-none m d s (i + 1 - 0))
-
--- a byte with an act, still to be counted or not
-pub number-byte : (a : Act) (m : Mode) (d : Decimal) (s : List ℕ) (i : ℕ)
-    → numberOver m (numberBefore a d) s (sinceAfter a i) (i + 1 - sinceAfter a i) ≡ numberAfter a m d (getD s i 0)
-number-byte A.Fault m d s i = number-no-more m d s i
-number-byte A.Pass m d s i = number-no-more m d s i
-number-byte A.OpenArray m d s i = number-no-more m d s i
-number-byte A.OpenObject m d s i = number-no-more m d s i
-number-byte A.Close m d s i = number-no-more m d s i
-number-byte A.KeyStart m d s i = number-no-more m d s i
-number-byte A.KeyChar m d s i = number-no-more m d s i
-number-byte A.KeyEnd m d s i = number-no-more m d s i
-number-byte A.TextStart m d s i = number-no-more m d s i
-number-byte A.TextChar m d s i = number-no-more m d s i
-number-byte A.TextEnd m d s i = number-no-more m d s i
-number-byte A.NumberStart m d s i = number-last m fresh s i
-number-byte A.NumberByte m d s i = number-last m d s i
-number-byte (A.WordEnd w) m d s i = number-no-more m d s i
-
--- no act leaves more than its own byte
-pub uncounted-small : (a : Act) → uncounted a ≤ 1
-uncounted-small A.Fault = omega arith
-uncounted-small A.Pass = omega arith
-uncounted-small A.OpenArray = omega arith
-uncounted-small A.OpenObject = omega arith
-uncounted-small A.Close = omega arith
-uncounted-small A.KeyStart = omega arith
-uncounted-small A.KeyChar = omega arith
-uncounted-small A.KeyEnd = omega arith
-uncounted-small A.TextStart = omega arith
-uncounted-small A.TextChar = omega arith
-uncounted-small A.TextEnd = omega arith
-uncounted-small A.NumberStart = omega arith
-uncounted-small A.NumberByte = omega arith
-uncounted-small (A.WordEnd w) = omega arith
-
--- no byte that is still to be counted stands behind the last one
-pub since-below : (a : Act) (i k : ℕ) → k ≡ sinceAfter a i → k ≤ i + 1
-since-below a i k e = omega arith
+-- the last byte is still to be counted
+pub number-last : (m : Mode) (d : Decimal) (s : List ℕ) (i : ℕ) → numberOver m d s i (i + 1 - i) ≡ numberTo m d (getD s i 0)
+number-last m d s i = let z : i + 1 - i ≡ 1 = omega arith in rw z (number-one m d s i)

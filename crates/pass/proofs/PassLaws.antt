@@ -22,13 +22,13 @@ use Rattle.table.specs.Table.{Table}
 use Rattle.progress.specs.declared.Fault.{Fault}
 use Rattle.progress.specs.declared.Fault.the-variants as F
 use Rattle.progress.specs.declared.Progress.{Progress}
-use Rattle.progress.specs.Act.{numberAfter}
+use Rattle.progress.specs.Act.{numberBefore, numberTo}
 use Rattle.progress.specs.Progress.{bitsIn, highIn, sound, advanced}
 use Rattle.progress.specs.Memory.{mem, topAt, runMem}
 use Rattle.chars.specs.Table.{classTable, classAt}
 use Rattle.lexer.specs.Given.{stepBy}
 use Rattle.lexer.proofs.GivenLaws.{stepBy-classTable}
-use Rattle.pass.specs.Pass.{StayedTo, bitsOver, numberOver, sinceAfter}
+use Rattle.pass.specs.Pass.{StayedTo, bitsOver, numberOver}
 use Rattle.pass.specs.Pass.{registers, registersOf, settled, registersOver, registersAfter, partOf, Stands}
 use Rattle.pass.specs.Pass.{passes, isSound, readsOn, placed, reached, passedAt, RunsTo, PassedTo}
 use Rattle.pass.specs.declared.Part.{Part}
@@ -36,7 +36,7 @@ use Rattle.pass.specs.declared.Part.the-variants as Of
 use Rattle.pass.specs.declared.Passed.{Passed}
 use Rattle.pass.specs.declared.Registers.{Registers}
 use Rattle.pass.proofs.ByteLaws.{bump-below, never, next-run, passes-quiet, quiet-step, reads-told, rest-fits, byte-fits, count-more, in-piece}
-use Rattle.pass.proofs.NumberLaws.{number-none, number-on, number-same, number-byte, since-below, go-other}
+use Rattle.pass.proofs.NumberLaws.{number-none, number-on, number-same, number-last, go-other}
 use Rattle.pass.proofs.StayLaws.{stay-some}
 
 -- ---- passing over: the record x is read
@@ -125,14 +125,15 @@ module _ (x : Progress) (top : Top) (s : List ℕ) (o : readsOn x ≡ true) wher
       → passes (st .act) (st .ends) (getD s i 0) ≡ true
       → RunsTo x top s i
       (placed x (st .mode)
-      (settled (st .mode) (registersAfter (x .mode) (st .act) (registersOf x) (getD s i 0)) s (sinceAfter (st .act) i) (i + 1)) (x .pos + 1) (x .len))
+      (settled (st .mode) (registersAfter (x .mode) (st .act) (registersOf x) (getD s i 0)) s i (i + 1)) (x .pos + 1) (x .len))
       (i + 1)
   unfolding registersAfter
   pass-on i st l v e c =
       let told = reads-told x o in
       let b = getD s i 0 in
-      let y = registers (bitsIn (x .mode) (x .bits) b) (highIn (x .mode) (x .bits) (x .high) b) (numberAfter (st .act) (st .mode) (x .number) b) in
-      rw (number-byte (st .act) (st .mode) (x .number) s i)
+      let d = numberBefore (st .act) (x .number) in
+      let y = registers (bitsIn (x .mode) (x .bits) b) (highIn (x .mode) (x .bits) (x .high) b) (numberTo (st .mode) d b) in
+      rw (number-last (st .mode) d s i)
       record {
         low = omega arith;
         high = omega arith;
@@ -207,17 +208,17 @@ module _ (x : Progress) (top : Top) (s : List ℕ) (from end : ℕ) (o : readsOn
       byte-out y f = rw f record { runs = stayed; step = λ n l. ap (λ (z : Step). advanced (reached x m more from j) n (getD s j 0) z) a }
 
       -- the byte at j is passed over
-      byte-on : (next : Registers) (later : ℕ) → (j ≡ end → ⊥) → passes (st .act) (st .ends) (getD s j 0) ≡ true
-          → next ≡ registersAfter m (st .act) more (getD s j 0) → later ≡ sinceAfter (st .act) j → Stands x top s from end (st .mode) next later (j + 1)
+      byte-on : (next : Registers) → (j ≡ end → ⊥) → passes (st .act) (st .ends) (getD s j 0) ≡ true
+          → next ≡ registersAfter m (st .act) more (getD s j 0) → Stands x top s from end (st .mode) next j (j + 1)
       unfolding readsOn
-      byte-on next later n q f k =
+      byte-on next n q f =
           let less : j < end = omega (arith, g .high) in
           let z = count-more (x .pos) from j (stayed .low) in
           let short : x .pos + (j - from) < 16777216 = byte-fits (length s) from (x .pos) end j d (stayed .low) less in
           record {
             below = omega arith;
-            counted = since-below (st .act) j later k;
-            runs = runs-on stayed (rw (z, f, k) (pass-on (reached x m more from j) top s o j st (in-piece (length s) from (x .pos) end j d w less) short a q));
+            counted = omega arith;
+            runs = runs-on stayed (rw (z, f) (pass-on (reached x m more from j) top s o j st (in-piece (length s) from (x .pos) end j d w less) short a q));
           }
 
   -- ---- the loop over other bytes than those of a number
@@ -234,9 +235,9 @@ module _ (x : Progress) (top : Top) (s : List ℕ) (from end : ℕ) (o : readsOn
       pub out-at-byte : (y : Passed) → y ≡ passedAt x m more from j st → PassedTo x top s from (y .progress) (y .at) (y .step)
       out-at-byte y f = byte-out m c since i j more r g same st a y f
 
-      pub passed-on : (next : Registers) (later : ℕ) (v : Bool) → (j ≡ end → ⊥) → v ≡ passes (st .act) (st .ends) (getD s j 0) → v ≡ true
-          → next ≡ registersAfter m (st .act) more (getD s j 0) → later ≡ sinceAfter (st .act) j → Stands x top s from end (st .mode) next later (j + 1)
-      passed-on next later v n q y f k = byte-on m c since i j more r g same st a next later n (sym q ∙ y) f k
+      pub passed-on : (next : Registers) (v : Bool) → (j ≡ end → ⊥) → v ≡ passes (st .act) (st .ends) (getD s j 0) → v ≡ true
+          → next ≡ registersAfter m (st .act) more (getD s j 0) → Stands x top s from end (st .mode) next j (j + 1)
+      passed-on next v n q y f = byte-on m c since i j more r g same st a next n (sym q ∙ y) f
 
   -- ---- the loop over the bytes of a number
 
@@ -272,4 +273,4 @@ module _ (x : Progress) (top : Top) (s : List ℕ) (from end : ℕ) (o : readsOn
         let goes : numberMove n b ≡ NM.Go next = sym a ∙ q in
         let other = go-other n next b goes in
         byte-on (M.Number n) (registers (c .bits) (c .high) old) since i j now r g same-number (stepTo (M.Number next) A.NumberByte)
-        (ap (λ (z : NumberMove). numberStep z top b) (sym goes)) now j l (rw (ne-eqb b 0x1E other)) refl (omega arith)
+        (ap (λ (z : NumberMove). numberStep z top b) (sym goes)) now l (rw (ne-eqb b 0x1E other)) refl

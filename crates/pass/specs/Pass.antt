@@ -23,12 +23,12 @@ use Rattle.json.specs.declared.lexer.Act.{Act}
 use Rattle.json.specs.declared.lexer.Act.the-variants as A
 use Rattle.json.specs.declared.lexer.Step.{Step}
 use Rattle.whole.specs.declared.Decimal.{Decimal}
-use Rattle.whole.specs.Fresh.{fresh}
 use Rattle.whole.specs.Count.{bounded, countedFrom}
 use Rattle.table.specs.Table.{Table}
 use Rattle.progress.specs.declared.Fault.{Fault}
 use Rattle.progress.specs.declared.Fault.the-variants as F
 use Rattle.progress.specs.declared.Progress.{Progress}
+use Rattle.progress.specs.Act.{numberBefore}
 use Rattle.progress.specs.Progress.{bitsIn, highIn, advanced}
 use Rattle.progress.specs.Memory.{mem, topAt, runMem}
 use Rattle.pass.specs.declared.Part.{Part}
@@ -140,47 +140,9 @@ settled m g s since i = registers (g .bits) (g .high) (numberOver m (g .number) 
 unfoldable pub registersOver : Bool → Mode → Registers → Registers
 registersOver some m g = registers (bitsOver some m (g .bits)) (g .high) (g .number)
 
--- the number before a byte with an act: one that begins is fresh
-abbrev pub numberBefore : Act → Decimal → Decimal
-numberBefore A.Fault d = d
-numberBefore A.Pass d = d
-numberBefore A.OpenArray d = d
-numberBefore A.OpenObject d = d
-numberBefore A.Close d = d
-numberBefore A.KeyStart d = d
-numberBefore A.KeyChar d = d
-numberBefore A.KeyEnd d = d
-numberBefore A.TextStart d = d
-numberBefore A.TextChar d = d
-numberBefore A.TextEnd d = d
-numberBefore A.NumberStart d = fresh
-numberBefore A.NumberByte d = d
-numberBefore (A.WordEnd w) d = d
-
 -- after byte b with an act, but that b is still to be counted for the number
 unfoldable pub registersAfter : Mode → Act → Registers → ℕ → Registers
 registersAfter m a g b = registers (bitsIn m (g .bits) b) (highIn m (g .bits) (g .high) b) (numberBefore a (g .number))
-
--- how many bytes of a number are still to be counted after one with an act
-abbrev pub uncounted : Act → ℕ
-uncounted A.Fault = 0
-uncounted A.Pass = 0
-uncounted A.OpenArray = 0
-uncounted A.OpenObject = 0
-uncounted A.Close = 0
-uncounted A.KeyStart = 0
-uncounted A.KeyChar = 0
-uncounted A.KeyEnd = 0
-uncounted A.TextStart = 0
-uncounted A.TextChar = 0
-uncounted A.TextEnd = 0
-uncounted A.NumberStart = 1
-uncounted A.NumberByte = 1
-uncounted (A.WordEnd w) = 0
-
--- from where on they stand after the one at place i
-abbrev pub sinceAfter : Act → ℕ → ℕ
-sinceAfter a i = i + 1 - uncounted a
 
 -- a mode of a number, or another
 abbrev pub partOf : Mode → Part

@@ -8,7 +8,7 @@ ghost use Rattle.json.specs.Lexer.{stepOf};
 ghost use Rattle.json.specs.Numbers.{isDigit};
 ghost use Rattle.chars.specs.Table.{classTable, classAt};
 ghost use Rattle.pass.specs.Pass.{plainClass, awaitsChar, inDigits, staysIn, StayedTo};
-ghost use Rattle.pass.specs.Pass.{bitsOver, numberBefore, uncounted, sinceAfter, registers, registersOf, registersOver, registersAfter, partOf};
+ghost use Rattle.pass.specs.Pass.{bitsOver, registers, registersOf, registersOver, registersAfter, partOf};
 ghost use Rattle.pass.specs.Pass.{isQuiet, passes, readsOn, keepsChars, placed, passedAt, Stands, PassedTo, PlainAt, KeptTo};
 use json::class::Class;
 use json::lexer::Act;
@@ -231,58 +231,6 @@ fn registers_over(some: bool, m: Mode, g: Registers) -> Registers
     }
 }
 
-// The number before a byte with an act: one that begins is fresh.
-fn number_before(a: Act, d: Decimal) -> Decimal
-    ensures { λ r. ⌜ r ≡ numberBefore a d ⌝ }
-{
-    match a {
-        Act::Fault => d,
-        Act::Pass => d,
-        Act::OpenArray => d,
-        Act::OpenObject => d,
-        Act::Close => d,
-        Act::KeyStart => d,
-        Act::KeyChar => d,
-        Act::KeyEnd => d,
-        Act::TextStart => d,
-        Act::TextChar => d,
-        Act::TextEnd => d,
-        Act::NumberStart => whole::fresh(),
-        Act::NumberByte => d,
-        Act::WordEnd(_) => d,
-    }
-}
-
-// How many bytes of a number are still to be counted after one with an act: a byte of a number is counted with those that follow it in its mode.
-fn uncounted(a: Act) -> usize
-    ensures { λ r. ⌜ r ≡ uncounted a ⌝ }
-{
-    match a {
-        Act::Fault => 0,
-        Act::Pass => 0,
-        Act::OpenArray => 0,
-        Act::OpenObject => 0,
-        Act::Close => 0,
-        Act::KeyStart => 0,
-        Act::KeyChar => 0,
-        Act::KeyEnd => 0,
-        Act::TextStart => 0,
-        Act::TextChar => 0,
-        Act::TextEnd => 0,
-        Act::NumberStart => 1,
-        Act::NumberByte => 1,
-        Act::WordEnd(_) => 0,
-    }
-}
-
-// From where on they stand after the one at place i.
-fn since_after(a: Act, i: usize) -> usize
-    requires { ⌜ i < 18446744073709551615 ⌝ }
-    ensures { λ r. ⌜ r ≡ sinceAfter a i ⌝ }
-{
-    i + 1 - uncounted(a)
-}
-
 // The registers after byte b with an act, but that b is still to be counted for the number.
 fn registers_after(m: Mode, a: Act, g: Registers, b: u8) -> Registers
     ensures { λ r. ⌜ r ≡ registersAfter m a g b ⌝ }
@@ -291,7 +239,7 @@ fn registers_after(m: Mode, a: Act, g: Registers, b: u8) -> Registers
     Registers {
         bits: register::bits_in(m, g.bits, b),
         high: register::high_in(m, g.bits, g.high, b),
-        number: number_before(a, d),
+        number: register::number_before(a, d),
     }
 }
 
@@ -496,7 +444,7 @@ fn pass_to<'a>(
             return passed_at(x, m, g, from, j, st);
         }
         g = registers_after(m, a, g, b);
-        since = since_after(a, j);
+        since = j;
         let next = st.mode;
         m = next;
         i = j + 1;

@@ -1,4 +1,5 @@
--- An act's parts, laws in the form of the code's needs: the parts together are the act, and how far levels and the key can grow. Assumes nothing.
+-- An act's parts, laws in the form of the code's needs: the parts together are the act, and how far levels, the key and the
+-- counts of a number can grow. Assumes nothing.
 use mathlib.Core.Bool.{Bool, true, false, cond}
 use mathlib.Core.List.{List}
 use mathlib.Core.Path.{_≡_, refl, sym, ap, _∙_}
@@ -13,13 +14,15 @@ use Rattle.json.specs.declared.lexer.Act.{Act}
 use Rattle.json.specs.declared.lexer.Act.the-variants as A
 use Rattle.whole.specs.declared.Decimal.{Decimal}
 use Rattle.whole.specs.Count.{isWhole}
+use Rattle.whole.specs.Limits.{CountsWithin}
+use Rattle.whole.proofs.LimitLaws.{counts-fresh}
 use Rattle.table.specs.declared.kind.Scalar.the-variants as K
 use Rattle.progress.specs.declared.Fault.{Fault}
 use Rattle.progress.specs.declared.Fault.the-variants as F
 use Rattle.progress.specs.declared.Progress.{Progress}
 use Rattle.progress.specs.declared.Task.{Task}
 use Rattle.progress.specs.declared.Advanced.{Advanced}
-use Rattle.progress.specs.Act.{openLevel, keyLen, keptIn, firstFault, levelAfter, lenAfter, numberKind, taskOf}
+use Rattle.progress.specs.Act.{openLevel, keyLen, keptIn, firstFault, levelAfter, lenAfter, numberBefore, numberKind, taskOf}
 use Rattle.progress.specs.Progress.{advance, charIn, moved, actedBy, acted}
 
 -- ---- the parts of an act, where f is the fault that was found
@@ -46,7 +49,7 @@ pub kind-other : (d : Decimal) (v : Bool) → v ≡ isWhole d → v ≡ false �
 unfolding numberKind
 kind-other d v e h = simp (sym e ∙ h)
 
--- ---- how far levels and the key grow
+-- ---- how far levels, the key and the counts of a number grow
 
 openLevel-le : (level n : ℕ) → level ≤ n → openLevel level n ≤ n
 unfolding openLevel
@@ -98,6 +101,23 @@ lenAfter-le A.TextEnd len c h = h
 lenAfter-le A.NumberStart len c h = h
 lenAfter-le A.NumberByte len c h = h
 lenAfter-le (A.WordEnd w) len c h = h
+
+-- before a byte the counts of a number are as they were, or fresh
+pub numberBefore-counts : (a : Act) {p : ℕ} {d : Decimal} → CountsWithin p d → CountsWithin p (numberBefore a d)
+numberBefore-counts A.Fault f = f
+numberBefore-counts A.Pass f = f
+numberBefore-counts A.OpenArray f = f
+numberBefore-counts A.OpenObject f = f
+numberBefore-counts A.Close f = f
+numberBefore-counts A.KeyStart f = f
+numberBefore-counts A.KeyChar f = f
+numberBefore-counts A.KeyEnd f = f
+numberBefore-counts A.TextStart f = f
+numberBefore-counts A.TextChar f = f
+numberBefore-counts A.TextEnd f = f
+numberBefore-counts A.NumberStart {p} f = counts-fresh p
+numberBefore-counts A.NumberByte f = f
+numberBefore-counts (A.WordEnd w) f = f
 
 -- ---- the characters of a key
 

@@ -93,29 +93,30 @@ lenAfter (A.WordEnd w) len c = len
 unfoldable pub numberKind : Decimal → Scalar
 numberKind d = cond (isWhole d) K.Int K.Num
 
--- what is known of the number after byte b with an act, where mode m is next
+-- the number before a byte with an act: one that begins is fresh
+abbrev pub numberBefore : Act → Decimal → Decimal
+numberBefore A.Fault d = d
+numberBefore A.Pass d = d
+numberBefore A.OpenArray d = d
+numberBefore A.OpenObject d = d
+numberBefore A.Close d = d
+numberBefore A.KeyStart d = d
+numberBefore A.KeyChar d = d
+numberBefore A.KeyEnd d = d
+numberBefore A.TextStart d = d
+numberBefore A.TextChar d = d
+numberBefore A.TextEnd d = d
+numberBefore A.NumberStart d = fresh
+numberBefore A.NumberByte d = d
+numberBefore (A.WordEnd w) d = d
+
+-- the number after byte b, which leads to mode m
 abbrev pub numberTo : Mode → Decimal → ℕ → Decimal
 numberTo (M.At p) d b = d
 numberTo (M.Key s) d b = d
 numberTo (M.Text s) d b = d
 numberTo (M.Number n) d b = counted bounded n d b
 numberTo (M.Word w i) d b = d
-
-abbrev pub numberAfter : Act → Mode → Decimal → ℕ → Decimal
-numberAfter A.Fault m d b = d
-numberAfter A.Pass m d b = d
-numberAfter A.OpenArray m d b = d
-numberAfter A.OpenObject m d b = d
-numberAfter A.Close m d b = d
-numberAfter A.KeyStart m d b = d
-numberAfter A.KeyChar m d b = d
-numberAfter A.KeyEnd m d b = d
-numberAfter A.TextStart m d b = d
-numberAfter A.TextChar m d b = d
-numberAfter A.TextEnd m d b = d
-numberAfter A.NumberStart m d b = numberTo m fresh b
-numberAfter A.NumberByte m d b = numberTo m d b
-numberAfter (A.WordEnd w) m d b = d
 
 abbrev pub scalarOf : Word → Scalar
 scalarOf W.Null = K.Null

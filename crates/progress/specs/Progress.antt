@@ -20,7 +20,7 @@ use Rattle.progress.specs.declared.Progress.{Progress}
 use Rattle.progress.specs.declared.Task.{Task}
 use Rattle.progress.specs.declared.Task.the-variants as To
 use Rattle.progress.specs.declared.Advanced.{Advanced}
-use Rattle.progress.specs.Act.{firstFault, levelAfter, lenAfter, numberAfter, taskOf}
+use Rattle.progress.specs.Act.{firstFault, levelAfter, lenAfter, numberBefore, numberTo, taskOf}
 use Rattle.laws.specs.Count.{bump}
 use Rattle.progress.specs.Fresh.{freshProgress}
 
@@ -63,7 +63,7 @@ charIn (M.Word w i) bits high b = 0
 -- the record after byte b with an act, at mode m
 abbrev pub moved : Progress → Act → ℕ → Mode → ℕ → ℕ → Progress
 moved x a b m level len =
-    record { mode = m; fault = x .fault; head = x .head; level = level; pos = bump (x .pos); place = x .place; bits = bitsIn (x .mode) (x .bits) b; high = highIn (x .mode) (x .bits) (x .high) b; number = numberAfter a m (x .number) b; len = len }
+    record { mode = m; fault = x .fault; head = x .head; level = level; pos = bump (x .pos); place = x .place; bits = bitsIn (x .mode) (x .bits) b; high = highIn (x .mode) (x .bits) (x .high) b; number = numberTo m (numberBefore a (x .number)) b; len = len }
 
 -- a step of the lexer, whose act has the fault f: e tells whether it ends a number, m is the mode after it
 abbrev pub actedBy : Fault → Act → Bool → Progress → ℕ → ℕ → Mode → Advanced

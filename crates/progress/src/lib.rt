@@ -151,7 +151,7 @@ fn moved(x: Progress, a: Act, b: u8, m: Mode, level: usize, len: u8) -> Progress
         place: x.place,
         bits: register::bits_in(from, x.bits, b),
         high: register::high_in(from, x.bits, x.high, b),
-        number: register::number_after(a, m, d, b),
+        number: register::number_to(m, register::number_before(a, d), b),
         len: len,
     }
 }

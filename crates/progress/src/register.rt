@@ -1,6 +1,6 @@
 // The registers of the open character, its bits and the high surrogate before it, and those of the open number.
 ghost use mathlib.Core.Path.{_≡_};
-ghost use Rattle.progress.specs.Act.{numberTo, numberAfter};
+ghost use Rattle.progress.specs.Act.{numberBefore, numberTo};
 ghost use Rattle.progress.specs.Progress.{bitsIn, highIn, charIn};
 use json::lexer::Act;
 use json::lexer::Mode;
@@ -45,22 +45,9 @@ pub fn char_in(m: Mode, bits: u32, high: u32, b: u8) -> u32
     }
 }
 
-// The number after a byte that leads to a mode.
-fn number_to(m: Mode, d: Decimal, b: u8) -> Decimal
-    ensures { λ r. ⌜ r ≡ numberTo m d b ⌝ }
-{
-    match m {
-        Mode::At(_) => d,
-        Mode::Key(_) => d,
-        Mode::Text(_) => d,
-        Mode::Number(n) => whole::counted(n, d, b),
-        Mode::Word(_, _) => d,
-    }
-}
-
-// The number after byte b with an act, where mode m is next.
-pub fn number_after(a: Act, m: Mode, d: Decimal, b: u8) -> Decimal
-    ensures { λ r. ⌜ r ≡ numberAfter a m d b ⌝ }
+// The number before a byte with an act: one that begins is fresh.
+pub fn number_before(a: Act, d: Decimal) -> Decimal
+    ensures { λ r. ⌜ r ≡ numberBefore a d ⌝ }
 {
     match a {
         Act::Fault => d,
@@ -74,8 +61,21 @@ pub fn number_after(a: Act, m: Mode, d: Decimal, b: u8) -> Decimal
         Act::TextStart => d,
         Act::TextChar => d,
         Act::TextEnd => d,
-        Act::NumberStart => number_to(m, whole::fresh(), b),
-        Act::NumberByte => number_to(m, d, b),
+        Act::NumberStart => whole::fresh(),
+        Act::NumberByte => d,
         Act::WordEnd(_) => d,
+    }
+}
+
+// The number after byte b, which leads to mode m.
+pub fn number_to(m: Mode, d: Decimal, b: u8) -> Decimal
+    ensures { λ r. ⌜ r ≡ numberTo m d b ⌝ }
+{
+    match m {
+        Mode::At(_) => d,
+        Mode::Key(_) => d,
+        Mode::Text(_) => d,
+        Mode::Number(n) => whole::counted(n, d, b),
+        Mode::Word(_, _) => d,
     }
 }

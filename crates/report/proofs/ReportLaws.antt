@@ -32,11 +32,11 @@ module _ (t : Table) (s : List ℕ) (r : Reader) (w : List ℕ) (read : ℕ) whe
       let f : Outcome = record { reader = next; count = count; answer = a; work = work } in
       omega (arith, h, length-drop read s, ap (λ (x : Outcome). x .count) (fed-rest h f lent), count-of-feed r t w (drop read s))
 
-  -- the place behind what is read fits its type, as the length of the piece does
-  pub fed-behind : read ≤ length s → (next : Reader) (count : ℕ) (a : Answer) (work : List ℕ)
+  -- the place after what is read fits its type, as the length of the piece does
+  pub fed-fits : read ≤ length s → (next : Reader) (count : ℕ) (a : Answer) (work : List ℕ)
       → record { reader = next; count = count; answer = a; work = work } ≡ feedOf r t w (take (length s - read) (drop read s))
       → length s < 18446744073709551616 → read + count < 18446744073709551616
-  fed-behind h next count a work lent l = omega (arith, fed-inside h next count a work lent)
+  fed-fits h next count a work lent l = omega (arith, fed-inside h next count a work lent)
 
   pub next-of : (o : List ℕ) (used : ℕ) (next : Reader) (count : ℕ) (a : Answer) (work : List ℕ)
       → record { reader = next; count = count; answer = a; work = work } ≡ feedOf r t w (drop read s)

@@ -1,5 +1,6 @@
 -- One call: what it does where it is accepted, and that it changes nothing where it is refused. The reader's numbers stay in their bounds whatever
--- the calls are handed, so that a reader from an accepted start is refused with 23 for the table alone: `never-above-limit`. Assumes nothing.
+-- the calls are handed, so that a reader from an accepted start is refused with 23 for the table alone: `never-above-limit`; and so do the counts of a
+-- number: `counts-after-start`. Assumes nothing.
 use mathlib.Core.Bool.{Bool, true, false}
 use mathlib.Core.List.{List, [], _∷_}
 use mathlib.Core.Path.{_≡_, refl, sym, ap, _∙_}
@@ -8,6 +9,8 @@ use native.Mathlib.Omega.{arith}
 use lib.Dec.{ltb}
 use lib.ListN.{length}
 use borrow.Author.Tests.{le-leb}
+use Rattle.whole.specs.Limits.{CountsWithin}
+use Rattle.whole.proofs.LimitLaws.{counts-fresh}
 use Rattle.table.specs.Table.{Table}
 use Rattle.table.specs.Limits.{withinLimits}
 use Rattle.frame.specs.Frame.{frameCount}
@@ -27,7 +30,7 @@ use Rattle.stream.specs.Claim.{run, after, table, buffer, accepted, clos
 use Rattle.reader.proofs.RefusalLaws.{through-elim, open-of-isOpen, shut-of-not-isOpen, room-of-start, room-of-call, table-of-above-limit}
 use Rattle.laws.proofs.TestLaws.{true-neq-false, cond-elim}
 use Rattle.stream.specs.Records.{Fresh}
-use Rattle.stream.proofs.ByteLaws.{Within, within-of-piece}
+use Rattle.stream.proofs.ByteLaws.{Within, CountsIn, within-of-piece, counts-of-piece}
 
 -- ---- a call that is not refused
 
@@ -91,18 +94,20 @@ unchanged-of-refused r c k =
 pub record Good (n : ℕ) (r : Reader) : Type 0 where
   pub frames : r .frames ≡ n
   pub within : Within n (r .progress)
+  pub counts : CountsIn (r .progress)
 
 within-of-fresh : (n : ℕ) (head : Bool) → Within n (freshProgress head)
 within-of-fresh n head = record { level = omega arith; len = omega arith }
 
 -- a fresh reader is within its bounds
 pub good-of-fresh : (n : ℕ) (r : Reader) → Fresh n r → Good n r
-good-of-fresh n r f = record { frames = f .frames; within = rw (f .progress) (within-of-fresh n true) }
+good-of-fresh n r f = record { frames = f .frames; within = rw (f .progress) (within-of-fresh n true); counts = rw (f .progress) (counts-fresh 0) }
 
-good-of-outcome : (n : ℕ) (r : Reader) (e : Ran) → r .frames ≡ n → Within n (e .memory .progress) → Good n (outcome r e .reader)
-good-of-outcome n r e f i =
-    cond-elim (λ (o : Outcome). Good n (o .reader)) (e .ended) (λ h. record { frames = f; within = within-of-fresh n false })
-    (λ h. record { frames = f; within = i })
+good-of-outcome : (n : ℕ) (r : Reader) (e : Ran) → r .frames ≡ n → Within n (e .memory .progress) → CountsIn (e .memory .progress)
+    → Good n (outcome r e .reader)
+good-of-outcome n r e f i k =
+    cond-elim (λ (o : Outcome). Good n (o .reader)) (e .ended) (λ h. record { frames = f; within = within-of-fresh n false; counts = counts-fresh 0 })
+    (λ h. record { frames = f; within = i; counts = k })
 
 fresh-of-close : (n : ℕ) (r : Reader) (t : Table) (w : List ℕ) → r .frames ≡ n → Fresh n (reading r (close t w) .reader)
 unfolding closing
@@ -114,7 +119,7 @@ good-of-reading : (n : ℕ) (r : Reader) (c : Call) → Good n r → Good n (rea
 unfolding feeding
 good-of-reading n r (feed t w s) g =
     good-of-outcome n r (runMem t (r .frames) (memoryOf r w) 0 s) (g .frames)
-    (rw (g .frames) (within-of-piece t n s (memoryOf r w) 0 (g .within)))
+    (rw (g .frames) (within-of-piece t n s (memoryOf r w) 0 (g .within))) (counts-of-piece t (r .frames) s (memoryOf r w) 0 (g .counts))
 good-of-reading n r (close t w) g = good-of-fresh n (reading r (close t w) .reader) (fresh-of-close n r t w (g .frames))
 
 -- ---- a call by its tests, with n frames
@@ -234,10 +239,23 @@ begun-of-start t w =
     let h : 96 ≤ length w = room-of-start t (length w) o in
     record { least = omega arith; most = omega arith; fresh = record { frames = refl; progress = refl; root = refl; key = refl } })
 
+-- after an accepted start and any calls the reader is within its bounds
+good-of-start : (t : Table) (w : List ℕ) → startOf t w .answer ≡ Says.Quiet → (calls : List Call)
+    → Good (frameCount (length w)) (after (startOf t w .reader) calls)
+good-of-start t w e calls =
+    let n : ℕ = frameCount (length w) in
+    let b = begun-of-start t w e in
+    good-of-calls n (b .least) (b .most) calls (startOf t w .reader) (good-of-fresh n (startOf t w .reader) (b .fresh))
+
 -- after an accepted start and any calls, a call refused with 23 has a table with a number above its limit
 pub never-above-limit : (t : Table) (w : List ℕ) → startOf t w .answer ≡ Says.Quiet → (calls : List Call) (c : Call)
     → run (after (startOf t w .reader) calls) c .answer ≡ Says.Refused No.AboveLimit → withinLimits (table c) ≡ false
 never-above-limit t w e calls c =
     let b = begun-of-start t w e in
-    let g = good-of-calls (frameCount (length w)) (b .least) (b .most) calls (startOf t w .reader) (good-of-fresh (frameCount (length w)) (startOf t w .reader) (b .fresh)) in
-    limits-of-refused (frameCount (length w)) (b .least) (b .most) (after (startOf t w .reader) calls) c g
+    limits-of-refused (frameCount (length w)) (b .least) (b .most) (after (startOf t w .reader) calls) c (good-of-start t w e calls)
+
+-- after an accepted start and any calls, zeros and places of a number are at most the bytes of its record and 16,777,216, and its exponent is at most
+-- 167,772,169
+pub counts-after-start : (t : Table) (w : List ℕ) → startOf t w .answer ≡ Says.Quiet → (calls : List Call)
+    → CountsWithin (after (startOf t w .reader) calls .progress .pos) (after (startOf t w .reader) calls .progress .number)
+counts-after-start t w e calls = good-of-start t w e calls .counts

@@ -1,5 +1,5 @@
--- What the steps of the lexer tell of their bytes: which byte opens what, that a byte that leaves a token open leaves the buffer, and which step ends a
--- token. Assumes nothing.
+-- What the steps of the lexer tell of their bytes: which byte opens what, that a byte that leaves a token open leaves the buffer, that only a digit leads
+-- to the digits of an exponent, and which step ends a token. Assumes nothing.
 use mathlib.Core.Bool.{Bool, true, false}
 use mathlib.Core.Path.{_≡_, refl}
 use Prim.Native.Nat.{ℕ}
@@ -31,6 +31,7 @@ use Rattle.json.specs.declared.lexer.Act.{Act}
 use Rattle.json.specs.declared.lexer.Act.the-variants as A
 use Rattle.json.specs.declared.lexer.Step.{Step}
 use Rattle.whole.specs.declared.Decimal.{Decimal}
+use Rattle.whole.proofs.LimitLaws.{DigitIn, DigitBy, digit-of-move}
 use Rattle.table.specs.Table.{Table}
 use Rattle.progress.specs.declared.Fault.the-variants as F
 use Rattle.progress.specs.declared.Progress.{Progress}
@@ -80,9 +81,18 @@ Between A.NumberStart = Unit {0}
 Between A.NumberByte = Unit {0}
 Between (A.WordEnd v) = ⊥
 
+-- a byte that leads to the digits of an exponent is a digit
+abbrev pub DigitTo : Mode → ℕ → Type 0
+DigitTo (M.At p) b = Unit {0}
+DigitTo (M.Key s) b = Unit {0}
+DigitTo (M.Text s) b = Unit {0}
+DigitTo (M.Number n) b = DigitIn n b
+DigitTo (M.Word v i) b = Unit {0}
+
 pub record Tells (b : ℕ) (st : Step) : Type 0 where
   pub opens : OpensBy (st .act) b
   pub leaves : LeavesIn (inToken (st .mode)) st
+  pub digit : DigitTo (st .mode) b
 
 -- a step between tokens ends no number and finishes no key, string or word
 pub record Placed (b : ℕ) (st : Step) : Type 0 where
@@ -101,34 +111,34 @@ put-leaves len c t x y =
 
 module _ (b : ℕ) where
   placed-fault : Placed b faultStep
-  placed-fault = record { tells = record { opens = tt; leaves = tt }; ends = refl; between = tt }
+  placed-fault = record { tells = record { opens = tt; leaves = tt; digit = tt }; ends = refl; between = tt }
 
   placed-stay : (p : Awaited) → Placed b (stay p)
-  placed-stay p = record { tells = record { opens = tt; leaves = tt }; ends = refl; between = tt }
+  placed-stay p = record { tells = record { opens = tt; leaves = tt; digit = tt }; ends = refl; between = tt }
 
   placed-close : Placed b (stepTo (M.At P.After) A.Close)
-  placed-close = record { tells = record { opens = tt; leaves = tt }; ends = refl; between = tt }
+  placed-close = record { tells = record { opens = tt; leaves = tt; digit = tt }; ends = refl; between = tt }
 
   placed-key : Placed b (stepTo (M.Key S.Char) A.KeyStart)
-  placed-key = record { tells = record { opens = tt; leaves = λ m len c t x y. refl }; ends = refl; between = tt }
+  placed-key = record { tells = record { opens = tt; leaves = λ m len c t x y. refl; digit = tt }; ends = refl; between = tt }
 
   placed-text : Placed b (stepTo (M.Text S.Char) A.TextStart)
-  placed-text = record { tells = record { opens = tt; leaves = λ m len c t x y. refl }; ends = refl; between = tt }
+  placed-text = record { tells = record { opens = tt; leaves = λ m len c t x y. refl; digit = tt }; ends = refl; between = tt }
 
-  placed-number : (n : NumberMode) → Placed b (stepTo (M.Number n) A.NumberStart)
-  placed-number n = record { tells = record { opens = tt; leaves = λ m len c t x y. refl }; ends = refl; between = tt }
+  placed-number : (n : NumberMode) → DigitIn n b → Placed b (stepTo (M.Number n) A.NumberStart)
+  placed-number n d = record { tells = record { opens = tt; leaves = λ m len c t x y. refl; digit = d }; ends = refl; between = tt }
 
   placed-word : (v : Word) → Placed b (stepTo (M.Word v 1) A.Pass)
-  placed-word v = record { tells = record { opens = tt; leaves = λ m len c t x y. refl }; ends = refl; between = tt }
+  placed-word v = record { tells = record { opens = tt; leaves = λ m len c t x y. refl; digit = tt }; ends = refl; between = tt }
 
   not-brace : T (eqb b 0x5B) → eqb b 0x7B ≡ false
   not-brace h = rw (eqb-true b 0x5B (true-of-T (eqb b 0x5B) h))
 
   placed-array : T (eqb b 0x5B) → Placed b (stepTo (M.At P.First) A.OpenArray)
-  placed-array h = record { tells = record { opens = not-brace h; leaves = tt }; ends = refl; between = tt }
+  placed-array h = record { tells = record { opens = not-brace h; leaves = tt; digit = tt }; ends = refl; between = tt }
 
   placed-object : T (eqb b 0x7B) → Placed b (stepTo (M.At P.First) A.OpenObject)
-  placed-object h = record { tells = record { opens = true-of-T (eqb b 0x7B) h; leaves = tt }; ends = refl; between = tt }
+  placed-object h = record { tells = record { opens = true-of-T (eqb b 0x7B) h; leaves = tt; digit = tt }; ends = refl; between = tt }
 
   placed-valueStart : Placed b (valueStart b)
   unfolding valueStart
@@ -137,9 +147,9 @@ module _ (b : ℕ) where
       cond-elim Q (eqb b 0x22) (λ _. placed-text) (λ _.
       cond-elim Q (eqb b 0x5B) placed-array (λ _.
       cond-elim Q (eqb b 0x7B) placed-object (λ _.
-      cond-elim Q (isDigit1-9 b) (λ _. placed-number N.Int) (λ _.
-      cond-elim Q (eqb b 0x30) (λ _. placed-number N.Zero) (λ _.
-      cond-elim Q (eqb b 0x2D) (λ _. placed-number N.Minus) (λ _.
+      cond-elim Q (isDigit1-9 b) (λ _. placed-number N.Int tt) (λ _.
+      cond-elim Q (eqb b 0x30) (λ _. placed-number N.Zero tt) (λ _.
+      cond-elim Q (eqb b 0x2D) (λ _. placed-number N.Minus tt) (λ _.
       cond-elim Q (eqb b 0x6E) (λ _. placed-word W.Null) (λ _.
       cond-elim Q (eqb b 0x74) (λ _. placed-word W.True) (λ _.
       cond-elim Q (eqb b 0x66) (λ _. placed-word W.False) (λ _. placed-fault)))))))))
@@ -186,38 +196,38 @@ module _ (b : ℕ) where
   tells-keyStep : (k : StringMove) → Tells b (keyStep k)
   unfolding keyTask
   tells-keyStep SM.Fault = placed-fault .tells
-  tells-keyStep (SM.Go s) = record { opens = tt; leaves = λ m len c t x y. refl }
-  tells-keyStep SM.Char = record { opens = tt; leaves = λ m len c t x y. put-leaves len c t x y }
-  tells-keyStep SM.Close = record { opens = tt; leaves = tt }
+  tells-keyStep (SM.Go s) = record { opens = tt; leaves = λ m len c t x y. refl; digit = tt }
+  tells-keyStep SM.Char = record { opens = tt; leaves = λ m len c t x y. put-leaves len c t x y; digit = tt }
+  tells-keyStep SM.Close = record { opens = tt; leaves = tt; digit = tt }
 
   tells-textStep : (k : StringMove) → Tells b (textStep k)
   tells-textStep SM.Fault = placed-fault .tells
-  tells-textStep (SM.Go s) = record { opens = tt; leaves = λ m len c t x y. refl }
-  tells-textStep SM.Char = record { opens = tt; leaves = λ m len c t x y. refl }
-  tells-textStep SM.Close = record { opens = tt; leaves = tt }
+  tells-textStep (SM.Go s) = record { opens = tt; leaves = λ m len c t x y. refl; digit = tt }
+  tells-textStep SM.Char = record { opens = tt; leaves = λ m len c t x y. refl; digit = tt }
+  tells-textStep SM.Close = record { opens = tt; leaves = tt; digit = tt }
 
   tells-wordStep : (k : WordMove) (v : Word) (i : ℕ) → Tells b (wordStep k v i)
   tells-wordStep WM.Fault v i = placed-fault .tells
-  tells-wordStep WM.Go v i = record { opens = tt; leaves = λ m len c t x y. refl }
-  tells-wordStep WM.End v i = record { opens = tt; leaves = tt }
+  tells-wordStep WM.Go v i = record { opens = tt; leaves = λ m len c t x y. refl; digit = tt }
+  tells-wordStep WM.End v i = record { opens = tt; leaves = tt; digit = tt }
 
   -- a byte that ends a number leaves no token open
   tells-ended : (top : Top) → Tells b (endedBefore (afterValue top b))
   tells-ended top =
-      afterValue-elim (λ (st : Step). Tells b (endedBefore st)) top (record { opens = tt; leaves = tt }) (λ p. record { opens = tt; leaves = tt })
-      (record { opens = tt; leaves = tt })
+      afterValue-elim (λ (st : Step). Tells b (endedBefore st)) top (record { opens = tt; leaves = tt; digit = tt })
+      (λ p. record { opens = tt; leaves = tt; digit = tt }) (record { opens = tt; leaves = tt; digit = tt })
 
-  tells-numberStep : (k : NumberMove) (top : Top) → Tells b (numberStep k top b)
-  tells-numberStep NM.Fault top = placed-fault .tells
-  tells-numberStep (NM.Go n) top = record { opens = tt; leaves = λ m len c t x y. refl }
-  tells-numberStep NM.End top = tells-ended top
+  tells-numberStep : (k : NumberMove) (top : Top) → DigitBy k b → Tells b (numberStep k top b)
+  tells-numberStep NM.Fault top d = placed-fault .tells
+  tells-numberStep (NM.Go n) top d = record { opens = tt; leaves = λ m len c t x y. refl; digit = d }
+  tells-numberStep NM.End top d = tells-ended top
 
   -- a byte in any mode
   pub tells-stepOf : (m : Mode) (top : Top) → Tells b (stepOf m top b)
   tells-stepOf (M.At p) top = placed-placeStep p top .tells
   tells-stepOf (M.Key s) top = tells-keyStep (stringMove s b)
   tells-stepOf (M.Text s) top = tells-textStep (stringMove s b)
-  tells-stepOf (M.Number n) top = tells-numberStep (numberMove n b) top
+  tells-stepOf (M.Number n) top = tells-numberStep (numberMove n b) top (digit-of-move b n)
   tells-stepOf (M.Word v i) top = tells-wordStep (wordMove v i b) v i
 
   -- a byte between tokens

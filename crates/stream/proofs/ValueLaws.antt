@@ -35,7 +35,7 @@ use Rattle.table.specs.Table.{Table}
 use Rattle.table.specs.declared.kind.Scalar.the-variants as K
 use Rattle.verdict.specs.Verdict.{longest}
 use Rattle.progress.specs.declared.Fault.the-variants as F
-use Rattle.progress.specs.Act.{firstFault, numberAfter, numberKind}
+use Rattle.progress.specs.Act.{firstFault, numberBefore, numberKind}
 use Rattle.pass.proofs.ByteLaws.{bump-below}
 use Rattle.pass.proofs.NumberLaws.{go-other}
 use Rattle.reader.specs.declared.Reader.{Reader}
@@ -67,7 +67,7 @@ module _ (t : Table) (r : Reader) (w : List ℕ) (m : Mode) (d : Decimal) (p b :
   -- after the byte, with the outcome o
   record Fed (a : Act) (o : Outcome) : Type 0 where
     quiet : o .answer ≡ Says.Quiet
-    reads-on : ReadsOn t (o .reader) (o .work) (M.Number n) (numberAfter a (M.Number n) d b) (p + 1)
+    reads-on : ReadsOn t (o .reader) (o .work) (M.Number n) (counted bounded n (numberBefore a d) b) (p + 1)
 
   next-pos : p < longest → bump (r .progress .pos) ≡ p + 1
   next-pos l = bump-below (r .progress .pos) (omega (arith, i .pos)) ∙ ap (λ (k : ℕ). k + 1) (i .pos)
@@ -104,8 +104,8 @@ module _ (t : Table) (r : Reader) (w : List ℕ) (m : Mode) (d : Decimal) (p b :
 -- ---- all bytes
 
 -- the counts x are those of a reading that may end
-data Tells (x : Decimal) : Read → Type 0 where
-  tells : {k : NumberMode} → T (mayEnd k) → Tells x (reads k x)
+data CountsOf (x : Decimal) : Read → Type 0 where
+  counts-of : {k : NumberMode} → T (mayEnd k) → CountsOf x (reads k x)
 
 -- where the first byte gives no verdict, the reader is that of the rest
 rest-fed : (t : Table) (r : Reader) (w : List ℕ) (b : ℕ) (s : List ℕ) → byteFed r t w b .answer ≡ Says.Quiet
@@ -116,8 +116,8 @@ rest-fed t r w b s e =
 
 more-fed : (t : Table) {n : NumberMode} {ds : List ℕ} → NumberFrom n ds → (r : Reader) (w : List ℕ) (d : Decimal) (p : ℕ)
     → ReadsOn t r w (M.Number n) d p → p + length ds ≤ longest
-    → Tells (feedOf r t w ds .reader .progress .number) (fold (readByte bounded) (reads n d) ds)
-more-fed t (ends-here h) r w d p i l = rw (fed-none r t w .0, i .number) (tells h)
+    → CountsOf (feedOf r t w ds .reader .progress .number) (fold (readByte bounded) (reads n d) ds)
+more-fed t (ends-here h) r w d p i l = rw (fed-none r t w .0, i .number) (counts-of h)
 more-fed t (goes-on {n} {m} {b} {ds} g rest) r w d p i l =
     let q : numberMove n b ≡ NM.Go m = move-of-goes g in
     let step : stepAt r w b ≡ stepTo (M.Number m) A.NumberByte = rw (i .mode, q) in
@@ -140,7 +140,7 @@ first-other starts-zero = refl
 first-other (starts-int {b} h) = let l = low-of-within 0x31 0x39 b h in ne-eqb b 0x1E (λ e. omega arith)
 
 all-fed : (t : Table) {ds : List ℕ} → Begun ds → (r : Reader) (w : List ℕ) (d : Decimal) (p : ℕ) → ReadsOn t r w (M.At P.Value) d p → p + length ds ≤ longest
-    → Tells (feedOf r t w ds .reader .progress .number) (fold (readByte bounded) unread ds)
+    → CountsOf (feedOf r t w ds .reader .progress .number) (fold (readByte bounded) unread ds)
 all-fed t (begun {b} {n} {ds} z rest) r w d p i l =
     let step : stepAt r w b ≡ stepTo (M.Number n) A.NumberStart = rw (i .mode) (number-start-step z) in
     let f = fed-number t r w (M.At P.Value) d p b i n first-byte (omega arith) (first-other z) step in
@@ -157,8 +157,8 @@ kind-iff d = go (isWhole d)
     go true = (λ e. tt, λ h. refl)
     go false = (λ e. let z : _≡_ {A = ℕ} 0 1 = cc in absurd (omega arith), λ h. absurd h)
 
-tells-iff : {x : Decimal} {q : Read} → Tells x q → (numberKind x ≡ K.Int) ↔ T (readsWhole q)
-tells-iff {x} (tells {k} h) = rw (true-of-T (mayEnd k) h) (kind-iff x)
+kind-iff-read : {x : Decimal} {q : Read} → CountsOf x q → (numberKind x ≡ K.Int) ↔ T (readsWhole q)
+kind-iff-read {x} (counts-of {k} h) = rw (true-of-T (mayEnd k) h) (kind-iff x)
 
 -- a call that says nothing of an empty piece is let in
 open-of-quiet : (r : Reader) (t : Table) (w : List ℕ) → feedOf r t w [] .answer ≡ Says.Quiet → gateOf r t w ≡ Is.Open
@@ -182,6 +182,6 @@ kind-of-number r t w ds a n l =
       number = refl;
       pos = refl;
     } in
-    let x = tells-iff (all-fed t (from-of-number n) r w (r .progress .number) (r .progress .pos) i l) in
+    let x = kind-iff-read (all-fed t (from-of-number n) r w (r .progress .number) (r .progress .pos) i l) in
     let y = whole-iff-bounded ds (omega arith) in
     (λ e. y .1 (x .0 e), λ h. x .1 (y .0 h))

@@ -33,7 +33,7 @@ ends-more (ends q r l h e) = ends q r l h (rw (add-one, pow-succ', ← e) (omega
 ends-anew : (m r : ℕ) → 0 < r → r < 10 → Ends (10 * m + r) 0 true
 ends-anew m r l h = ends m r l h (rw pow-zero (mul-one (10 * m + r)))
 
--- the counts follow a digit before or behind the point
+-- the counts follow a digit before or after the point
 pub ends-digit : (b m : ℕ) (d : Decimal) → T (isDigit b) → Ends m (d .zeros) (d .nonzero)
     → Ends (10 * m + (b - 0x30)) (withDigit unbounded d b .zeros) (withDigit unbounded d b .nonzero)
 unfolding withDigit isDigit

@@ -17,7 +17,7 @@ use Rattle.json.specs.Numbers.{no-exp, exp}
 use Rattle.json.specs.Lexer.{orExp, afterMinus, afterZero, afterInt, afterFrac, afterE, afterExp, digitOnly}
 use Rattle.whole.specs.Count.{withDigit, enough, isWhole, unbounded}
 use Rattle.whole.specs.Read.{unread, begins, readByte, readsWhole}
-use Rattle.whole.specs.Whole.{shownBehind, shown, Whole, whole}
+use Rattle.whole.specs.Whole.{shownAfter, shown, Whole, whole}
 use Rattle.whole.specs.Examples.{Row, is-whole, not-whole, rows}
 use Rattle.whole.proofs.EndLaws.{Ends, ends, divides-of-ends, ends-of-divides}
 use Rattle.whole.proofs.ReadLaws.{whole-of-read, read-of-whole, value-of-whole}
@@ -63,15 +63,15 @@ unfolding isDigit within
 digits-zeros zero = no-digits
 digits-zeros (suc k) = digits tt (digits-zeros k)
 
--- zeros behind digits that show v
-shown-zeros : (v k : ℕ) → shownBehind v (replicate k 0x30) ≡ v * 10 ^ k
-unfolding shownBehind
+-- zeros after digits that show v
+shown-zeros : (v k : ℕ) → shownAfter v (replicate k 0x30) ≡ v * 10 ^ k
+unfolding shownAfter
 shown-zeros v zero = rw pow-zero (omega arith)
 shown-zeros v (suc k) = shown-zeros (10 * v + 0) k ∙ rw pow-succ' (omega arith)
 
 -- 1 and k zeros, with an exponent below 0, are whole exactly where the exponent's size is at most k
 pub whole-one-zeros : (k : ℕ) {s : List ℕ} → SomeDigits s → Whole (0x31 ∷ (replicate k 0x30 ++ (0x65 ∷ 0x2D ∷ s))) ↔ (shown s ≤ k)
-unfolding isDigit1-9 isE within shownBehind
+unfolding isDigit1-9 isE within shownAfter
 whole-one-zeros k {s} d = (
   λ w.
       let l = ends-of-divides (0 + shown s) one (value-of-whole no-minus (int tt (digits-zeros k)) no-frac (exp tt minus-sign d) w) in
@@ -79,12 +79,12 @@ whole-one-zeros k {s} d = (
   λ h. whole no-minus (int tt (digits-zeros k)) no-frac (exp tt minus-sign d) (divides-of-ends (0 + shown s) one (omega arith)),
 )
   where
-    one : Ends (shownBehind 1 (replicate k 0x30 ++ [])) k true
+    one : Ends (shownAfter 1 (replicate k 0x30 ++ [])) k true
     one = ends 0 1 (omega arith) (omega arith) (sym (rw append-nil (shown-zeros 1 k)))
 
 -- 1, the point and k + 1 zeros are whole
 pub whole-one-places : (k : ℕ) → Whole (0x31 ∷ 0x2E ∷ replicate (suc k) 0x30)
-unfolding isDigit isDigit1-9 within shownBehind
+unfolding isDigit isDigit1-9 within shownAfter
 whole-one-places k =
     rw (← append-nil {A = ℕ} (replicate k 0x30))
     (whole no-minus (int tt no-digits) (frac (some-digits {d = 0x30} tt (digits-zeros k))) no-exp (inr (divides-of-ends _ ten few)))
@@ -92,5 +92,5 @@ whole-one-places k =
     few : suc (length (replicate {A = ℕ} k 0x30)) - 0 ≤ suc k
     few = omega (arith, length-replicate {A = ℕ} k 0x30)
 
-    ten : Ends (shownBehind 10 (replicate k 0x30)) (suc k) true
+    ten : Ends (shownAfter 10 (replicate k 0x30)) (suc k) true
     ten = ends 0 1 (omega arith) (omega arith) (rw pow-succ' (omega (arith, shown-zeros 10 k)))

@@ -88,7 +88,7 @@ kept-digit b {i} k h =
       few-places = omega arith;
     })
 
--- a digit behind the point: the place is counted besides. The digit itself has counted byte i
+-- a digit after the point: the place is counted besides. The digit itself has counted byte i
 kept-place : {x y : Decimal} {i : ℕ} → Kept x y (i + 1) → x .places ≤ i → i < 16777216 → Kept (withPlace unbounded x) (withPlace bounded y) (i + 1)
 kept-place k l h =
     record {

@@ -1,5 +1,6 @@
 pub mod CountLaws
 pub mod KeptLaws
+pub mod LimitLaws
 pub mod RunLaws
 pub mod PowerLaws
 pub mod EndLaws

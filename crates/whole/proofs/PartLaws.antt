@@ -23,11 +23,11 @@ use Rattle.whole.specs.declared.Decimal.{Decimal}
 use Rattle.whole.specs.Fresh.{fresh}
 use Rattle.whole.specs.Count.{unbounded, counted}
 use Rattle.whole.specs.Read.{Read, unread, reads, begins, goesOn, readByte}
-use Rattle.whole.specs.Whole.{shownBehind, shown, digitsOf, Exponent, exponentOf}
+use Rattle.whole.specs.Whole.{shownAfter, shown, digitsOf, Exponent, exponentOf}
 use Rattle.whole.proofs.KeptLaws.{rest-of-digit}
 use Rattle.whole.proofs.EndLaws.{Ends, all-zero, ends-digit, sized}
 
--- the counts of digits that show m, with f of them behind the point, and of an exponent of sign g and size e
+-- the counts of digits that show m, with f of them after the point, and of an exponent of sign g and size e
 pub record Counts (m f : ℕ) (g : Bool) (e : ℕ) (d : Decimal) : Type 0 where
   pub ended : Ends m (d .zeros) (d .nonzero)
   pub places : d .places ≡ f
@@ -58,7 +58,7 @@ module _ {m f e : ℕ} {g : Bool} (b : ℕ) where
         exponent = k .exponent ∙ c .exponent;
       }
 
-  -- after a digit behind it
+  -- after a digit after it
   place-counts : T (isDigit b) → (d : Decimal) → Counts m f g e d → Counts (10 * m + (b - 0x30)) (f + 1) g e (counted unbounded N.Frac d b)
   place-counts h d c =
       let x = digit-counts h d c in
@@ -82,15 +82,15 @@ module _ {m f e : ℕ} {g : Bool} (b : ℕ) where
 
 -- digits before the point
 read-int : {r : Read} {m f e : ℕ} {g : Bool} {s : List ℕ} → Digits s → Reaches r N.Int m f g e
-    → Reaches (fold (readByte unbounded) r s) N.Int (shownBehind m s) f g e
-unfolding shownBehind
+    → Reaches (fold (readByte unbounded) r s) N.Int (shownAfter m s) f g e
+unfolding shownAfter
 read-int no-digits x = x
 read-int (digits {d} h t) x = read-int t (stepped (int-digit h) (digit-counts d h) x)
 
--- digits behind it
+-- digits after it
 read-places : {r : Read} {m f e : ℕ} {g : Bool} {s : List ℕ} → Digits s → Reaches r N.Frac m f g e
-    → Reaches (fold (readByte unbounded) r s) N.Frac (shownBehind m s) (f + length s) g e
-unfolding shownBehind
+    → Reaches (fold (readByte unbounded) r s) N.Frac (shownAfter m s) (f + length s) g e
+unfolding shownAfter
 read-places {f} no-digits x = rw (add-zero f) x
 read-places {f} (digits {d} {s} h t) x =
     let q : f + suc (length s) ≡ f + 1 + length s = omega arith in
@@ -98,8 +98,8 @@ read-places {f} (digits {d} {s} h t) x =
 
 -- digits of the exponent
 read-size : {r : Read} {m f e : ℕ} {g : Bool} {s : List ℕ} → Digits s → Reaches r N.Exp m f g e
-    → Reaches (fold (readByte unbounded) r s) N.Exp m f g (shownBehind e s)
-unfolding shownBehind
+    → Reaches (fold (readByte unbounded) r s) N.Exp m f g (shownAfter e s)
+unfolding shownAfter
 read-size no-digits x = x
 read-size (digits {d} h t) x = read-size t (stepped (exp-digit h) (exponent-counts d) x)
 
@@ -128,7 +128,7 @@ data ReadInt (r : Read) (m : ℕ) : Type 0 where
 
 -- what is read before the exponent
 data ReadFrac (r : Read) (m f : ℕ) : Type 0 where
-  read-behind : {n : NumberMode} → BeforeExp n → Reaches r n m f false 0 → ReadFrac r m f
+  read-after : {n : NumberMode} → BeforeExp n → Reaches r n m f false 0 → ReadFrac r m f
 
 -- what is read of a number
 pub data ReadAll (r : Read) (m f : ℕ) : Exponent → Type 0 where
@@ -162,33 +162,33 @@ first-digit b h =
 
 -- the minus and the digits before the point
 int-read : {m i : List ℕ} → Minus m → Int i → ReadInt (fold (readByte unbounded) unread (m ++ i)) (shown i)
-unfolding shownBehind isDigit within
+unfolding shownAfter isDigit within
 int-read no-minus zero = read-before before-zero first-zero
 int-read no-minus (int {d} h t) = read-before before-int (read-int t (first-digit d h))
 int-read minus zero = read-before before-zero (stepped minus-zero (digit-counts 0x30 tt) first-minus)
 int-read minus (int {d} h t) =
     read-before before-int (read-int t (stepped (minus-int h) (digit-counts d (digit-of-digit1-9 d h)) first-minus))
 
--- the point and the digits behind it
+-- the point and the digits after it
 frac-read : {r : Read} {m : ℕ} {f : List ℕ} (x : Frac f) → ReadInt r m
-    → ReadFrac (fold (readByte unbounded) r f) (shownBehind m (digitsOf x)) (length (digitsOf x))
-unfolding shownBehind
-frac-read no-frac (read-before k x) = read-behind (k .no-dot) x
+    → ReadFrac (fold (readByte unbounded) r f) (shownAfter m (digitsOf x)) (length (digitsOf x))
+unfolding shownAfter
+frac-read no-frac (read-before k x) = read-after (k .no-dot) x
 frac-read (frac (some-digits {d} {s} h t)) (read-before k x) =
     let q : suc (length s) ≡ 0 + 1 + length s = omega arith in
-    read-behind (record { ends-here = tt; to-e = frac-e })
+    read-after (record { ends-here = tt; to-e = frac-e })
     (rw q (read-places t (stepped (dot-digit h) (place-counts d h) (stepped (k .to-dot) (λ _ c. c) x))))
 
 -- the exponent
 exp-read : {r : Read} {m f : ℕ} {e : List ℕ} (y : Exp e) → ReadFrac r m f → ReadAll (fold (readByte unbounded) r e) m f (exponentOf y)
-unfolding shownBehind
-exp-read no-exp (read-behind k x) = read-all (k .ends-here) x
-exp-read (exp h no-sign (some-digits {d} p t)) (read-behind k x) =
+unfolding shownAfter
+exp-read no-exp (read-after k x) = read-all (k .ends-here) x
+exp-read (exp h no-sign (some-digits {d} p t)) (read-after k x) =
     read-all tt (read-size t (stepped (e-digit p) (exponent-counts d) (stepped (k .to-e h) (λ _ c. c) x)))
-exp-read (exp h plus-sign (some-digits {d} p t)) (read-behind k x) =
+exp-read (exp h plus-sign (some-digits {d} p t)) (read-after k x) =
     read-all tt
     (read-size t (stepped (sign-digit p) (exponent-counts d) (stepped e-plus (sign-counts 0x2B) (stepped (k .to-e h) (λ _ c. c) x))))
-exp-read (exp h minus-sign (some-digits {d} p t)) (read-behind k x) =
+exp-read (exp h minus-sign (some-digits {d} p t)) (read-after k x) =
     read-all tt
     (read-size t (stepped (sign-digit p) (exponent-counts d) (stepped e-minus (sign-counts 0x2D) (stepped (k .to-e h) (λ _ c. c) x))))
 
@@ -199,9 +199,9 @@ fold-append : {A : Type 0} (f : A → ℕ → A) (a : A) (s t : List ℕ) → fo
 fold-append f a [] t = refl
 fold-append f a (c ∷ s) t = fold-append f (f a c) s t
 
--- digits that show a number behind others
-shown-append : (v : ℕ) (s t : List ℕ) → shownBehind v (s ++ t) ≡ shownBehind (shownBehind v s) t
-unfolding shownBehind
+-- digits that show a number after others
+shown-append : (v : ℕ) (s t : List ℕ) → shownAfter v (s ++ t) ≡ shownAfter (shownAfter v s) t
+unfolding shownAfter
 shown-append v [] t = refl
 shown-append v (d ∷ s) t = shown-append (10 * v + (d - 0x30)) s t
 

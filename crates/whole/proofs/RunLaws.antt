@@ -155,7 +155,7 @@ run-counted d r s from to at g q = q ∙ go (eqb at from) refl
         ∙ ap (λ (i : ℕ). countedFrom bounded N.Int (cleared d) s i l) next
         ∙ zeros-counted l (cleared d) s at (λ j a b. g .tail .zeros j a (omega (arith, high)))))
 
--- ---- digits behind the point
+-- ---- digits after the point
 
 place-digit : (d : Decimal) (b : ℕ) → withDigit bounded (withPlace bounded d) b ≡ withPlace bounded (withDigit bounded d b)
 unfolding withDigit

@@ -1,4 +1,4 @@
--- `WholeValue` says that the value is a whole number. Digits that show m, the last f of them behind the point, have with the exponent +e the value
+-- `WholeValue` says that the value is a whole number. Digits that show m, the last f of them after the point, have with the exponent +e the value
 -- m * 10 ^ e over 10 ^ f, and with the exponent -e the value m over 10 ^ f * 10 ^ e. Both are stated without a quotient: `whole-value-iff`.
 -- Assumes nothing.
 use mathlib.Core.Logic.{_⊎_, inl, inr, ⊎-elim, _↔_}

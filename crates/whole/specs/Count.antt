@@ -1,4 +1,4 @@
--- What is kept of a number while its bytes pass: the zeros at the end of its digits, the digits behind the point, the exponent. It is counted without
+-- What is kept of a number while its bytes pass: the zeros at the end of its digits, the digits after the point, the exponent. It is counted without
 -- bound and, as a reader does, with bounds. Derived: `whole-iff-read` of `ReadLaws` joins the counts without bound to `Whole`, and `test-of-kept` of
 -- `KeptLaws` the bounded ones to them. Assumes nothing.
 use mathlib.Core.Bool.{Bool, true, not, cond, _||_}
@@ -33,14 +33,14 @@ bounded = record { more = bump; longer = longerUpTo }
 -- ---- one byte
 
 module _ (c : Counting) where
-  -- a digit before or behind the point
+  -- a digit before or after the point
   unfoldable pub withDigit : Decimal → ℕ → Decimal
   withDigit d b =
       cond (eqb b 0x30)
       (record { zeros = c .more (d .zeros); places = d .places; exponent = d .exponent; negative = d .negative; nonzero = d .nonzero })
       (record { zeros = 0; places = d .places; exponent = d .exponent; negative = d .negative; nonzero = true })
 
-  -- the digit stands behind the point
+  -- the digit stands after the point
   abbrev pub withPlace : Decimal → Decimal
   withPlace d = record { zeros = d .zeros; places = c .more (d .places); exponent = d .exponent; negative = d .negative; nonzero = d .nonzero }
 
@@ -68,7 +68,7 @@ module _ (c : Counting) where
 
 -- ---- the test
 
--- the digits behind the point are at most the zeros at the end and the exponent together
+-- the digits after the point are at most the zeros at the end and the exponent together
 unfoldable pub enough : Bool → ℕ → ℕ → ℕ → Bool
 enough negative places zeros exponent = cond negative (leb (places + exponent) zeros) (leb places (zeros + exponent))
 

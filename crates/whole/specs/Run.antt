@@ -31,13 +31,13 @@ pub record ZerosFrom (s : List ℕ) (from to at : ℕ) : Type 0 where
   pub tail : ZerosTo s from to at
   pub before : from < at → getD s (at - 1) 0 ≡ 0x30 → ⊥
 
--- the digits from one place to another, with zeros only from a third on: all are zeros, or the zeros behind the last other digit count
+-- the digits from one place to another, with zeros only from a third on: all are zeros, or the zeros after the last other digit count
 unfoldable pub withRun : Decimal → ℕ → ℕ → ℕ → Decimal
 withRun d from to at =
     cond (eqb at from)
     (record { zeros = moreBy (d .zeros) (to - from); places = d .places; exponent = d .exponent; negative = d .negative; nonzero = d .nonzero })
     (record { zeros = moreBy 0 (to - at); places = d .places; exponent = d .exponent; negative = d .negative; nonzero = true })
 
--- k digits stand behind the point
+-- k digits stand after the point
 abbrev pub withPlaces : Decimal → ℕ → Decimal
 withPlaces d k = record { zeros = d .zeros; places = moreBy (d .places) k; exponent = d .exponent; negative = d .negative; nonzero = d .nonzero }

@@ -10,15 +10,15 @@ use Rattle.json.specs.Numbers.{Minus, Int, Frac, no-frac, frac, Sign, no-sign, 
 pub data Divides (k m : ℕ) : Type 0 where
   divides : (n : ℕ) → n * k ≡ m → Divides k m
 
--- the number that digits show in base ten, behind digits that show v
-unfoldable pub shownBehind : ℕ → List ℕ → ℕ
-shownBehind v [] = v
-shownBehind v (d ∷ ds) = shownBehind (10 * v + (d - 0x30)) ds
+-- the number that digits show in base ten, after digits that show v
+unfoldable pub shownAfter : ℕ → List ℕ → ℕ
+shownAfter v [] = v
+shownAfter v (d ∷ ds) = shownAfter (10 * v + (d - 0x30)) ds
 
 abbrev pub shown : List ℕ → ℕ
-shown ds = shownBehind 0 ds
+shown ds = shownAfter 0 ds
 
--- the digits behind the point
+-- the digits after the point
 abbrev pub digitsOf : {f : List ℕ} → Frac f → List ℕ
 digitsOf no-frac = []
 digitsOf (frac {s} d) = s
@@ -36,7 +36,7 @@ abbrev pub exponentOf : {e : List ℕ} → Exp e → Exponent
 exponentOf no-exp = plus 0
 exponentOf (exp {s} h x d) = signed x (shown s)
 
--- all digits are read as one number m, the last f of them stand behind the point, and the exponent is e: the value is whole where f is at most e or
+-- all digits are read as one number m, the last f of them stand after the point, and the exponent is e: the value is whole where f is at most e or
 -- 10 to the power f - e divides m. For an exponent below 0 that power is f and the size of the exponent together
 abbrev pub WholeValue : ℕ → ℕ → Exponent → Type 0
 WholeValue m f (plus e) = (f ≤ e) ⊎ Divides (10 ^ (f - e)) m

@@ -6,13 +6,13 @@ ghost use Rattle.laws.specs.Count.{bump};
 ghost use Rattle.whole.specs.Count.{longerUpTo, bounded, withDigit, withPlace, withExponent, counted, enough, isWhole};
 use json::number::NumberMode;
 
-pub mod run; // run.rt: bytes that stand one behind the other, counted at once
+pub mod run; // run.rt: bytes that stand one after the other, counted at once
 
 // What is known of the open number.
 pub struct Decimal {
-    // the zeros at the end of the digits so far, those before the point and those behind it
+    // the zeros at the end of the digits so far, those before the point and those after it
     pub zeros: u32,
-    // the digits behind the point
+    // the digits after the point
     pub places: u32,
     // the size of the exponent; one above 16,777,216 says only that the exponent is as large or larger
     pub exponent: u32,
@@ -57,7 +57,7 @@ fn longer(e: u32, b: u8) -> u32
     e
 }
 
-// A digit before or behind the point.
+// A digit before or after the point.
 fn with_digit(d: Decimal, b: u8) -> Decimal
     ensures { λ r. ⌜ r ≡ withDigit bounded d b ⌝ }
 {
@@ -79,7 +79,7 @@ fn with_digit(d: Decimal, b: u8) -> Decimal
     }
 }
 
-// The digit stands behind the point.
+// The digit stands after the point.
 fn with_place(d: Decimal) -> Decimal
     ensures { λ r. ⌜ r ≡ withPlace bounded d ⌝ }
 {
@@ -118,7 +118,7 @@ fn with_sign(d: Decimal, b: u8) -> Decimal
     }
 }
 
-// Byte b leads to a mode of the number. Ruled out: a zero before the point that is not counted, and a digit behind it that is counted once only.
+// Byte b leads to a mode of the number. Ruled out: zeros before the point that are not counted, and a digit after the point that is no place.
 pub fn counted(n: NumberMode, d: Decimal, b: u8) -> Decimal
     ensures { λ r. ⌜ r ≡ counted bounded n d b ⌝ }
 {
@@ -134,7 +134,7 @@ pub fn counted(n: NumberMode, d: Decimal, b: u8) -> Decimal
     }
 }
 
-// The digits behind the point are at most the zeros at the end and the exponent together.
+// The digits after the point are at most the zeros at the end and the exponent together.
 fn enough(negative: bool, places: u64, zeros: u64, exponent: u64) -> bool
     requires { ⌜ (places ≤ 4294967295) × (zeros ≤ 4294967295) × (exponent ≤ 4294967295) ⌝ }
     ensures { λ r. ⌜ r ≡ enough negative places zeros exponent ⌝ }
@@ -145,7 +145,7 @@ fn enough(negative: bool, places: u64, zeros: u64, exponent: u64) -> bool
     places <= zeros + exponent
 }
 
-// The value is whole. Ruled out: a zero that is refused for an exponent below 0, and a negative exponent that is taken as a positive one.
+// The value is whole. Ruled out: a zero that is refused for an exponent below 0, and an exponent whose sign is ignored.
 pub fn is_whole(d: Decimal) -> bool
     ensures { λ r. ⌜ r ≡ isWhole d ⌝ }
 {

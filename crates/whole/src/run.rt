@@ -1,4 +1,4 @@
-// Bytes of a number that stand one behind the other in a piece and lead to one mode, counted at once.
+// Bytes of a number that stand one after the other in a piece and lead to one mode, counted at once.
 ghost use mathlib.Core.Path.{_≡_};
 ghost use Prim.Native.Nat.{_-_, _≤_};
 ghost use lib.ListN.{length};
@@ -9,7 +9,7 @@ use super::longer;
 use super::with_sign;
 use json::number::NumberMode;
 
-// The place behind which only zeros stand up to another, found from the end.
+// The place from which on only zeros stand up to another, found from the end.
 fn zeros_from(s: &[u8], from: usize, to: usize) -> usize
     requires { ⌜ (from ≤ to) × (to ≤ length (now s)) ⌝ }
     ensures { λ r. ⌜ ZerosFrom (now (s .entry)) from to r ⌝ }
@@ -57,7 +57,7 @@ fn with_run(d: Decimal, from: usize, to: usize, at: usize) -> Decimal
     }
 }
 
-// Digits before the point, or behind it but for their places.
+// Digits before the point, or after it but for their places.
 fn digits_over(d: Decimal, s: &[u8], from: usize, to: usize) -> Decimal
     requires { ⌜ (from ≤ to) × (to ≤ length (now s)) ⌝ }
     ensures { λ r. ⌜ r ≡ countedFrom bounded NumberMode.Int d (now (s .entry)) from (to - from) ⌝ }
@@ -65,7 +65,7 @@ fn digits_over(d: Decimal, s: &[u8], from: usize, to: usize) -> Decimal
     with_run(d, from, to, zeros_from(s, from, to))
 }
 
-// So many digits stand behind the point.
+// So many digits stand after the point.
 fn with_places(d: Decimal, k: usize) -> Decimal
     ensures { λ r. ⌜ r ≡ withPlaces d k ⌝ }
 {
@@ -78,7 +78,7 @@ fn with_places(d: Decimal, k: usize) -> Decimal
     }
 }
 
-// Digits behind the point.
+// Digits after the point.
 fn places_over(d: Decimal, s: &[u8], from: usize, to: usize) -> Decimal
     requires { ⌜ (from ≤ to) × (to ≤ length (now s)) ⌝ }
     ensures { λ r. ⌜ r ≡ countedFrom bounded NumberMode.Frac d (now (s .entry)) from (to - from) ⌝ }
@@ -125,7 +125,7 @@ fn sign_over(d: Decimal, s: &[u8], from: usize, to: usize) -> Decimal
     d
 }
 
-// The bytes from one place to another, each of which leads to mode n. Ruled out: a run of zeros that drops those before it, and digits behind the
+// The bytes from one place to another, each of which leads to mode n. Ruled out: a run of zeros that drops those before it, and digits after the
 // point that are no places.
 pub fn over(n: NumberMode, d: Decimal, s: &[u8], from: usize, to: usize) -> Decimal
     requires { ⌜ (from ≤ to) × (to ≤ length (now s)) ⌝ }

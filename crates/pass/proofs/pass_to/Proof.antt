@@ -55,14 +55,9 @@ returns-3 c =
     (k .before .before .enum-told .given .1) (l .before .loop .inv) (k .before .stay-end .ensures) (k .registers-over .ensures)
     _ (c .before .before .before .step-at .ensures) _ (c .passed-at2 .ensures)
 
-since-after-requires : tie.Need-since-after-requires Inv-loop μ-loop
-since-after-requires c κs =
-    let k = c .before .before .before .before .before .before .before in
-    search (needs, k .stay-end .ensures .high, k .before .before .before .before .before .before .before .fits)
-
 add-i : tie.Need-add-i Inv-loop μ-loop
 add-i c =
-    let k = c .before .before .before .before .before .before .before .before in
+    let k = c .before .before .before .before .before .before .before in
     search (needs, k .stay-end .ensures .high, k .before .before .before .before .before .before .before .fits)
 
 loop-less : tie.Need-loop-less Inv-loop μ-loop
@@ -70,17 +65,17 @@ loop-less c = search needs
 
 loop-again : tie.Need-loop-again Inv-loop μ-loop
 loop-again c =
-    let k = c .before .before .before .before .before .before .before in
+    let k = c .before .before .before .before .before .before in
     let l = k .before .before .before .before in
     let w = l .before .before .before .before in
     passed-on _ _ _ _ _ (w .pre .1) (w .pre .2) (w .pre .3) _ _ _ _ _ _ _ (l .part-of .ensures)
     (k .before .before .enum-told .given .1) (l .before .loop .inv) (k .before .stay-end .ensures) (k .registers-over .ensures)
-    _ (c .before .before .before .before .step-at .ensures) _ _ _ (c .before .before .before .before .before .before .if1 .left)
-    (c .before .before .before .passes .ensures) (c .before .before .if2 .taken) (c .before .registers-after .ensures) (c .since-after .ensures)
+    _ (c .before .before .before .step-at .ensures) _ _ (c .before .before .before .before .before .if1 .left)
+    (c .before .before .passes .ensures) (c .before .if2 .taken) (c .registers-after .ensures)
 
 pub pass-to-spec : {M : Type 1} → statement M
 pass-to-spec =
     tie.close
     (tie.spec Inv-loop μ-loop (λ c κs. search needs) loop-holds (λ c κs. search needs) (λ c. search needs) number-to-requires returns (λ c. search needs)
     stay-end-requires (λ c κs. search needs) (λ c κs. search needs) passed-at-requires returns-2 shared-slice-read-b step-at-requires
-    (λ c κs. search needs) passed-at-requires-2 returns-3 (λ c κs. search needs) since-after-requires add-i loop-less loop-again)
+    (λ c κs. search needs) passed-at-requires-2 returns-3 (λ c κs. search needs) add-i loop-less loop-again)

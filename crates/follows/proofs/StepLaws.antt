@@ -55,7 +55,7 @@ use Rattle.verdict.proofs.TrackLaws.{trackByte-short, trackByte-long}
 use Rattle.progress.specs.declared.Fault.the-variants as F
 use Rattle.progress.specs.declared.Progress.{Progress}
 use Rattle.progress.specs.declared.Advanced.{Advanced}
-use Rattle.progress.specs.Act.{openFault, openLevel, keyLen, keyTask, keptIn, numberTo}
+use Rattle.progress.specs.Act.{openFault, openLevel, keyLen, keyTask, keptIn, numberBefore, numberTo}
 use Rattle.laws.specs.Count.{bump}
 use Rattle.progress.specs.Progress.{advance, advanced, faulted, moved, sound as sounding, bitsIn, highIn, acted}
 use Rattle.progress.specs.declared.Task.the-variants as To
@@ -159,7 +159,7 @@ module _ {t : Table} {es : List Entry} (kept : Carries t es) (plain : PlainKeys 
         number = y;
       }
 
-  step-pass : (m m′ : Mode) → Known m → ShowsRoot es m′ root k → ShowsText m′ key len (g .string) → ShowsNumber m′ (numberTo m′ d b) (g .number) (suc i)
+  step-pass : (m m′ : Mode) → Known m → ShowsRoot es m′ root k → ShowsText m′ key len (g .string) → ShowsNumber m′ (numberTo m′ (numberBefore m m′ d) b) (g .number) (suc i)
       → Tracked m (stepTo m′ A.Pass)
   step-pass m m′ s r x y p =
       step-stays m m′ (gather (judging es) m g b) s refl refl (s .key-long) p r (rw (string-gather es g b m) x) (rw (number-gather es g b m) y)
@@ -238,7 +238,7 @@ module _ {t : Table} {es : List Entry} (kept : Carries t es) (plain : PlainKeys 
       g′ = withString (judging es) (gather (judging es) (M.Key x) g b) (g .string ++ (c ∷ []))
 
       go : (v : Bool) → ltb len 32 ≡ v → (u : Bool) → ltb c 128 ≡ u
-          → Tracks es n (perform (keyTask len c) t (mem (lexer (M.Key x)) root key w) (moved (lexer (M.Key x)) A.KeyChar b (M.Key S.Char) (depth (judging es) k) (keyLen len c)))
+          → Tracks es n (perform (keyTask len c) t (mem (lexer (M.Key x)) root key w) (moved (lexer (M.Key x)) b (M.Key S.Char) (depth (judging es) k) (keyLen len c)))
           (trackTo es n (at (M.Key S.Char) g′ k) i)
       go true e true f =
           rw (e, f, e)
@@ -313,8 +313,9 @@ module _ {t : Table} {es : List Entry} (kept : Carries t es) (plain : PlainKeys 
 
   -- ---- mode by mode
 
-  step-valueStart : (m : Mode) → Known m → NoRoot es root k → Tracked m (valueStart b)
-  step-valueStart m s r =
+  step-valueStart : (p : Awaited) → Known (M.At p) → NoRoot es root k → Tracked (M.At p) (valueStart b)
+  step-valueStart p s r =
+      let m : Mode = M.At p in
       valueStart-elim (Tracked m) b (step-fault m (M.At P.Value) false) (λ _. step-text m [] s r) (step-openArray m s r) (step-openObject m s r)
       (λ x y _. step-number m x (counted bounded x fresh b) (begins unbounded b) s r (kept-begun x b i y h)) (λ x. step-pass m (M.Word x 1) s r tt tt)
 
@@ -322,14 +323,14 @@ module _ {t : Table} {es : List Entry} (kept : Carries t es) (plain : PlainKeys 
   unfolding atValue
   step-value s =
       cond-elim (Tracked (M.At P.Value)) (isBlank b) (λ _. step-pass (M.At P.Value) (M.At P.Value) s (s .root-shown) tt tt)
-      (λ _. step-valueStart (M.At P.Value) s (s .root-shown))
+      (λ _. step-valueStart P.Value s (s .root-shown))
 
   step-firstElement : Known (M.At P.First) → Tracked (M.At P.First) (atFirstElement b)
   unfolding atFirstElement
   step-firstElement s =
       let r = s .root-shown in
       cond-elim (Tracked (M.At P.First)) (isBlank b) (λ _. step-pass (M.At P.First) (M.At P.First) s r tt tt)
-      (λ _. cond-elim (Tracked (M.At P.First)) (eqb b 0x5D) (λ _. step-closed P.First s r (s .proper)) (λ _. step-valueStart (M.At P.First) s r))
+      (λ _. cond-elim (Tracked (M.At P.First)) (eqb b 0x5D) (λ _. step-closed P.First s r (s .proper)) (λ _. step-valueStart P.First s r))
 
   step-first : (top : Top) → Known (M.At P.First) → Tracked (M.At P.First) (atFirst top b)
   unfolding atFirstKey

@@ -71,7 +71,7 @@ unfolding advanced sound
 advanced-acted x n b st h f p r = rw (ne-eqb b 0x1E r, h, f, lt-ltb (x .pos) 16777216 p)
 
 quiet-acted : (a : Act) (x : Progress) (n b : ℕ) (m : Mode) → isQuiet a ≡ true
-    → acted a false x n b m ≡ advance (moved x a b m (x .level) (x .len)) To.Idle
+    → acted a false x n b m ≡ advance (moved x b m (x .level) (x .len)) To.Idle
 quiet-acted A.Fault x n b m e = never e
 quiet-acted A.Pass x n b m e = refl
 quiet-acted A.OpenArray x n b m e = never e
@@ -106,7 +106,7 @@ next-run t n m k s i h r q =
 module _ (t : Table) (n : ℕ) (x : Progress) (root : Bool) (key w : List ℕ) (b : ℕ) (h : x .head ≡ false) (f : x .fault ≡ F.Sound) (p : x .pos < 16777216) where
   -- a byte with a quiet act only moves the record on
   pub quiet-step : (st : Step) → st ≡ stepOf (x .mode) (topAt w (x .level)) b → passes (st .act) (st .ends) b ≡ true
-      → mem (moved x (st .act) b (st .mode) (x .level) (x .len)) root key w ≡ stepMem t n (mem x root key w) b
+      → mem (moved x b (st .mode) (x .level) (x .len)) root key w ≡ stepMem t n (mem x root key w) b
   unfolding stepMem
   quiet-step st e q =
       let told = passes-quiet (st .act) (st .ends) b q in

@@ -68,15 +68,15 @@ unfolding keepsChars
 keeps-told x e = keeps-by (x .mode) x e
 
 key-char : (y : Progress) (t : Table) (b : ℕ) (root : Bool) (key w : List ℕ) (v : Bool) → ltb (y .len) 32 ≡ v → ltb b 128 ≡ true
-    → perform (keyTask (y .len) b) t (mem y root key w) (moved y A.KeyChar b (M.Key S.Char) (y .level) (keyLen (y .len) b))
-    ≡ mem (moved y A.KeyChar b (M.Key S.Char) (y .level) (keyLen (y .len) b)) root (keptIn key (y .len) b) w
+    → perform (keyTask (y .len) b) t (mem y root key w) (moved y b (M.Key S.Char) (y .level) (keyLen (y .len) b))
+    ≡ mem (moved y b (M.Key S.Char) (y .level) (keyLen (y .len) b)) root (keptIn key (y .len) b) w
 unfolding keyTask keptIn
 key-char y t b root key w true e l = simp (e, l)
 key-char y t b root key w false e l = simp e
 
 key-step : (t : Table) (n : ℕ) (y : Progress) (root : Bool) (key w : List ℕ) (b : ℕ) → y .mode ≡ M.Key S.Char → y .head ≡ false → y .fault ≡ F.Sound
     → y .pos < 16777216 → b < 256 → plainClass (classOf b) ≡ true
-    → stepMem t n (mem y root key w) b ≡ mem (moved y A.KeyChar b (M.Key S.Char) (y .level) (keyLen (y .len) b)) root (keptIn key (y .len) b) w
+    → stepMem t n (mem y root key w) b ≡ mem (moved y b (M.Key S.Char) (y .level) (keyLen (y .len) b)) root (keptIn key (y .len) b) w
 unfolding stepMem
 key-step t n y root key w b m h f p l e =
     ap (λ (a : Advanced). perform (a .task) t (mem y root key w) (a .progress))
@@ -84,14 +84,14 @@ key-step t n y root key w b m h f p l e =
     ∙ ap (λ (k : StringMove). advanced y n b (keyStep k)) (plain-char (classOf b) e)
     ∙ advanced-acted y n b (stepTo (M.Key S.Char) A.KeyChar) h f p (plain-other b e)
     ∙ ap (λ (k : Mode).
-    advance (moved y A.KeyChar b (M.Key S.Char) (y .level) (keyLen (y .len) (charIn k (y .bits) (y .high) b)))
+    advance (moved y b (M.Key S.Char) (y .level) (keyLen (y .len) (charIn k (y .bits) (y .high) b)))
     (keyTask (y .len) (charIn k (y .bits) (y .high) b))) m)
     ∙ key-char y t b root key w (ltb (y .len) 32) refl (plain-below b l e)
 
 -- the record after a plain character of a key
 key-place : (x : Progress) (m : Mode) (bits p len q more b : ℕ) (root : Bool) (key next w : List ℕ) → m ≡ M.Key S.Char → bump p ≡ q → leadBits b ≡ 0
     → next ≡ keptIn key len b → more ≡ keyLen len b
-    → mem (moved (placed x m (withBits x bits) p len) A.KeyChar b (M.Key S.Char) (x .level) (keyLen len b)) root (keptIn key len b) w
+    → mem (moved (placed x m (withBits x bits) p len) b (M.Key S.Char) (x .level) (keyLen len b)) root (keptIn key len b) w
     ≡ mem (placed x m (withBits x 0) q more) root next w
 key-place x m bits p len q more b root key next w e f g h k = rw (e, f, h, k, g)
 

@@ -125,13 +125,13 @@ module _ (x : Progress) (top : Top) (s : List ℕ) (o : readsOn x ≡ true) wher
       → passes (st .act) (st .ends) (getD s i 0) ≡ true
       → RunsTo x top s i
       (placed x (st .mode)
-      (settled (st .mode) (registersAfter (x .mode) (st .act) (registersOf x) (getD s i 0)) s i (i + 1)) (x .pos + 1) (x .len))
+      (settled (st .mode) (registersAfter (x .mode) (st .mode) (registersOf x) (getD s i 0)) s i (i + 1)) (x .pos + 1) (x .len))
       (i + 1)
   unfolding registersAfter
   pass-on i st l v e c =
       let told = reads-told x o in
       let b = getD s i 0 in
-      let d = numberBefore (st .act) (x .number) in
+      let d = numberBefore (x .mode) (st .mode) (x .number) in
       let y = registers (bitsIn (x .mode) (x .bits) b) (highIn (x .mode) (x .bits) (x .high) b) (numberTo (st .mode) d b) in
       rw (number-last (st .mode) d s i)
       record {
@@ -209,7 +209,7 @@ module _ (x : Progress) (top : Top) (s : List ℕ) (from end : ℕ) (o : readsOn
 
       -- the byte at j is passed over
       byte-on : (next : Registers) → (j ≡ end → ⊥) → passes (st .act) (st .ends) (getD s j 0) ≡ true
-          → next ≡ registersAfter m (st .act) more (getD s j 0) → Stands x top s from end (st .mode) next j (j + 1)
+          → next ≡ registersAfter m (st .mode) more (getD s j 0) → Stands x top s from end (st .mode) next j (j + 1)
       unfolding readsOn
       byte-on next n q f =
           let less : j < end = omega (arith, g .high) in
@@ -236,7 +236,7 @@ module _ (x : Progress) (top : Top) (s : List ℕ) (from end : ℕ) (o : readsOn
       out-at-byte y f = byte-out m c since i j more r g same st a y f
 
       pub passed-on : (next : Registers) (v : Bool) → (j ≡ end → ⊥) → v ≡ passes (st .act) (st .ends) (getD s j 0) → v ≡ true
-          → next ≡ registersAfter m (st .act) more (getD s j 0) → Stands x top s from end (st .mode) next j (j + 1)
+          → next ≡ registersAfter m (st .mode) more (getD s j 0) → Stands x top s from end (st .mode) next j (j + 1)
       passed-on next v n q y f = byte-on m c since i j more r g same st a next n (sym q ∙ y) f
 
   -- ---- the loop over the bytes of a number

@@ -58,7 +58,7 @@ record StaysAs (m : Mode) (top : Top) (b : ℕ) : Type 0 where
   pub bits : (bits : ℕ) → bitsIn m bits b ≡ bitsIn m bits 0x20
   again : (bits : ℕ) → bitsIn m (bitsIn m bits 0x20) 0x20 ≡ bitsIn m bits 0x20
   pub high : (bits high : ℕ) → highIn m bits high b ≡ high
-  number : (d : Decimal) (s : List ℕ) (i : ℕ) → getD s i 0 ≡ b → numberOver m d s i 1 ≡ numberTo m (numberBefore act d) b
+  number : (d : Decimal) (s : List ℕ) (i : ℕ) → getD s i 0 ≡ b → numberOver m d s i 1 ≡ numberTo m (numberBefore m m d) b
 
 blank-step : (p : Awaited) (top : Top) (b : ℕ) → isBlank b ≡ true → placeStep p top b ≡ stay p
 unfolding atValue atFirstElement atFirstKey atKey atColon afterRoot afterElement afterPair
@@ -219,7 +219,7 @@ module _ (t : Table) (n : ℕ) (x : Progress) (m : Mode) (high : ℕ) (len : ℕ
       let z = placed x m (registers (bitsIn m bits 0x20) high (numberOver m d s i 1)) (p + 1) len in
       next-run t n (mem y root key w) (mem z root key w) s i l (a .other)
       (rw (← a .bits bits, ← bump-below p q, a .number d s i refl)
-      (ap (λ (g : ℕ). mem (placed x m (registers (bitsIn m bits b) g (numberTo m (numberBefore (a .act) d) b)) (bump p) len) root key w) (sym (a .high bits high))
+      (ap (λ (g : ℕ). mem (placed x m (registers (bitsIn m bits b) g (numberTo m (numberBefore m m d) b)) (bump p) len) root key w) (sym (a .high bits high))
       ∙ quiet-step t n y root key w b h f q (stepTo m (a .act)) (sym (a .step)) (passes-quietly (a .act) b (a .quiet) (a .other))))
 
   pub stay-some : (k bits : ℕ) (d : Decimal) (p i : ℕ) → i + suc k ≤ length s → p + suc k ≤ 16777216

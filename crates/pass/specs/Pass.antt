@@ -140,9 +140,9 @@ settled m g s since i = registers (g .bits) (g .high) (numberOver m (g .number) 
 unfoldable pub registersOver : Bool → Mode → Registers → Registers
 registersOver some m g = registers (bitsOver some m (g .bits)) (g .high) (g .number)
 
--- after byte b with an act, but that b is still to be counted for the number
-unfoldable pub registersAfter : Mode → Act → Registers → ℕ → Registers
-registersAfter m a g b = registers (bitsIn m (g .bits) b) (highIn m (g .bits) (g .high) b) (numberBefore a (g .number))
+-- after byte b that leads from one mode to another, but that b is still to be counted for the number
+unfoldable pub registersAfter : Mode → Mode → Registers → ℕ → Registers
+registersAfter m next g b = registers (bitsIn m (g .bits) b) (highIn m (g .bits) (g .high) b) (numberBefore m next (g .number))
 
 -- a mode of a number, or another
 abbrev pub partOf : Mode → Part

@@ -231,15 +231,15 @@ fn registers_over(some: bool, m: Mode, g: Registers) -> Registers
     }
 }
 
-// The registers after byte b with an act, but that b is still to be counted for the number.
-fn registers_after(m: Mode, a: Act, g: Registers, b: u8) -> Registers
-    ensures { λ r. ⌜ r ≡ registersAfter m a g b ⌝ }
+// The registers after byte b that leads from one mode to another, but that b is still to be counted for the number.
+fn registers_after(m: Mode, next: Mode, g: Registers, b: u8) -> Registers
+    ensures { λ r. ⌜ r ≡ registersAfter m next g b ⌝ }
 {
     let d = g.number;
     Registers {
         bits: register::bits_in(m, g.bits, b),
         high: register::high_in(m, g.bits, g.high, b),
-        number: register::number_before(a, d),
+        number: register::number_before(m, next, d),
     }
 }
 
@@ -443,9 +443,9 @@ fn pass_to<'a>(
         if passes(a, st.ends, b) {} else {
             return passed_at(x, m, g, from, j, st);
         }
-        g = registers_after(m, a, g, b);
-        since = j;
         let next = st.mode;
+        g = registers_after(m, next, g, b);
+        since = j;
         m = next;
         i = j + 1;
     }

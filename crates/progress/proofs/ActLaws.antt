@@ -10,6 +10,7 @@ use lib.ListN.{length, set, length-set}
 use lib.Seq.{set-out}
 use borrow.Author.Tests.{lt-ltb, le-ltb, ltb-true}
 use Rattle.json.specs.declared.lexer.Mode.{Mode}
+use Rattle.json.specs.declared.lexer.Mode.the-variants as M
 use Rattle.json.specs.declared.lexer.Act.{Act}
 use Rattle.json.specs.declared.lexer.Act.the-variants as A
 use Rattle.whole.specs.declared.Decimal.{Decimal}
@@ -22,7 +23,7 @@ use Rattle.progress.specs.declared.Fault.the-variants as F
 use Rattle.progress.specs.declared.Progress.{Progress}
 use Rattle.progress.specs.declared.Task.{Task}
 use Rattle.progress.specs.declared.Advanced.{Advanced}
-use Rattle.progress.specs.Act.{openLevel, keyLen, keptIn, firstFault, levelAfter, lenAfter, numberBefore, numberKind, taskOf}
+use Rattle.progress.specs.Act.{openLevel, keyLen, keptIn, firstFault, levelAfter, lenAfter, numberIn, numberBefore, numberKind, taskOf}
 use Rattle.progress.specs.Progress.{advance, charIn, moved, actedBy, acted}
 
 -- ---- the parts of an act, where f is the fault that was found
@@ -34,7 +35,7 @@ module _ (a : Act) (e : Bool) (x : Progress) (n b : ℕ) (m : Mode) (f : Fault) 
 
   -- where no fault was found, the parts of the act are put together
   pub acted-of-sound : (c level len : ℕ) (next : Progress) (task : Task) → f ≡ F.Sound → c ≡ charIn (x .mode) (x .bits) (x .high) b
-      → level ≡ levelAfter a (x .level) n → len ≡ lenAfter a (x .len) c → next ≡ moved x a b m level len → task ≡ taskOf a e (x .number) (x .len) c
+      → level ≡ levelAfter a (x .level) n → len ≡ lenAfter a (x .len) c → next ≡ moved x b m level len → task ≡ taskOf a e (x .number) (x .len) c
       → advance next task ≡ acted a e x n b m
   acted-of-sound c level len next task k p q r u v = acted-of-fault F.Sound (advance next task) k (rw (v, u, r, q, p))
 
@@ -103,21 +104,19 @@ lenAfter-le A.NumberByte len c h = h
 lenAfter-le (A.WordEnd w) len c h = h
 
 -- before a byte the counts of a number are as they were, or fresh
-pub numberBefore-counts : (a : Act) {p : ℕ} {d : Decimal} → CountsWithin p d → CountsWithin p (numberBefore a d)
-numberBefore-counts A.Fault f = f
-numberBefore-counts A.Pass f = f
-numberBefore-counts A.OpenArray f = f
-numberBefore-counts A.OpenObject f = f
-numberBefore-counts A.Close f = f
-numberBefore-counts A.KeyStart f = f
-numberBefore-counts A.KeyChar f = f
-numberBefore-counts A.KeyEnd f = f
-numberBefore-counts A.TextStart f = f
-numberBefore-counts A.TextChar f = f
-numberBefore-counts A.TextEnd f = f
-numberBefore-counts A.NumberStart {p} f = counts-fresh p
-numberBefore-counts A.NumberByte f = f
-numberBefore-counts (A.WordEnd w) f = f
+numberIn-counts : (from : Mode) {p : ℕ} {d : Decimal} → CountsWithin p d → CountsWithin p (numberIn from d)
+numberIn-counts (M.At q) {p} f = counts-fresh p
+numberIn-counts (M.Key s) {p} f = counts-fresh p
+numberIn-counts (M.Text s) {p} f = counts-fresh p
+numberIn-counts (M.Number n) f = f
+numberIn-counts (M.Word w i) {p} f = counts-fresh p
+
+pub numberBefore-counts : (from m : Mode) {p : ℕ} {d : Decimal} → CountsWithin p d → CountsWithin p (numberBefore from m d)
+numberBefore-counts from (M.At q) f = f
+numberBefore-counts from (M.Key s) f = f
+numberBefore-counts from (M.Text s) f = f
+numberBefore-counts from (M.Number n) f = numberIn-counts from f
+numberBefore-counts from (M.Word w i) f = f
 
 -- ---- the characters of a key
 

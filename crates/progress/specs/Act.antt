@@ -93,22 +93,21 @@ lenAfter (A.WordEnd w) len c = len
 unfoldable pub numberKind : Decimal → Scalar
 numberKind d = cond (isWhole d) K.Int K.Num
 
--- the number before a byte with an act: one that begins is fresh
-abbrev pub numberBefore : Act → Decimal → Decimal
-numberBefore A.Fault d = d
-numberBefore A.Pass d = d
-numberBefore A.OpenArray d = d
-numberBefore A.OpenObject d = d
-numberBefore A.Close d = d
-numberBefore A.KeyStart d = d
-numberBefore A.KeyChar d = d
-numberBefore A.KeyEnd d = d
-numberBefore A.TextStart d = d
-numberBefore A.TextChar d = d
-numberBefore A.TextEnd d = d
-numberBefore A.NumberStart d = fresh
-numberBefore A.NumberByte d = d
-numberBefore (A.WordEnd w) d = d
+-- the number that a byte of a number goes on with: in another mode one begins, and is fresh
+abbrev pub numberIn : Mode → Decimal → Decimal
+numberIn (M.At p) d = fresh
+numberIn (M.Key s) d = fresh
+numberIn (M.Text s) d = fresh
+numberIn (M.Number n) d = d
+numberIn (M.Word w i) d = fresh
+
+-- the number before a byte that leads from one mode to another
+abbrev pub numberBefore : Mode → Mode → Decimal → Decimal
+numberBefore from (M.At p) d = d
+numberBefore from (M.Key s) d = d
+numberBefore from (M.Text s) d = d
+numberBefore from (M.Number n) d = numberIn from d
+numberBefore from (M.Word w i) d = d
 
 -- the number after byte b, which leads to mode m
 abbrev pub numberTo : Mode → Decimal → ℕ → Decimal

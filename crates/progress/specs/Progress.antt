@@ -60,15 +60,15 @@ charIn (M.Text s) bits high b = 0
 charIn (M.Number n) bits high b = 0
 charIn (M.Word w i) bits high b = 0
 
--- the record after byte b with an act, at mode m
-abbrev pub moved : Progress → Act → ℕ → Mode → ℕ → ℕ → Progress
-moved x a b m level len =
-    record { mode = m; fault = x .fault; head = x .head; level = level; pos = bump (x .pos); place = x .place; bits = bitsIn (x .mode) (x .bits) b; high = highIn (x .mode) (x .bits) (x .high) b; number = numberTo m (numberBefore a (x .number)) b; len = len }
+-- the record after byte b, at mode m
+abbrev pub moved : Progress → ℕ → Mode → ℕ → ℕ → Progress
+moved x b m level len =
+    record { mode = m; fault = x .fault; head = x .head; level = level; pos = bump (x .pos); place = x .place; bits = bitsIn (x .mode) (x .bits) b; high = highIn (x .mode) (x .bits) (x .high) b; number = numberTo m (numberBefore (x .mode) m (x .number)) b; len = len }
 
 -- a step of the lexer, whose act has the fault f: e tells whether it ends a number, m is the mode after it
 abbrev pub actedBy : Fault → Act → Bool → Progress → ℕ → ℕ → Mode → Advanced
 actedBy F.Sound a e x n b m =
-    advance (moved x a b m (levelAfter a (x .level) n) (lenAfter a (x .len) (charIn (x .mode) (x .bits) (x .high) b)))
+    advance (moved x b m (levelAfter a (x .level) n) (lenAfter a (x .len) (charIn (x .mode) (x .bits) (x .high) b)))
     (taskOf a e (x .number) (x .len) (charIn (x .mode) (x .bits) (x .high) b))
 actedBy F.Malformed a e x n b m = faulted x F.Malformed
 actedBy F.TooDeep a e x n b m = faulted x F.TooDeep

@@ -2,7 +2,6 @@
 ghost use mathlib.Core.Path.{_≡_};
 ghost use Rattle.progress.specs.Fresh.{freshProgress};
 ghost use Rattle.progress.specs.Progress.{counted, faulted, moved, acted, sound, advanced, judged};
-use json::lexer::Act;
 use json::lexer::Awaited;
 use json::lexer::Mode;
 use json::lexer::Step;
@@ -135,9 +134,9 @@ fn faulted(x: Progress, f: Fault) -> Advanced
     }
 }
 
-// The record after byte b with an act, at a mode, with so many levels and so long a key.
-fn moved(x: Progress, a: Act, b: u8, m: Mode, level: usize, len: u8) -> Progress
-    ensures { λ r. ⌜ r ≡ moved x a b m level len ⌝ }
+// The record after byte b, at a mode, with so many levels and so long a key.
+fn moved(x: Progress, b: u8, m: Mode, level: usize, len: u8) -> Progress
+    ensures { λ r. ⌜ r ≡ moved x b m level len ⌝ }
 {
     let from = x.mode;
     let f = x.fault;
@@ -151,7 +150,7 @@ fn moved(x: Progress, a: Act, b: u8, m: Mode, level: usize, len: u8) -> Progress
         place: x.place,
         bits: register::bits_in(from, x.bits, b),
         high: register::high_in(from, x.bits, x.high, b),
-        number: register::number_to(m, register::number_before(a, d), b),
+        number: register::number_to(m, register::number_before(from, m, d), b),
         len: len,
     }
 }
@@ -170,7 +169,7 @@ fn acted(x: Progress, frames: usize, b: u8, st: Step) -> Advanced
             let level = act::level_after(a, x.level, frames);
             let d = x.number;
             Advanced {
-                progress: moved(x, a, b, m, level, act::len_after(a, x.len, c)),
+                progress: moved(x, b, m, level, act::len_after(a, x.len, c)),
                 task: act::task_of(a, st.ends, d, x.len, c),
             }
         }

@@ -1,8 +1,7 @@
 // The registers of the open character, its bits and the high surrogate before it, and those of the open number.
 ghost use mathlib.Core.Path.{_≡_};
-ghost use Rattle.progress.specs.Act.{numberBefore, numberTo};
+ghost use Rattle.progress.specs.Act.{numberIn, numberBefore, numberTo};
 ghost use Rattle.progress.specs.Progress.{bitsIn, highIn, charIn};
-use json::lexer::Act;
 use json::lexer::Mode;
 use whole::Decimal;
 
@@ -45,25 +44,29 @@ pub fn char_in(m: Mode, bits: u32, high: u32, b: u8) -> u32
     }
 }
 
-// The number before a byte with an act: one that begins is fresh.
-pub fn number_before(a: Act, d: Decimal) -> Decimal
-    ensures { λ r. ⌜ r ≡ numberBefore a d ⌝ }
+// The number that a byte of a number goes on with: in another mode one begins, and is fresh.
+fn number_in(m: Mode, d: Decimal) -> Decimal
+    ensures { λ r. ⌜ r ≡ numberIn m d ⌝ }
 {
-    match a {
-        Act::Fault => d,
-        Act::Pass => d,
-        Act::OpenArray => d,
-        Act::OpenObject => d,
-        Act::Close => d,
-        Act::KeyStart => d,
-        Act::KeyChar => d,
-        Act::KeyEnd => d,
-        Act::TextStart => d,
-        Act::TextChar => d,
-        Act::TextEnd => d,
-        Act::NumberStart => whole::fresh(),
-        Act::NumberByte => d,
-        Act::WordEnd(_) => d,
+    match m {
+        Mode::At(_) => whole::fresh(),
+        Mode::Key(_) => whole::fresh(),
+        Mode::Text(_) => whole::fresh(),
+        Mode::Number(_) => d,
+        Mode::Word(_, _) => whole::fresh(),
+    }
+}
+
+// The number before a byte that leads from one mode to another.
+pub fn number_before(from: Mode, m: Mode, d: Decimal) -> Decimal
+    ensures { λ r. ⌜ r ≡ numberBefore from m d ⌝ }
+{
+    match m {
+        Mode::At(_) => d,
+        Mode::Key(_) => d,
+        Mode::Text(_) => d,
+        Mode::Number(_) => number_in(from, d),
+        Mode::Word(_, _) => d,
     }
 }
 

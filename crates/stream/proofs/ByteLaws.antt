@@ -90,7 +90,7 @@ module _ (n : ℕ) (x : Progress) where
         record {
           within = λ (i : Within n x). record { level = levelAfter-le a (x .level) n (i .level); len = lenAfter-le a (x .len) _ (i .len) };
           counts = λ (f : CountsIn x).
-              rw (bump-below (x .pos) short) (counts-to m b (x .pos) (numberBefore a (x .number)) short digit (numberBefore-counts a f));
+              rw (bump-below (x .pos) short) (counts-to m b (x .pos) (numberBefore (x .mode) m (x .number)) short digit (numberBefore-counts (x .mode) m f));
           pos = refl;
           head = refl;
         }

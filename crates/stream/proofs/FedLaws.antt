@@ -61,7 +61,7 @@ stepAt r w b = stepOf (modeOf r) (topAt w (levelOf r)) b
 -- what is known of the record after a sound byte, and what is to be done at the byte
 abbrev pub movedBy : Reader → ℕ → Step → Progress
 movedBy r b st =
-    moved (r .progress) (st .act) b (st .mode) (levelAfter (st .act) (levelOf r) (r .frames))
+    moved (r .progress) b (st .mode) (levelAfter (st .act) (levelOf r) (r .frames))
     (lenAfter (st .act) (r .progress .len) (charIn (modeOf r) (r .progress .bits) (r .progress .high) b))
 
 abbrev pub taskBy : Reader → ℕ → Step → Task

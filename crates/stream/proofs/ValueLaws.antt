@@ -35,7 +35,7 @@ use Rattle.table.specs.Table.{Table}
 use Rattle.table.specs.declared.kind.Scalar.the-variants as K
 use Rattle.verdict.specs.Verdict.{longest}
 use Rattle.progress.specs.declared.Fault.the-variants as F
-use Rattle.progress.specs.Act.{firstFault, numberBefore, numberKind}
+use Rattle.progress.specs.Act.{firstFault, numberIn, numberKind}
 use Rattle.pass.proofs.ByteLaws.{bump-below}
 use Rattle.pass.proofs.NumberLaws.{go-other}
 use Rattle.reader.specs.declared.Reader.{Reader}
@@ -65,31 +65,33 @@ data NumberAct : Act → Type 0 where
 
 module _ (t : Table) (r : Reader) (w : List ℕ) (m : Mode) (d : Decimal) (p b : ℕ) (i : ReadsOn t r w m d p) (n : NumberMode) where
   -- after the byte, with the outcome o
-  record Fed (a : Act) (o : Outcome) : Type 0 where
+  record Fed (o : Outcome) : Type 0 where
     quiet : o .answer ≡ Says.Quiet
-    reads-on : ReadsOn t (o .reader) (o .work) (M.Number n) (counted bounded n (numberBefore a d) b) (p + 1)
+    reads-on : ReadsOn t (o .reader) (o .work) (M.Number n) (counted bounded n (numberIn m d) b) (p + 1)
 
   next-pos : p < longest → bump (r .progress .pos) ≡ p + 1
   next-pos l = bump-below (r .progress .pos) (omega (arith, i .pos)) ∙ ap (λ (k : ℕ). k + 1) (i .pos)
 
-  done-number : {a : Act} → NumberAct a → p < longest → Fed a (done r t w b (stepTo (M.Number n) a))
+  same-number : counted bounded n (numberIn (modeOf r) (r .progress .number)) b ≡ counted bounded n (numberIn m d) b
+  same-number = rw (i .mode, i .number)
+
+  done-number : {a : Act} → NumberAct a → p < longest → Fed (done r t w b (stepTo (M.Number n) a))
   done-number first-byte l =
       record {
         quiet = refl;
-        reads-on = record { gate = i .gate; head = i .head; fault = i .fault; mode = refl; number = refl; pos = next-pos l };
+        reads-on = record { gate = i .gate; head = i .head; fault = i .fault; mode = refl; number = same-number; pos = next-pos l };
       }
   done-number more-byte l =
-      let same = ap (λ (x : Decimal). counted bounded n x b) (i .number) in
       record {
         quiet = refl;
-        reads-on = record { gate = i .gate; head = i .head; fault = i .fault; mode = refl; number = same; pos = next-pos l };
+        reads-on = record { gate = i .gate; head = i .head; fault = i .fault; mode = refl; number = same-number; pos = next-pos l };
       }
 
   no-fault : {a : Act} → NumberAct a → firstFault a (levelOf r) (r .frames) ≡ F.Sound
   no-fault first-byte = refl
   no-fault more-byte = refl
 
-  fed-number : {a : Act} → NumberAct a → p < longest → eqb b 0x1E ≡ false → stepAt r w b ≡ stepTo (M.Number n) a → Fed a (byteFed r t w b)
+  fed-number : {a : Act} → NumberAct a → p < longest → eqb b 0x1E ≡ false → stepAt r w b ≡ stepTo (M.Number n) a → Fed (byteFed r t w b)
   fed-number {a} k l e q =
       let s : IsSound r t w b = record {
         gate = i .gate;
@@ -99,7 +101,7 @@ module _ (t : Table) (r : Reader) (w : List ℕ) (m : Mode) (d : Decimal) (p b :
         short = lt-ltb (r .progress .pos) longest (omega (arith, i .pos));
         first = ap (λ (st : Step). firstFault (st .act) (levelOf r) (r .frames)) q ∙ no-fault k;
       } in
-      subst (λ (o : Outcome). Fed a o) (sym (fed-of-sound r t w b s ∙ ap (done r t w b) q)) (done-number k l)
+      subst (λ (o : Outcome). Fed o) (sym (fed-of-sound r t w b s ∙ ap (done r t w b) q)) (done-number k l)
 
 -- ---- all bytes
 

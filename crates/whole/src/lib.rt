@@ -118,7 +118,7 @@ fn with_sign(d: Decimal, b: u8) -> Decimal
     }
 }
 
-// Byte b leads to a mode of the number. Ruled out: zeros before the point that are not counted, and a digit after the point that is no place.
+// Byte b leads to a mode of the number. Ruled out: zeros at the end, or digits after the point, of which only the last is counted.
 pub fn counted(n: NumberMode, d: Decimal, b: u8) -> Decimal
     ensures { λ r. ⌜ r ≡ counted bounded n d b ⌝ }
 {

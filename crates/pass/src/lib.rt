@@ -1,16 +1,13 @@
 // Bytes that only move a reader on: those that change where it stands in the record, and the plain characters of a key. Each kind is passed over
 // in a loop of its own.
-ghost use mathlib.Core.Bool.{true, false, cond};
+ghost use mathlib.Core.Bool.{true};
 ghost use mathlib.Core.Path.{_≡_};
 ghost use Prim.Native.Nat.{_+_, _-_, _<_, _≤_, min};
 ghost use lib.ListN.{length, getD};
 ghost use Rattle.json.specs.Lexer.{stepOf};
-ghost use Rattle.json.specs.Numbers.{isDigit};
-ghost use Rattle.chars.specs.Table.{classTable, classAt};
-ghost use Rattle.pass.specs.Pass.{plainClass, awaitsChar, inDigits, staysIn, StayedTo};
+ghost use Rattle.chars.specs.Table.{classTable};
 ghost use Rattle.pass.specs.Pass.{bitsOver, registers, registersOf, registersOver, registersAfter, partOf};
 ghost use Rattle.pass.specs.Pass.{isQuiet, passes, readsOn, keepsChars, placed, passedAt, Stands, PassedTo, PlainAt, KeptTo};
-use json::class::Class;
 use json::lexer::Act;
 use json::lexer::Awaited;
 use json::lexer::Mode;
@@ -18,12 +15,13 @@ use json::lexer::Step;
 use json::lexer::Top;
 use json::number::NumberMode;
 use json::number::NumberMove;
-use json::string::StringMode;
 use progress::Fault;
 use progress::Progress;
 use progress::key;
 use progress::register;
 use whole::Decimal;
+
+mod stay; // stay.rt: bytes that leave the mode as it is
 
 // After the bytes passed over: what is known of the record, where that is in the piece, and the step that the lexer makes of the byte there.
 pub struct Passed {
@@ -51,126 +49,6 @@ enum Part {
     Other,
 }
 
-// A byte of the class is a whole character of a string.
-fn plain_class(k: Class) -> bool
-    ensures { λ r. ⌜ r ≡ plainClass k ⌝ }
-{
-    match k {
-        Class::Control => false,
-        Class::Break => false,
-        Class::Space => true,
-        Class::Quote => false,
-        Class::Backslash => false,
-        Class::Structure => true,
-        Class::Digit => true,
-        Class::Other => true,
-        Class::Tail => false,
-        Class::LeadC2 => false,
-        Class::LeadE0 => false,
-        Class::LeadE1 => false,
-        Class::LeadED => false,
-        Class::LeadF0 => false,
-        Class::LeadF1 => false,
-        Class::LeadF4 => false,
-        Class::Never => false,
-    }
-}
-
-// A character or the closing quotation mark is awaited.
-fn awaits_char(s: StringMode) -> bool
-    ensures { λ r. ⌜ r ≡ awaitsChar s ⌝ }
-{
-    match s {
-        StringMode::Char => true,
-        StringMode::Escape => false,
-        StringMode::Unit1 => false,
-        StringMode::Unit2 => false,
-        StringMode::UnitD => false,
-        StringMode::Unit3 => false,
-        StringMode::Unit4 => false,
-        StringMode::High3 => false,
-        StringMode::High4 => false,
-        StringMode::LowBackslash => false,
-        StringMode::LowU => false,
-        StringMode::Low1 => false,
-        StringMode::Low2 => false,
-        StringMode::Low3 => false,
-        StringMode::Low4 => false,
-        StringMode::Tail1 => false,
-        StringMode::Tail2 => false,
-        StringMode::Tail3 => false,
-        StringMode::SecondE0 => false,
-        StringMode::SecondED => false,
-        StringMode::SecondF0 => false,
-        StringMode::SecondF4 => false,
-    }
-}
-
-// Any number of digits may follow.
-fn in_digits(n: NumberMode) -> bool
-    ensures { λ r. ⌜ r ≡ inDigits n ⌝ }
-{
-    match n {
-        NumberMode::Minus => false,
-        NumberMode::Zero => false,
-        NumberMode::Int => true,
-        NumberMode::Dot => false,
-        NumberMode::Frac => true,
-        NumberMode::E => false,
-        NumberMode::Sign => false,
-        NumberMode::Exp => true,
-    }
-}
-
-// A byte of the class leaves a string's mode as it is.
-fn stays_char(k: Class, s: StringMode) -> bool
-    ensures { λ r. ⌜ r ≡ cond (awaitsChar s) (plainClass k) false ⌝ }
-{
-    if awaits_char(s) {
-        return plain_class(k);
-    }
-    false
-}
-
-// The byte leaves a number's mode as it is.
-fn stays_digit(n: NumberMode, b: u8) -> bool
-    ensures { λ r. ⌜ r ≡ cond (inDigits n) (isDigit b) false ⌝ }
-{
-    if in_digits(n) {
-        return lexer::number::is_digit(b);
-    }
-    false
-}
-
-// The byte, with its class from a lent table, leaves the mode as it is.
-fn stays(classes: &[u8; 256], m: Mode, b: u8) -> bool
-    ensures { λ r. ⌜ r ≡ staysIn (classAt (now (classes .entry)) b) m b ⌝ }
-{
-    match m {
-        Mode::At(_) => lexer::step::is_blank(b),
-        Mode::Key(_) => false,
-        Mode::Text(s) => stays_char(chars::class::class_in(classes, b), s),
-        Mode::Number(n) => stays_digit(n, b),
-        Mode::Word(_, _) => false,
-    }
-}
-
-// The place after the bytes that leave the mode as it is.
-fn stay_end<'a>(classes: &'a [u8; 256], m: Mode, s: &'a [u8], from: usize, end: usize) -> usize
-    requires { ⌜ (now classes ≡ classTable) × (from ≤ end) × (end ≤ length (now s)) ⌝ }
-    ensures { λ r. ⌜ StayedTo m (now (s .entry)) from end r ⌝ }
-{
-    let mut i = from;
-    while i < end {
-        let b = s[i];
-        if stays(classes, m, b) {} else {
-            return i;
-        }
-        i += 1;
-    }
-    i
-}
-
 // The bits of an open character, where some bytes that leave the mode as it is were passed over, or none.
 fn bits_over(some: bool, m: Mode, bits: u32) -> u32
     ensures { λ r. ⌜ r ≡ bitsOver some m bits ⌝ }
@@ -179,21 +57,6 @@ fn bits_over(some: bool, m: Mode, bits: u32) -> u32
         return register::bits_in(m, bits, 0x20);
     }
     bits
-}
-
-// The place after the digits that leave a number's mode as it is.
-fn digits_end(n: NumberMode, s: &[u8], from: usize, end: usize) -> usize
-    requires { ⌜ (from ≤ end) × (end ≤ length (now s)) ⌝ }
-    ensures { λ r. ⌜ StayedTo (Mode.Number n) (now (s .entry)) from end r ⌝ }
-{
-    let mut i = from;
-    while i < end {
-        if stays_digit(n, s[i]) {} else {
-            return i;
-        }
-        i += 1;
-    }
-    i
 }
 
 // The registers of a record.
@@ -392,7 +255,7 @@ fn number_to(
     let mut since = start;
     let mut i = begin;
     loop {
-        let j = digits_end(n, s, i, end);
+        let j = stay::digits_end(n, s, i, end);
         d = whole::run::over(n, d, s, since, j);
         let now = with_number(g, d);
         if j == end {
@@ -432,7 +295,7 @@ fn pass_to<'a>(
         if let Part::Number(n) = p {
             return number_to(x, top, n, g, s, from, since, i, end);
         }
-        let j = stay_end(classes, m, s, i, end);
+        let j = stay::stay_end(classes, m, s, i, end);
         g = registers_over(i < j, m, g);
         if j == end {
             return passed_at(x, m, g, from, j, no_step());
@@ -475,7 +338,7 @@ fn keeps_chars(x: Progress) -> bool
     match m {
         Mode::At(_) => false,
         Mode::Key(s) => {
-            if awaits_char(s) {
+            if stay::awaits_char(s) {
                 return reads_on(x);
             }
             false
@@ -491,7 +354,7 @@ fn plain_at<'a>(classes: &'a [u8; 256], s: &'a [u8], at: usize) -> bool
     requires { ⌜ (now classes ≡ classTable) × (at < length (now s)) ⌝ }
     ensures { λ r. ⌜ PlainAt (now (s .entry)) at r ⌝ }
 {
-    plain_class(chars::class::class_in(classes, s[at]))
+    stay::plain_class(chars::class::class_in(classes, s[at]))
 }
 
 // Keeps the plain characters of a key up to a place where the record is not too long yet.

@@ -1,7 +1,7 @@
--- `stays` meets its contract. Assumes nothing.
+-- `stay::stays` meets its contract. Assumes nothing.
 use borrow.Author.Needs.{needs}
-use Rattle.pass.proofs.stays.Statement.{statement}
-use Rattle.pass.proofs.stays.Tie as tie
+use Rattle.pass.proofs.stay.stays.Statement.{statement}
+use Rattle.pass.proofs.stay.stays.Tie as tie
 
 returns : tie.Need-returns
 returns c = simp (c .is-blank .ensures, c .before .enum-told .given .1)

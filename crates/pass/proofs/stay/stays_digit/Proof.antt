@@ -1,8 +1,8 @@
--- `stays_digit` meets its contract. Assumes nothing.
+-- `stay::stays_digit` meets its contract. Assumes nothing.
 use mathlib.Core.Path.{_≡_, refl, sym, _∙_}
 use borrow.Author.Needs.{needs}
-use Rattle.pass.proofs.stays_digit.Statement.{statement}
-use Rattle.pass.proofs.stays_digit.Tie as tie
+use Rattle.pass.proofs.stay.stays_digit.Statement.{statement}
+use Rattle.pass.proofs.stay.stays_digit.Tie as tie
 
 returns : tie.Need-returns
 returns c = rw (sym (c .before .before .in-digits .ensures) ∙ c .before .if1 .taken) (c .is-digit .ensures)

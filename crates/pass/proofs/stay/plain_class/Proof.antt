@@ -1,7 +1,7 @@
--- `plain_class` meets its contract. Assumes nothing.
+-- `stay::plain_class` meets its contract. Assumes nothing.
 use borrow.Author.Needs.{needs}
-use Rattle.pass.proofs.plain_class.Statement.{statement}
-use Rattle.pass.proofs.plain_class.Tie as tie
+use Rattle.pass.proofs.stay.plain_class.Statement.{statement}
+use Rattle.pass.proofs.stay.plain_class.Tie as tie
 
 pub plain-class-spec : {M : Type 1} → statement M
 plain-class-spec =

@@ -1,7 +1,7 @@
--- `awaits_char` meets its contract. Assumes nothing.
+-- `stay::awaits_char` meets its contract. Assumes nothing.
 use borrow.Author.Needs.{needs}
-use Rattle.pass.proofs.awaits_char.Statement.{statement}
-use Rattle.pass.proofs.awaits_char.Tie as tie
+use Rattle.pass.proofs.stay.awaits_char.Statement.{statement}
+use Rattle.pass.proofs.stay.awaits_char.Tie as tie
 
 pub awaits-char-spec : {M : Type 1} → statement M
 awaits-char-spec =

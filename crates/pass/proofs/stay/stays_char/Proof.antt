@@ -1,8 +1,8 @@
--- `stays_char` meets its contract. Assumes nothing.
+-- `stay::stays_char` meets its contract. Assumes nothing.
 use mathlib.Core.Path.{_≡_, refl, sym, _∙_}
 use borrow.Author.Needs.{needs}
-use Rattle.pass.proofs.stays_char.Statement.{statement}
-use Rattle.pass.proofs.stays_char.Tie as tie
+use Rattle.pass.proofs.stay.stays_char.Statement.{statement}
+use Rattle.pass.proofs.stay.stays_char.Tie as tie
 
 returns : tie.Need-returns
 returns c = rw (sym (c .before .before .awaits-char .ensures) ∙ c .before .if1 .taken) (c .plain-class .ensures)

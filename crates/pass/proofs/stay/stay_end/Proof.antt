@@ -1,10 +1,10 @@
--- `stay_end` meets its contract. The loop's invariant: the bytes before its place leave the mode as it is. Assumes nothing.
+-- `stay::stay_end` meets its contract. The loop's invariant: the bytes before its place leave the mode as it is. Assumes nothing.
 use Prim.Native.Nat.{_-_}
 use borrow.Author.Needs.{needs}
 use Rattle.pass.specs.Pass.{StayedTo}
 use Rattle.pass.proofs.StayLaws.{stayed-none, stayed-more}
-use Rattle.pass.proofs.stay_end.Statement.{statement}
-use Rattle.pass.proofs.stay_end.Tie as tie
+use Rattle.pass.proofs.stay.stay_end.Statement.{statement}
+use Rattle.pass.proofs.stay.stay_end.Tie as tie
 
 abbrev Inv-loop : tie.InvT-loop
 Inv-loop classes m s from end i₀ i = StayedTo m s from end i

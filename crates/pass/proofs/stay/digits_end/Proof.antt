@@ -1,11 +1,11 @@
--- `digits_end` meets its contract. The loop's invariant: the bytes before its place leave the mode as it is. Assumes nothing.
+-- `stay::digits_end` meets its contract. The loop's invariant: the bytes before its place leave the mode as it is. Assumes nothing.
 use Prim.Native.Nat.{_-_}
 use borrow.Author.Needs.{needs}
 use Rattle.json.specs.declared.lexer.Mode.the-variants as M
 use Rattle.pass.specs.Pass.{StayedTo}
 use Rattle.pass.proofs.StayLaws.{stayed-none, stayed-digit}
-use Rattle.pass.proofs.digits_end.Statement.{statement}
-use Rattle.pass.proofs.digits_end.Tie as tie
+use Rattle.pass.proofs.stay.digits_end.Statement.{statement}
+use Rattle.pass.proofs.stay.digits_end.Tie as tie
 
 abbrev Inv-loop : tie.InvT-loop
 Inv-loop n s from end i₀ i = StayedTo (M.Number n) s from end i

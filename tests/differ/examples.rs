@@ -1,6 +1,7 @@
 //! The examples of docs/REQUIREMENT.md, section 8, held against the paper before it is held against the program.
 
 use crate::book::load;
+use crate::number::Written;
 use crate::stream::{judge, lines};
 
 const BOOK: &str = "rule form state key value next
@@ -81,7 +82,7 @@ pub fn wrong() -> Option<String> {
     if got != "number line, 9 2" {
         return Some(format!("a line 0 obj 0 a int 0: {got}"));
     }
-    wrong_number().or_else(|| FRAMES.iter().find_map(wrong_frames))
+    wrong_number().or_else(wrong_value).or_else(|| FRAMES.iter().find_map(wrong_frames))
 }
 
 /// A number that stands for a corner, where the book asks for `int`.
@@ -96,6 +97,23 @@ fn wrong_number() -> Option<String> {
         let got = said(BOOK.as_bytes(), record.as_bytes(), 288);
         (got != want).then(|| format!("{number} as a corner: {got}"))
     })
+}
+
+/// A short number of which a quotient of machine integers says otherwise whether its value is whole: n/10^f times 10^e for each n below 2,500, with
+/// f from 0 to 3 digits after the point and e from -4 to 4.
+fn wrong_value() -> Option<String> {
+    for (n, f, e) in (0..2_500u64).flat_map(|n| (0..4u32).flat_map(move |f| (-4..=4i32).map(move |e| (n, f, e)))) {
+        let one = 10u64.pow(f);
+        let number = match f {
+            0 => format!("{n}e{e}"),
+            _ => format!("{}.{:0width$}E{e:+}", n / one, n % one, width = f as usize),
+        };
+        let (above, below) = (n * 10u64.pow(e.max(0) as u32), one * 10u64.pow((-e).max(0) as u32));
+        if Written::new(number.as_bytes()).whole() != (above % below == 0) {
+            return Some(format!("{number} taken as {}whole", if above % below == 0 { "not " } else { "" }));
+        }
+    }
+    None
 }
 
 fn wrong_frames(&(record, bytes): &Frames) -> Option<String> {

@@ -1,5 +1,7 @@
 -- How large the counts of a number get while the bytes of a record pass: `counts-fresh`, `counts-later`, `counts-byte`. Assumes nothing.
-use Prim.Native.Nat.{ℕ, _+_, _-_, _<_, _≤_}
+use mathlib.Core.Logic.{_⊎_, inl, inr, ⊎-elim}
+use mathlib.Core.Path.{_≡_, refl}
+use Prim.Native.Nat.{ℕ, _+_, _*_, _-_, _<_, _≤_}
 use native.Mathlib.Omega.{arith}
 use lib.Dec.{T, eqb, ltb, leb, leb→le}
 use Rattle.laws.specs.Count.{bump}
@@ -78,10 +80,11 @@ bump-le : (n : ℕ) → bump n ≤ n + 1
 unfolding bump
 bump-le n = cond-elim (λ (k : ℕ). k ≤ n + 1) (ltb n 4294967295) (λ _. omega arith) (λ _. omega arith)
 
-longer-le : (e b : ℕ) → b ≤ 0x39 → e ≤ 167772169 → longerUpTo e (b - 0x30) ≤ 167772169
+-- an exponent takes a digit only where it is not past the longest record
+longer-or-same : (e b : ℕ) → b ≤ 0x39 → (longerUpTo e (b - 0x30) ≤ 10 * 16777216 + 9) ⊎ (longerUpTo e (b - 0x30) ≡ e)
 unfolding longerUpTo
-longer-le e b h l =
-    cond-elim (λ (k : ℕ). k ≤ 167772169) (leb e 16777216) (λ t. let s = leb→le e 16777216 t in omega arith) (λ _. l)
+longer-or-same e b h =
+    cond-elim (λ (k : ℕ). (k ≤ 10 * 16777216 + 9) ⊎ (k ≡ e)) (leb e 16777216) (λ t. let s = leb→le e 16777216 t in inl (omega arith)) (λ _. inr refl)
 
 module _ (b p : ℕ) (d : Decimal) (h : p < 16777216) (f : CountsWithin p d) where
   counts-next : CountsWithin (p + 1) d
@@ -113,4 +116,9 @@ module _ (b p : ℕ) (d : Decimal) (h : p < 16777216) (f : CountsWithin p d) whe
   counts-byte N.Frac c = counts-place
   counts-byte N.E c = counts-next
   counts-byte N.Sign c = record { zeros = counts-next .zeros; places = counts-next .places; exponent = f .exponent }
-  counts-byte N.Exp c = record { zeros = counts-next .zeros; places = counts-next .places; exponent = longer-le (d .exponent) b c (f .exponent) }
+  counts-byte N.Exp c =
+      record {
+        zeros = counts-next .zeros;
+        places = counts-next .places;
+        exponent = ⊎-elim (λ l. omega (arith, l)) (λ q. omega (arith, q, f .exponent)) (longer-or-same (d .exponent) b c);
+      }

@@ -5,7 +5,7 @@ use lib.ListN.{getD}
 use Rattle.laws.proofs.TabLaws.{getD-tab}
 use Rattle.json.specs.Classes.{classOf, classNumber}
 use Rattle.json.specs.declared.class.Class.{Class}
-use Rattle.json.specs.declared.class.Class.the-variants.{Control, Break, Space, Quote, Backslash, Structure, Digit, Other, Tail, LeadC2, LeadE0, LeadE1, LeadED, LeadF0, LeadF1, LeadF4, Never}
+use Rattle.json.specs.declared.class.Class.the-variants.{Control, Break, Space, Quote, Backslash, Structure, Digit, Other, Tail, LeadC2, LeadE0, LeadE1, LeadED, LeadEE, LeadF0, LeadF1, LeadF4, Never}
 use Rattle.chars.specs.Table.{classTable, classFor, classAt}
 
 -- the entry at a byte is the number of the byte's class
@@ -28,6 +28,7 @@ classFor-classNumber LeadC2 = refl
 classFor-classNumber LeadE0 = refl
 classFor-classNumber LeadE1 = refl
 classFor-classNumber LeadED = refl
+classFor-classNumber LeadEE = refl
 classFor-classNumber LeadF0 = refl
 classFor-classNumber LeadF1 = refl
 classFor-classNumber LeadF4 = refl

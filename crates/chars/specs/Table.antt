@@ -8,7 +8,7 @@ use lib.ListN.{getD}
 use Rattle.laws.specs.Tab.{tab}
 use Rattle.json.specs.Classes.{classOf, classNumber}
 use Rattle.json.specs.declared.class.Class.{Class}
-use Rattle.json.specs.declared.class.Class.the-variants.{Control, Break, Space, Quote, Backslash, Structure, Digit, Other, Tail, LeadC2, LeadE0, LeadE1, LeadED, LeadF0, LeadF1, LeadF4, Never}
+use Rattle.json.specs.declared.class.Class.the-variants.{Control, Break, Space, Quote, Backslash, Structure, Digit, Other, Tail, LeadC2, LeadE0, LeadE1, LeadED, LeadEE, LeadF0, LeadF1, LeadF4, Never}
 
 unfoldable pub classTable : List ℕ
 classTable = tab (λ (b : ℕ). classNumber (classOf b)) 0 256
@@ -29,9 +29,10 @@ classFor n =
     (cond (eqb n 11) LeadE0
     (cond (eqb n 12) LeadE1
     (cond (eqb n 13) LeadED
-    (cond (eqb n 14) LeadF0
-    (cond (eqb n 15) LeadF1
-    (cond (eqb n 16) LeadF4 Never)))))))))))))))
+    (cond (eqb n 14) LeadEE
+    (cond (eqb n 15) LeadF0
+    (cond (eqb n 16) LeadF1
+    (cond (eqb n 17) LeadF4 Never))))))))))))))))
 
 -- the class that a list of class numbers gives to a byte
 unfoldable pub classAt : List ℕ → ℕ → Class

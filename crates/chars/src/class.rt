@@ -4,7 +4,8 @@ ghost use Rattle.json.specs.Classes.{classOf, classNumber};
 ghost use Rattle.chars.specs.Table.{classTable, classFor, classAt};
 use json::class::Class;
 
-// The class number of each byte, sixteen bytes to a line.
+// The class number of each byte, sixteen bytes to a line. The last four lines have the first bytes of UTF-8 sequences by the rows of RFC 3629,
+// section 4: 0a is C2-DF (UTF8-2); 0b is E0, 0c E1-EC, 0d ED, 0e EE-EF (UTF8-3); 0f is F0, 10 F1-F3, 11 F4 (UTF8-4).
 const CLASSES: [u8; 256] = *b"\
 \x01\x01\x01\x01\x01\x01\x01\x01\x01\x02\x02\x01\x01\x02\x01\x01\
 \x01\x01\x01\x01\x01\x01\x01\x01\x01\x01\x01\x01\x01\x01\x01\x01\
@@ -20,8 +21,8 @@ const CLASSES: [u8; 256] = *b"\
 \x09\x09\x09\x09\x09\x09\x09\x09\x09\x09\x09\x09\x09\x09\x09\x09\
 \x00\x00\x0a\x0a\x0a\x0a\x0a\x0a\x0a\x0a\x0a\x0a\x0a\x0a\x0a\x0a\
 \x0a\x0a\x0a\x0a\x0a\x0a\x0a\x0a\x0a\x0a\x0a\x0a\x0a\x0a\x0a\x0a\
-\x0b\x0c\x0c\x0c\x0c\x0c\x0c\x0c\x0c\x0c\x0c\x0c\x0c\x0d\x0c\x0c\
-\x0e\x0f\x0f\x0f\x10\x00\x00\x00\x00\x00\x00\x00\x00\x00\x00\x00";
+\x0b\x0c\x0c\x0c\x0c\x0c\x0c\x0c\x0c\x0c\x0c\x0c\x0c\x0d\x0e\x0e\
+\x0f\x10\x10\x10\x11\x00\x00\x00\x00\x00\x00\x00\x00\x00\x00\x00";
 
 // The table. A constant is built anew wherever it is used, so a caller with many bytes takes it once and lends it.
 pub fn classes() -> [u8; 256]
@@ -56,9 +57,10 @@ pub fn class_for(n: u8) -> Class
         11 => Class::LeadE0,
         12 => Class::LeadE1,
         13 => Class::LeadED,
-        14 => Class::LeadF0,
-        15 => Class::LeadF1,
-        16 => Class::LeadF4,
+        14 => Class::LeadEE,
+        15 => Class::LeadF0,
+        16 => Class::LeadF1,
+        17 => Class::LeadF4,
         _ => Class::Never,
     }
 }

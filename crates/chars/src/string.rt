@@ -22,12 +22,16 @@ pub fn char_start(k: Class) -> StringMove
         Class::Digit => StringMove::Char,
         Class::Other => StringMove::Char,
         Class::Tail => StringMove::Fault,
-        Class::LeadC2 => StringMove::Go(StringMode::Tail1),
+        // UTF8-2, by its first byte: C2-DF
+        Class::LeadC2 => StringMove::Go(StringMode::SecondC2),
+        // UTF8-3: E0; E1-EC; ED; EE-EF
         Class::LeadE0 => StringMove::Go(StringMode::SecondE0),
-        Class::LeadE1 => StringMove::Go(StringMode::Tail2),
+        Class::LeadE1 => StringMove::Go(StringMode::SecondE1),
         Class::LeadED => StringMove::Go(StringMode::SecondED),
+        Class::LeadEE => StringMove::Go(StringMode::SecondEE),
+        // UTF8-4: F0; F1-F3; F4
         Class::LeadF0 => StringMove::Go(StringMode::SecondF0),
-        Class::LeadF1 => StringMove::Go(StringMode::Tail3),
+        Class::LeadF1 => StringMove::Go(StringMode::SecondF1),
         Class::LeadF4 => StringMove::Go(StringMode::SecondF4),
         Class::Never => StringMove::Fault,
     }
@@ -178,7 +182,8 @@ fn ranged(lo: u8, hi: u8, b: u8, m: StringMove) -> StringMove
     m
 }
 
-// What byte b does inside a string, with its class from a lent table.
+// What byte b does inside a string, with its class from a lent table. The second byte of a UTF-8 sequence is found row by row, as RFC 3629, section 4,
+// lists them. Ruled out: A0 after ED, which begins a surrogate, and 9F after E0, which begins a sequence that is longer than needed.
 pub fn string_move(table: &[u8; 256], s: StringMode, b: u8) -> StringMove
     ensures { λ r. ⌜ r ≡ moveBy (classAt (now (table .entry)) b) s b ⌝ }
 {
@@ -198,13 +203,22 @@ pub fn string_move(table: &[u8; 256], s: StringMode, b: u8) -> StringMove
         StringMode::Low2 => low2(hex_of(b)),
         StringMode::Low3 => any_hex(hex_of(b), StringMove::Go(StringMode::Low4)),
         StringMode::Low4 => any_hex(hex_of(b), StringMove::Char),
-        StringMode::Tail1 => ranged(0x80, 0xBF, b, StringMove::Char),
-        StringMode::Tail2 => ranged(0x80, 0xBF, b, StringMove::Go(StringMode::Tail1)),
-        StringMode::Tail3 => ranged(0x80, 0xBF, b, StringMove::Go(StringMode::Tail2)),
+        // UTF8-2 = %xC2-DF UTF8-tail
+        StringMode::SecondC2 => ranged(0x80, 0xBF, b, StringMove::Char),
+        // UTF8-3 = %xE0 %xA0-BF UTF8-tail / %xE1-EC 2( UTF8-tail ) /
+        //          %xED %x80-9F UTF8-tail / %xEE-EF 2( UTF8-tail )
         StringMode::SecondE0 => ranged(0xA0, 0xBF, b, StringMove::Go(StringMode::Tail1)),
+        StringMode::SecondE1 => ranged(0x80, 0xBF, b, StringMove::Go(StringMode::Tail1)),
         StringMode::SecondED => ranged(0x80, 0x9F, b, StringMove::Go(StringMode::Tail1)),
+        StringMode::SecondEE => ranged(0x80, 0xBF, b, StringMove::Go(StringMode::Tail1)),
+        // UTF8-4 = %xF0 %x90-BF 2( UTF8-tail ) / %xF1-F3 3( UTF8-tail ) /
+        //          %xF4 %x80-8F 2( UTF8-tail )
         StringMode::SecondF0 => ranged(0x90, 0xBF, b, StringMove::Go(StringMode::Tail2)),
+        StringMode::SecondF1 => ranged(0x80, 0xBF, b, StringMove::Go(StringMode::Tail2)),
         StringMode::SecondF4 => ranged(0x80, 0x8F, b, StringMove::Go(StringMode::Tail2)),
+        // UTF8-tail = %x80-BF
+        StringMode::Tail2 => ranged(0x80, 0xBF, b, StringMove::Go(StringMode::Tail1)),
+        StringMode::Tail1 => ranged(0x80, 0xBF, b, StringMove::Char),
     }
 }
 
@@ -265,13 +279,16 @@ pub fn bits_after(s: StringMode, bits: u32, b: u8) -> u32
         StringMode::Low2 => hex_bits(bits, hex_of(b)),
         StringMode::Low3 => hex_bits(bits, hex_of(b)),
         StringMode::Low4 => hex_bits(bits, hex_of(b)),
-        StringMode::Tail1 => tail_bits(bits, b),
-        StringMode::Tail2 => tail_bits(bits, b),
-        StringMode::Tail3 => tail_bits(bits, b),
+        StringMode::SecondC2 => tail_bits(bits, b),
         StringMode::SecondE0 => tail_bits(bits, b),
+        StringMode::SecondE1 => tail_bits(bits, b),
         StringMode::SecondED => tail_bits(bits, b),
+        StringMode::SecondEE => tail_bits(bits, b),
         StringMode::SecondF0 => tail_bits(bits, b),
+        StringMode::SecondF1 => tail_bits(bits, b),
         StringMode::SecondF4 => tail_bits(bits, b),
+        StringMode::Tail2 => tail_bits(bits, b),
+        StringMode::Tail1 => tail_bits(bits, b),
     }
 }
 
@@ -295,13 +312,16 @@ pub fn high_after(s: StringMode, bits: u32, high: u32, b: u8) -> u32
         StringMode::Low2 => high,
         StringMode::Low3 => high,
         StringMode::Low4 => high,
-        StringMode::Tail1 => high,
-        StringMode::Tail2 => high,
-        StringMode::Tail3 => high,
+        StringMode::SecondC2 => high,
         StringMode::SecondE0 => high,
+        StringMode::SecondE1 => high,
         StringMode::SecondED => high,
+        StringMode::SecondEE => high,
         StringMode::SecondF0 => high,
+        StringMode::SecondF1 => high,
         StringMode::SecondF4 => high,
+        StringMode::Tail2 => high,
+        StringMode::Tail1 => high,
     }
 }
 
@@ -314,6 +334,7 @@ pub fn char_of(s: StringMode, bits: u32, high: u32, b: u8) -> u32
         StringMode::Escape => unescape(b) as u32,
         StringMode::Unit4 => hex_bits(bits, hex_of(b)),
         StringMode::Low4 => pair_of(high, hex_bits(bits, hex_of(b))),
+        StringMode::SecondC2 => tail_bits(bits, b),
         StringMode::Tail1 => tail_bits(bits, b),
         StringMode::Unit1 => 0,
         StringMode::Unit2 => 0,
@@ -326,11 +347,13 @@ pub fn char_of(s: StringMode, bits: u32, high: u32, b: u8) -> u32
         StringMode::Low1 => 0,
         StringMode::Low2 => 0,
         StringMode::Low3 => 0,
-        StringMode::Tail2 => 0,
-        StringMode::Tail3 => 0,
         StringMode::SecondE0 => 0,
+        StringMode::SecondE1 => 0,
         StringMode::SecondED => 0,
+        StringMode::SecondEE => 0,
         StringMode::SecondF0 => 0,
+        StringMode::SecondF1 => 0,
         StringMode::SecondF4 => 0,
+        StringMode::Tail2 => 0,
     }
 }

@@ -1,8 +1,9 @@
 -- Laws of bytes and rows of bytes. Assumes nothing.
 use mathlib.Core.Bool.{not, _||_}
 use mathlib.Core.List.{List, [], _∷_, _++_}
-use mathlib.Core.Path.{sym, subst}
+use mathlib.Core.Path.{_≡_, sym, subst}
 use Prim.Native.Nat.{ℕ, _≤_}
+use native.Mathlib.Omega.{arith}
 use lib.Dec.{T, eqb, leb, leb→le, le→leb, not-T, eqb→eq}
 use Rattle.laws.proofs.TestLaws.{T-and, T-and-left, T-and-right, T-or-elim}
 use Rattle.json.specs.Bytes.{within, isBlank, Follow, follow-none, follow}
@@ -20,6 +21,10 @@ high-of-within lo hi b h = leb→le b hi (T-and-right (leb lo b) _ h)
 pub within-of-le : (lo hi b : ℕ) → lo ≤ b → b ≤ hi → T (within lo hi b)
 unfolding within
 within-of-le lo hi b h g = T-and (leb lo b) _ (le→leb lo b h) (le→leb b hi g)
+
+-- a byte from k to k is k
+pub eq-of-within : (k b : ℕ) → T (within k k b) → b ≡ k
+eq-of-within k b h = let lo = low-of-within k k b h in let hi = high-of-within k k b h in omega arith
 
 -- a byte that is not within two bounds is not between them
 pub outside-of-not-within : (lo hi b : ℕ) → (lo ≤ b → b ≤ hi → ⊥) → T (not (within lo hi b))

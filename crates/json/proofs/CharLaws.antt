@@ -16,9 +16,10 @@ use Rattle.json.specs.declared.string.StringMode.{StringMode}
 use Rattle.json.specs.declared.string.StringMode.the-variants as S
 use Rattle.json.proofs.ByteLaws.{low-of-within, high-of-within, within-of-le, outside-of-not-within}
 use Rattle.json.proofs.StringLaws.{value-of-hex, lt-of-hex, hex-of-lt, Goes, backslash, lead-C2, lead-E0, lead-E1, lead-ED, lead-EE, lead-F0}
-use Rattle.json.proofs.StringLaws.{lead-F1, lead-F4, second-E0, second-ED, second-F0, second-F4, tail-2, tail-3, letter-u, digit-1, digit-1D}
+use Rattle.json.proofs.StringLaws.{lead-F1, lead-F4, second-E0, second-E1, second-ED, second-EE, second-F0, second-F1, second-F4, tail-2}
+use Rattle.json.proofs.StringLaws.{letter-u, digit-1, digit-1D}
 use Rattle.json.proofs.StringLaws.{digit-2, digit-2-below, digit-2-high, digit-3, high-3, high-4, low-backslash, low-u, low-1, low-2, low-3}
-use Rattle.json.proofs.StringLaws.{Ends, plain, after-backslash, digit-4, low-4, tail-1}
+use Rattle.json.proofs.StringLaws.{Ends, plain, after-backslash, digit-4, low-4, second-C2, tail-1}
 
 -- the bytes, from a mode with its registers on, are the rest of a string with these characters, up to and with its closing quotation mark
 pub data Continues : StringMode → ℕ → ℕ → List ℕ → List ℕ → List ℕ → Type 0 where
@@ -153,7 +154,7 @@ module _ {t cs r : List ℕ} (K : (x h : ℕ) → Continues S.Char x h t cs r) w
   utf8-continues : {s : List ℕ} {c : ℕ} → Utf8 s c t → (x h : ℕ) → Continues S.Char x h s (c ∷ cs) r
   utf8-continues (row-C2-DF {a} {b} p q) x h =
       let e = high-of-within 0xC2 0xDF a p in
-      rw (← six-of-tail (a - 0xC0) b (omega arith) q) (rw (← bits-C2 a p) (goes (lead-C2 p) (ends (tail-1 q) (K _ _))))
+      rw (← six-of-tail (a - 0xC0) b (omega arith) q) (rw (← bits-C2 a p) (goes (lead-C2 p) (ends (second-C2 q) (K _ _))))
   utf8-continues (row-E0 {b} {c} p q) x h =
       rw (← two-bytes 0 b c (omega arith) (tail-of-within 0xA0 0xBF b (omega arith) (omega arith) p) q)
       (rw (← bits-E 0xE0 (omega arith) (omega arith)) (goes lead-E0 (goes (second-E0 p) (ends (tail-1 q) (K _ _)))))
@@ -161,7 +162,7 @@ module _ {t cs r : List ℕ} (K : (x h : ℕ) → Continues S.Char x h t cs r) w
       let l = low-of-within 0xE1 0xEC a p in
       let g = high-of-within 0xE1 0xEC a p in
       rw (← two-bytes (a - 0xE0) b c (omega arith) q u)
-      (rw (← bits-E a (omega arith) (omega arith)) (goes (lead-E1 p) (goes (tail-2 q) (ends (tail-1 u) (K _ _)))))
+      (rw (← bits-E a (omega arith) (omega arith)) (goes (lead-E1 p) (goes (second-E1 q) (ends (tail-1 u) (K _ _)))))
   utf8-continues (row-ED {b} {c} p q) x h =
       rw (← two-bytes 0xD b c (omega arith) (tail-of-within 0x80 0x9F b (omega arith) (omega arith) p) q)
       (rw (← bits-E 0xED (omega arith) (omega arith)) (goes lead-ED (goes (second-ED p) (ends (tail-1 q) (K _ _)))))
@@ -169,7 +170,7 @@ module _ {t cs r : List ℕ} (K : (x h : ℕ) → Continues S.Char x h t cs r) w
       let l = low-of-within 0xEE 0xEF a p in
       let g = high-of-within 0xEE 0xEF a p in
       rw (← two-bytes (a - 0xE0) b c (omega arith) q u)
-      (rw (← bits-E a (omega arith) (omega arith)) (goes (lead-EE p) (goes (tail-2 q) (ends (tail-1 u) (K _ _)))))
+      (rw (← bits-E a (omega arith) (omega arith)) (goes (lead-EE p) (goes (second-EE q) (ends (tail-1 u) (K _ _)))))
   utf8-continues (row-F0 {b} {c} {d} p q u) x h =
       rw (← three-bytes 0 b c d (omega arith) (tail-of-within 0x90 0xBF b (omega arith) (omega arith) p) q u)
       (rw (← bits-F 0xF0 (omega arith)) (goes lead-F0 (goes (second-F0 p) (goes (tail-2 q) (ends (tail-1 u) (K _ _))))))
@@ -177,7 +178,7 @@ module _ {t cs r : List ℕ} (K : (x h : ℕ) → Continues S.Char x h t cs r) w
       let l = low-of-within 0xF1 0xF3 a p in
       let g = high-of-within 0xF1 0xF3 a p in
       rw (← three-bytes (a - 0xF0) b c d (omega arith) q u v)
-      (rw (← bits-F a (omega arith)) (goes (lead-F1 p) (goes (tail-3 q) (goes (tail-2 u) (ends (tail-1 v) (K _ _))))))
+      (rw (← bits-F a (omega arith)) (goes (lead-F1 p) (goes (second-F1 q) (goes (tail-2 u) (ends (tail-1 v) (K _ _))))))
   utf8-continues (row-F4 {b} {c} {d} p q u) x h =
       rw (← three-bytes 4 b c d (omega arith) (tail-of-within 0x80 0x8F b (omega arith) (omega arith) p) q u)
       (rw (← bits-F 0xF4 (omega arith)) (goes lead-F4 (goes (second-F4 p) (goes (tail-2 q) (ends (tail-1 u) (K _ _))))))
@@ -272,14 +273,14 @@ pub chars-of-continues : {x h : ℕ} {s cs r : List ℕ} → Continues S.Char x 
 chars-of-continues closes = closing-quote
 chars-of-continues (ends (plain p) k) = chars (unescaped p) (chars-of-continues k)
 chars-of-continues (goes backslash (ends (after-backslash p) k)) = chars (escaped p) (chars-of-continues k)
-chars-of-continues (goes (lead-C2 {b = a} p) (ends (tail-1 {b} q) k)) =
+chars-of-continues (goes (lead-C2 {b = a} p) (ends (second-C2 {b} q) k)) =
     let e = high-of-within 0xC2 0xDF a p in
     utf8-chars (row-C2-DF p q) (rw (bits-C2 a p) (six-of-tail (a - 0xC0) b (omega arith) q)) (chars-of-continues k)
 chars-of-continues (goes lead-E0 (goes (second-E0 {b} p) (ends (tail-1 {b = c} q) k))) =
     utf8-chars (row-E0 p q)
     (rw (bits-E 0xE0 (omega arith) (omega arith)) (two-bytes 0 b c (omega arith) (tail-of-within 0xA0 0xBF b (omega arith) (omega arith) p) q))
     (chars-of-continues k)
-chars-of-continues (goes (lead-E1 {b = a} p) (goes (tail-2 {b} q) (ends (tail-1 {b = c} u) k))) =
+chars-of-continues (goes (lead-E1 {b = a} p) (goes (second-E1 {b} q) (ends (tail-1 {b = c} u) k))) =
     let l = low-of-within 0xE1 0xEC a p in
     let g = high-of-within 0xE1 0xEC a p in
     utf8-chars (row-E1-EC p q u) (rw (bits-E a (omega arith) (omega arith)) (two-bytes (a - 0xE0) b c (omega arith) q u)) (chars-of-continues k)
@@ -287,7 +288,7 @@ chars-of-continues (goes lead-ED (goes (second-ED {b} p) (ends (tail-1 {b = c} q
     utf8-chars (row-ED p q)
     (rw (bits-E 0xED (omega arith) (omega arith)) (two-bytes 0xD b c (omega arith) (tail-of-within 0x80 0x9F b (omega arith) (omega arith) p) q))
     (chars-of-continues k)
-chars-of-continues (goes (lead-EE {b = a} p) (goes (tail-2 {b} q) (ends (tail-1 {b = c} u) k))) =
+chars-of-continues (goes (lead-EE {b = a} p) (goes (second-EE {b} q) (ends (tail-1 {b = c} u) k))) =
     let l = low-of-within 0xEE 0xEF a p in
     let g = high-of-within 0xEE 0xEF a p in
     utf8-chars (row-EE-EF p q u) (rw (bits-E a (omega arith) (omega arith)) (two-bytes (a - 0xE0) b c (omega arith) q u)) (chars-of-continues k)
@@ -295,7 +296,7 @@ chars-of-continues (goes lead-F0 (goes (second-F0 {b} p) (goes (tail-2 {b = c} q
     utf8-chars (row-F0 p q u)
     (rw (bits-F 0xF0 (omega arith)) (three-bytes 0 b c d (omega arith) (tail-of-within 0x90 0xBF b (omega arith) (omega arith) p) q u))
     (chars-of-continues k)
-chars-of-continues (goes (lead-F1 {b = a} p) (goes (tail-3 {b} q) (goes (tail-2 {b = c} u) (ends (tail-1 {b = d} v) k)))) =
+chars-of-continues (goes (lead-F1 {b = a} p) (goes (second-F1 {b} q) (goes (tail-2 {b = c} u) (ends (tail-1 {b = d} v) k)))) =
     let l = low-of-within 0xF1 0xF3 a p in
     let g = high-of-within 0xF1 0xF3 a p in
     utf8-chars (row-F1-F3 p q u v) (rw (bits-F a (omega arith)) (three-bytes (a - 0xF0) b c d (omega arith) q u v)) (chars-of-continues k)

@@ -28,7 +28,9 @@ use Rattle.json.specs.declared.lexer.Awaited.the-variants as P
 use Rattle.json.specs.declared.lexer.Mode.the-variants as M
 use Rattle.json.proofs.ByteLaws.{follow-append}
 use Rattle.json.proofs.NumberLaws.{NumberFrom, Completed, completed, complete-number}
-use Rattle.json.proofs.StringLaws.{Goes, Ends, second-E0, second-ED, second-F0, second-F4, tail-2, tail-3, digit-1, digit-2, digit-2-below, digit-3, high-3, high-4, low-backslash, low-u, low-1, low-2, low-3, after-backslash, digit-4, low-4, tail-1}
+use Rattle.json.proofs.StringLaws.{Goes, Ends, second-E0, second-E1, second-ED, second-EE, second-F0, second-F1, second-F4, tail-2, digit-1}
+use Rattle.json.proofs.StringLaws.{digit-2, digit-2-below, digit-3, high-3, high-4, low-backslash, low-u, low-1, low-2, low-3}
+use Rattle.json.proofs.StringLaws.{after-backslash, digit-4, low-4, second-C2, tail-1}
 use Rattle.json.proofs.CharLaws.{Continues, closes, goes, ends}
 use Rattle.json.proofs.Accepted.{fault-accepts-none, Behind, text-run, key-run, number-run, accepted-of-text}
 use Rattle.json.specs.Proper.{Opened, Begun, Proper}
@@ -118,13 +120,16 @@ module _ (r : List ℕ) where
   complete-string S.Low2 = from-low2
   complete-string S.Low3 = from-low3
   complete-string S.Low4 = last {b = 0x30} (low-4 zero-hex)
-  complete-string S.Tail1 = from-tail1
-  complete-string S.Tail2 = from-tail2
-  complete-string S.Tail3 = more {b = 0x80} (tail-3 tt) from-tail2
+  complete-string S.SecondC2 = last {b = 0x80} (second-C2 tt)
   complete-string S.SecondE0 = more {b = 0xA0} (second-E0 tt) from-tail1
+  complete-string S.SecondE1 = more {b = 0x80} (second-E1 tt) from-tail1
   complete-string S.SecondED = more {b = 0x80} (second-ED tt) from-tail1
+  complete-string S.SecondEE = more {b = 0x80} (second-EE tt) from-tail1
   complete-string S.SecondF0 = more {b = 0x90} (second-F0 tt) from-tail2
+  complete-string S.SecondF1 = more {b = 0x80} (second-F1 tt) from-tail2
   complete-string S.SecondF4 = more {b = 0x80} (second-F4 tt) from-tail2
+  complete-string S.Tail2 = from-tail2
+  complete-string S.Tail1 = from-tail1
 
 module _ (𝕄 : Meaning) where
   open Meaning 𝕄 using (Result, InObject, of-word, string-char, of-string, number-byte, of-number, array-element, of-array, object-key, object-value, of-object)

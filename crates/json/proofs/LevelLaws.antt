@@ -124,13 +124,16 @@ stringScan S.Low1 n = in-string n
 stringScan S.Low2 n = in-string n
 stringScan S.Low3 n = in-string n
 stringScan S.Low4 n = in-string n
-stringScan S.Tail1 n = in-string n
-stringScan S.Tail2 n = in-string n
-stringScan S.Tail3 n = in-string n
+stringScan S.SecondC2 n = in-string n
 stringScan S.SecondE0 n = in-string n
+stringScan S.SecondE1 n = in-string n
 stringScan S.SecondED n = in-string n
+stringScan S.SecondEE n = in-string n
 stringScan S.SecondF0 n = in-string n
+stringScan S.SecondF1 n = in-string n
 stringScan S.SecondF4 n = in-string n
+stringScan S.Tail2 n = in-string n
+stringScan S.Tail1 n = in-string n
 
 above-in-string : (n lo hi b : ℕ) → 0x80 ≤ lo → T (within lo hi b) → scanByte (in-string n) b ≡ in-string n
 above-in-string n lo hi b p h = let l = low-of-within lo hi b h in in-string-stays n b (λ e. omega arith) (λ e. omega arith)
@@ -165,11 +168,13 @@ goes-in-string d String.lead-F0 = refl
 goes-in-string d (String.lead-F1 {b} h) = above-in-string d 0xF1 0xF3 b (omega arith) h
 goes-in-string d String.lead-F4 = refl
 goes-in-string d (String.second-E0 {b} h) = above-in-string d 0xA0 0xBF b (omega arith) h
+goes-in-string d (String.second-E1 {b} h) = above-in-string d 0x80 0xBF b (omega arith) h
 goes-in-string d (String.second-ED {b} h) = above-in-string d 0x80 0x9F b (omega arith) h
+goes-in-string d (String.second-EE {b} h) = above-in-string d 0x80 0xBF b (omega arith) h
 goes-in-string d (String.second-F0 {b} h) = above-in-string d 0x90 0xBF b (omega arith) h
+goes-in-string d (String.second-F1 {b} h) = above-in-string d 0x80 0xBF b (omega arith) h
 goes-in-string d (String.second-F4 {b} h) = above-in-string d 0x80 0x8F b (omega arith) h
 goes-in-string d (String.tail-2 {b} h) = above-in-string d 0x80 0xBF b (omega arith) h
-goes-in-string d (String.tail-3 {b} h) = above-in-string d 0x80 0xBF b (omega arith) h
 goes-in-string d String.letter-u = refl
 goes-in-string d (String.digit-1 {b} h e) = hex-in-string d b h
 goes-in-string d (String.digit-1D {b} e) = hex-in-string d b (omega arith)
@@ -191,6 +196,7 @@ ends-in-string d (String.plain {b} h) = unescaped-in-string d b h
 ends-in-string d (String.after-backslash x) = refl
 ends-in-string d (String.digit-4 {b} h) = hex-in-string d b h
 ends-in-string d (String.low-4 {b} h) = hex-in-string d b h
+ends-in-string d (String.second-C2 {b} h) = above-in-string d 0x80 0xBF b (omega arith) h
 ends-in-string d (String.tail-1 {b} h) = above-in-string d 0x80 0xBF b (omega arith) h
 
 string-levels : (m : StringMode) (n : ℕ) → levelsOf (stringScan m n) ≡ n
@@ -210,13 +216,16 @@ string-levels S.Low1 n = refl
 string-levels S.Low2 n = refl
 string-levels S.Low3 n = refl
 string-levels S.Low4 n = refl
-string-levels S.Tail1 n = refl
-string-levels S.Tail2 n = refl
-string-levels S.Tail3 n = refl
+string-levels S.SecondC2 n = refl
 string-levels S.SecondE0 n = refl
+string-levels S.SecondE1 n = refl
 string-levels S.SecondED n = refl
+string-levels S.SecondEE n = refl
 string-levels S.SecondF0 n = refl
+string-levels S.SecondF1 n = refl
 string-levels S.SecondF4 n = refl
+string-levels S.Tail2 n = refl
+string-levels S.Tail1 n = refl
 
 -- ---- the machine
 

@@ -3,6 +3,7 @@ pub mod ByteLaws
 pub mod NumberLaws
 pub mod StringLaws
 pub mod CharLaws
+pub mod RowLaws
 pub mod Accepted
 pub mod Phrases
 pub mod ProperLaws

@@ -87,20 +87,22 @@ hex-of-lt b h = hex-of-view (hex-view b) h
 -- the byte leads from the first mode to the second
 pub data Goes : StringMode → ℕ → StringMode → Type 0 where
   backslash : Goes S.Char 0x5C S.Escape
-  lead-C2 : {b : ℕ} → T (within 0xC2 0xDF b) → Goes S.Char b S.Tail1
+  lead-C2 : {b : ℕ} → T (within 0xC2 0xDF b) → Goes S.Char b S.SecondC2
   lead-E0 : Goes S.Char 0xE0 S.SecondE0
-  lead-E1 : {b : ℕ} → T (within 0xE1 0xEC b) → Goes S.Char b S.Tail2
+  lead-E1 : {b : ℕ} → T (within 0xE1 0xEC b) → Goes S.Char b S.SecondE1
   lead-ED : Goes S.Char 0xED S.SecondED
-  lead-EE : {b : ℕ} → T (within 0xEE 0xEF b) → Goes S.Char b S.Tail2
+  lead-EE : {b : ℕ} → T (within 0xEE 0xEF b) → Goes S.Char b S.SecondEE
   lead-F0 : Goes S.Char 0xF0 S.SecondF0
-  lead-F1 : {b : ℕ} → T (within 0xF1 0xF3 b) → Goes S.Char b S.Tail3
+  lead-F1 : {b : ℕ} → T (within 0xF1 0xF3 b) → Goes S.Char b S.SecondF1
   lead-F4 : Goes S.Char 0xF4 S.SecondF4
   second-E0 : {b : ℕ} → T (within 0xA0 0xBF b) → Goes S.SecondE0 b S.Tail1
+  second-E1 : {b : ℕ} → T (isTail b) → Goes S.SecondE1 b S.Tail1
   second-ED : {b : ℕ} → T (within 0x80 0x9F b) → Goes S.SecondED b S.Tail1
+  second-EE : {b : ℕ} → T (isTail b) → Goes S.SecondEE b S.Tail1
   second-F0 : {b : ℕ} → T (within 0x90 0xBF b) → Goes S.SecondF0 b S.Tail2
+  second-F1 : {b : ℕ} → T (isTail b) → Goes S.SecondF1 b S.Tail2
   second-F4 : {b : ℕ} → T (within 0x80 0x8F b) → Goes S.SecondF4 b S.Tail2
   tail-2 : {b : ℕ} → T (isTail b) → Goes S.Tail2 b S.Tail1
-  tail-3 : {b : ℕ} → T (isTail b) → Goes S.Tail3 b S.Tail2
   letter-u : Goes S.Escape 0x75 S.Unit1
   digit-1 : {b : ℕ} → hexOf b < 16 → (hexOf b ≡ 13 → ⊥) → Goes S.Unit1 b S.Unit2
   digit-1D : {b : ℕ} → hexOf b ≡ 13 → Goes S.Unit1 b S.UnitD
@@ -122,6 +124,7 @@ pub data Ends : StringMode → ℕ → Type 0 where
   after-backslash : {b : ℕ} → Escaped b (unescape b) → Ends S.Escape b
   digit-4 : {b : ℕ} → hexOf b < 16 → Ends S.Unit4 b
   low-4 : {b : ℕ} → hexOf b < 16 → Ends S.Low4 b
+  second-C2 : {b : ℕ} → T (isTail b) → Ends S.SecondC2 b
   tail-1 : {b : ℕ} → T (isTail b) → Ends S.Tail1 b
 
 -- ---- stringMove goes on where a character does, and ends it at its last byte
@@ -130,7 +133,8 @@ hex-move : (b : ℕ) (m : StringMove) → hexOf b < 16 → anyHex (hexOf b) m �
 unfolding anyHex
 hex-move b m h = rw (lt-ltb (hexOf b) 16 h)
 
-ranged-move : (lo hi b : ℕ) (m : StringMove) → T (within lo hi b) → ranged lo hi b m ≡ m
+-- a byte of a range makes its move
+pub ranged-move : (lo hi b : ℕ) (m : StringMove) → T (within lo hi b) → ranged lo hi b m ≡ m
 unfolding ranged
 ranged-move lo hi b m h = simp (le-ltb b lo (low-of-within lo hi b h), le-ltb hi b (high-of-within lo hi b h))
 
@@ -148,16 +152,18 @@ move-of-goes (lead-C2 {b} h) = rw (lead-class C.LeadC2 0xC2 0xDF b refl h)
 move-of-goes lead-E0 = refl
 move-of-goes (lead-E1 {b} h) = rw (lead-class C.LeadE1 0xE1 0xEC b refl h)
 move-of-goes lead-ED = refl
-move-of-goes (lead-EE {b} h) = rw (lead-class C.LeadE1 0xEE 0xEF b refl h)
+move-of-goes (lead-EE {b} h) = rw (lead-class C.LeadEE 0xEE 0xEF b refl h)
 move-of-goes lead-F0 = refl
 move-of-goes (lead-F1 {b} h) = rw (lead-class C.LeadF1 0xF1 0xF3 b refl h)
 move-of-goes lead-F4 = refl
 move-of-goes (second-E0 {b} h) = ranged-move 0xA0 0xBF b _ h
+move-of-goes (second-E1 {b} h) = ranged-move 0x80 0xBF b _ h
 move-of-goes (second-ED {b} h) = ranged-move 0x80 0x9F b _ h
+move-of-goes (second-EE {b} h) = ranged-move 0x80 0xBF b _ h
 move-of-goes (second-F0 {b} h) = ranged-move 0x90 0xBF b _ h
+move-of-goes (second-F1 {b} h) = ranged-move 0x80 0xBF b _ h
 move-of-goes (second-F4 {b} h) = ranged-move 0x80 0x8F b _ h
 move-of-goes (tail-2 {b} h) = ranged-move 0x80 0xBF b _ h
-move-of-goes (tail-3 {b} h) = ranged-move 0x80 0xBF b _ h
 move-of-goes letter-u = refl
 move-of-goes (digit-1 {b} h n) = rw (ne-eqb (hexOf b) 13 n) (hex-move b _ h)
 move-of-goes (digit-1D {b} e) = rw (eq-eqb (hexOf b) 13 e)
@@ -186,7 +192,7 @@ char-of-test (SM.Go m) h = absurd h
 char-of-test SM.Char h = refl
 char-of-test SM.Close h = absurd h
 
-lt-of-unescaped : (b : ℕ) → T (isUnescaped b) → b < 128
+pub lt-of-unescaped : (b : ℕ) → T (isUnescaped b) → b < 128
 unfolding isUnescaped
 lt-of-unescaped b =
     T-or-elim (within 0x20 0x21 b || within 0x23 0x5B b) (within 0x5D 0x7F b)
@@ -225,6 +231,7 @@ move-of-ends (plain {b} h) = plain-move b h
 move-of-ends (after-backslash x) = escaped-move x
 move-of-ends (digit-4 {b} h) = hex-move b _ h
 move-of-ends (low-4 {b} h) = hex-move b _ h
+move-of-ends (second-C2 {b} h) = ranged-move 0x80 0xBF b _ h
 move-of-ends (tail-1 {b} h) = ranged-move 0x80 0xBF b _ h
 
 -- ---- no byte moves otherwise: a fault, the closing quotation mark, a byte that goes on, or the last byte of a character
@@ -336,6 +343,14 @@ ranged-moved {m} lo hi b f =
     cond-elim (Moved m b) (ltb b lo) (λ _. moved-fault) (λ l.
     cond-elim (Moved m b) (ltb hi b) (λ _. moved-fault) (λ h. f (within-of-le lo hi b (nltb→le b lo l) (nltb→le hi b h))))
 
+-- a byte that is no fault in a range is of it
+pub within-of-ranged : (lo hi b : ℕ) (k : StringMove) → (ranged lo hi b k ≡ SM.Fault → ⊥) → T (within lo hi b)
+unfolding ranged
+within-of-ranged lo hi b k =
+    let P : StringMove → Type 0 = λ k. (k ≡ SM.Fault → ⊥) → T (within lo hi b) in
+    cond-elim P (ltb b lo) (λ _ n. absurd (n refl)) (λ l.
+    cond-elim P (ltb hi b) (λ _ n. absurd (n refl)) (λ h n. within-of-le lo hi b (nltb→le b lo l) (nltb→le hi b h)))
+
 pub moved : (m : StringMode) (b : ℕ) → Moved m b (stringMove m b)
 unfolding unit1 unitD low1 low2 only
 moved S.Char b = char-moved b
@@ -358,10 +373,13 @@ moved S.Low2 b =
     cond-elim (Moved S.Low2 b) (ltb (hexOf b) 12) (λ _. moved-fault) (λ l. hex-moved b (λ h. moved-go (low-2 (nltb→le (hexOf b) 12 l) h)))
 moved S.Low3 b = hex-moved b (λ h. moved-go (low-3 h))
 moved S.Low4 b = hex-moved b (λ h. moved-char (low-4 h))
-moved S.Tail1 b = ranged-moved 0x80 0xBF b (λ h. moved-char (tail-1 h))
-moved S.Tail2 b = ranged-moved 0x80 0xBF b (λ h. moved-go (tail-2 h))
-moved S.Tail3 b = ranged-moved 0x80 0xBF b (λ h. moved-go (tail-3 h))
+moved S.SecondC2 b = ranged-moved 0x80 0xBF b (λ h. moved-char (second-C2 h))
 moved S.SecondE0 b = ranged-moved 0xA0 0xBF b (λ h. moved-go (second-E0 h))
+moved S.SecondE1 b = ranged-moved 0x80 0xBF b (λ h. moved-go (second-E1 h))
 moved S.SecondED b = ranged-moved 0x80 0x9F b (λ h. moved-go (second-ED h))
+moved S.SecondEE b = ranged-moved 0x80 0xBF b (λ h. moved-go (second-EE h))
 moved S.SecondF0 b = ranged-moved 0x90 0xBF b (λ h. moved-go (second-F0 h))
+moved S.SecondF1 b = ranged-moved 0x80 0xBF b (λ h. moved-go (second-F1 h))
 moved S.SecondF4 b = ranged-moved 0x80 0x8F b (λ h. moved-go (second-F4 h))
+moved S.Tail2 b = ranged-moved 0x80 0xBF b (λ h. moved-go (tail-2 h))
+moved S.Tail1 b = ranged-moved 0x80 0xBF b (λ h. moved-char (tail-1 h))

@@ -5,7 +5,7 @@ use Prim.Native.Nat.{ℕ}
 use lib.Dec.{eqb, ltb}
 use Rattle.json.specs.Bytes.{within}
 use Rattle.json.specs.declared.class.Class.{Class}
-use Rattle.json.specs.declared.class.Class.the-variants.{Control, Break, Space, Quote, Backslash, Structure, Digit, Other, Tail, LeadC2, LeadE0, LeadE1, LeadED, LeadF0, LeadF1, LeadF4, Never}
+use Rattle.json.specs.declared.class.Class.the-variants.{Control, Break, Space, Quote, Backslash, Structure, Digit, Other, Tail, LeadC2, LeadE0, LeadE1, LeadED, LeadEE, LeadF0, LeadF1, LeadF4, Never}
 
 -- tab, line feed, carriage return
 unfoldable pub isBreak : ℕ → Bool
@@ -23,7 +23,7 @@ highClass b =
     (cond (eqb b 0xE0) LeadE0
     (cond (within 0xE1 0xEC b) LeadE1
     (cond (eqb b 0xED) LeadED
-    (cond (within 0xEE 0xEF b) LeadE1
+    (cond (within 0xEE 0xEF b) LeadEE
     (cond (eqb b 0xF0) LeadF0
     (cond (within 0xF1 0xF3 b) LeadF1
     (cond (eqb b 0xF4) LeadF4 Never))))))))
@@ -55,6 +55,7 @@ classNumber LeadC2 = 10
 classNumber LeadE0 = 11
 classNumber LeadE1 = 12
 classNumber LeadED = 13
-classNumber LeadF0 = 14
-classNumber LeadF1 = 15
-classNumber LeadF4 = 16
+classNumber LeadEE = 14
+classNumber LeadF0 = 15
+classNumber LeadF1 = 16
+classNumber LeadF4 = 17

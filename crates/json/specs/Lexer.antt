@@ -46,12 +46,13 @@ charStart C.Structure = SM.Char
 charStart C.Digit = SM.Char
 charStart C.Other = SM.Char
 charStart C.Tail = SM.Fault
-charStart C.LeadC2 = SM.Go S.Tail1
+charStart C.LeadC2 = SM.Go S.SecondC2
 charStart C.LeadE0 = SM.Go S.SecondE0
-charStart C.LeadE1 = SM.Go S.Tail2
+charStart C.LeadE1 = SM.Go S.SecondE1
 charStart C.LeadED = SM.Go S.SecondED
+charStart C.LeadEE = SM.Go S.SecondEE
 charStart C.LeadF0 = SM.Go S.SecondF0
-charStart C.LeadF1 = SM.Go S.Tail3
+charStart C.LeadF1 = SM.Go S.SecondF1
 charStart C.LeadF4 = SM.Go S.SecondF4
 charStart C.Never = SM.Fault
 
@@ -108,6 +109,7 @@ only x b m = cond (eqb b x) m SM.Fault
 unfoldable pub ranged : ℕ → ℕ → ℕ → StringMove → StringMove
 ranged lo hi b m = cond (ltb b lo) SM.Fault (cond (ltb hi b) SM.Fault m)
 
+-- what a byte does inside a string; the second byte of a UTF-8 sequence by the rows of RFC 3629, section 4
 abbrev pub stringMove : StringMode → ℕ → StringMove
 stringMove S.Char b = charStart (classOf b)
 stringMove S.Escape b = escapeMove b
@@ -124,13 +126,16 @@ stringMove S.Low1 b = low1 (hexOf b)
 stringMove S.Low2 b = low2 (hexOf b)
 stringMove S.Low3 b = anyHex (hexOf b) (SM.Go S.Low4)
 stringMove S.Low4 b = anyHex (hexOf b) SM.Char
-stringMove S.Tail1 b = ranged 0x80 0xBF b SM.Char
-stringMove S.Tail2 b = ranged 0x80 0xBF b (SM.Go S.Tail1)
-stringMove S.Tail3 b = ranged 0x80 0xBF b (SM.Go S.Tail2)
+stringMove S.SecondC2 b = ranged 0x80 0xBF b SM.Char
 stringMove S.SecondE0 b = ranged 0xA0 0xBF b (SM.Go S.Tail1)
+stringMove S.SecondE1 b = ranged 0x80 0xBF b (SM.Go S.Tail1)
 stringMove S.SecondED b = ranged 0x80 0x9F b (SM.Go S.Tail1)
+stringMove S.SecondEE b = ranged 0x80 0xBF b (SM.Go S.Tail1)
 stringMove S.SecondF0 b = ranged 0x90 0xBF b (SM.Go S.Tail2)
+stringMove S.SecondF1 b = ranged 0x80 0xBF b (SM.Go S.Tail2)
 stringMove S.SecondF4 b = ranged 0x80 0x8F b (SM.Go S.Tail2)
+stringMove S.Tail2 b = ranged 0x80 0xBF b (SM.Go S.Tail1)
+stringMove S.Tail1 b = ranged 0x80 0xBF b SM.Char
 
 -- ---- the number of a character, gathered in two registers: its bits so far, and the first half of a surrogate pair. Both stay small
 -- whatever they begin with
@@ -168,13 +173,16 @@ bitsAfter S.Low1 bits b = hexOf b
 bitsAfter S.Low2 bits b = hexBits bits (hexOf b)
 bitsAfter S.Low3 bits b = hexBits bits (hexOf b)
 bitsAfter S.Low4 bits b = hexBits bits (hexOf b)
-bitsAfter S.Tail1 bits b = tailBits bits b
-bitsAfter S.Tail2 bits b = tailBits bits b
-bitsAfter S.Tail3 bits b = tailBits bits b
+bitsAfter S.SecondC2 bits b = tailBits bits b
 bitsAfter S.SecondE0 bits b = tailBits bits b
+bitsAfter S.SecondE1 bits b = tailBits bits b
 bitsAfter S.SecondED bits b = tailBits bits b
+bitsAfter S.SecondEE bits b = tailBits bits b
 bitsAfter S.SecondF0 bits b = tailBits bits b
+bitsAfter S.SecondF1 bits b = tailBits bits b
 bitsAfter S.SecondF4 bits b = tailBits bits b
+bitsAfter S.Tail2 bits b = tailBits bits b
+bitsAfter S.Tail1 bits b = tailBits bits b
 
 -- the high surrogate after a byte
 abbrev pub highAfter : StringMode → ℕ → ℕ → ℕ → ℕ
@@ -193,13 +201,16 @@ highAfter S.Low1 bits high b = high
 highAfter S.Low2 bits high b = high
 highAfter S.Low3 bits high b = high
 highAfter S.Low4 bits high b = high
-highAfter S.Tail1 bits high b = high
-highAfter S.Tail2 bits high b = high
-highAfter S.Tail3 bits high b = high
+highAfter S.SecondC2 bits high b = high
 highAfter S.SecondE0 bits high b = high
+highAfter S.SecondE1 bits high b = high
 highAfter S.SecondED bits high b = high
+highAfter S.SecondEE bits high b = high
 highAfter S.SecondF0 bits high b = high
+highAfter S.SecondF1 bits high b = high
 highAfter S.SecondF4 bits high b = high
+highAfter S.Tail2 bits high b = high
+highAfter S.Tail1 bits high b = high
 
 -- the character that a byte finishes; 0 where it finishes none
 abbrev pub charOf : StringMode → ℕ → ℕ → ℕ → ℕ
@@ -207,6 +218,7 @@ charOf S.Char bits high b = b
 charOf S.Escape bits high b = unescape b
 charOf S.Unit4 bits high b = hexBits bits (hexOf b)
 charOf S.Low4 bits high b = pairOf high (hexBits bits (hexOf b))
+charOf S.SecondC2 bits high b = tailBits bits b
 charOf S.Tail1 bits high b = tailBits bits b
 charOf S.Unit1 bits high b = 0
 charOf S.Unit2 bits high b = 0
@@ -219,12 +231,14 @@ charOf S.LowU bits high b = 0
 charOf S.Low1 bits high b = 0
 charOf S.Low2 bits high b = 0
 charOf S.Low3 bits high b = 0
-charOf S.Tail2 bits high b = 0
-charOf S.Tail3 bits high b = 0
 charOf S.SecondE0 bits high b = 0
+charOf S.SecondE1 bits high b = 0
 charOf S.SecondED bits high b = 0
+charOf S.SecondEE bits high b = 0
 charOf S.SecondF0 bits high b = 0
+charOf S.SecondF1 bits high b = 0
 charOf S.SecondF4 bits high b = 0
+charOf S.Tail2 bits high b = 0
 
 -- ---- numbers
 

@@ -3,6 +3,7 @@ pub mod Meaning
 pub mod TreeMeaning
 pub mod Bytes
 pub mod Utf8
+pub mod Rows
 pub mod Strings
 pub mod Numbers
 pub mod Grammar

@@ -19,11 +19,14 @@ pub enum Class {
     Other,
     // 80 to BF: stands after the first byte of a UTF-8 sequence
     Tail,
-    // the first byte of a UTF-8 sequence, by the rows of RFC 3629, section 4
+    // the first byte of a UTF-8 sequence, a class for each row of RFC 3629, section 4: UTF8-2, C2 to DF
     LeadC2,
+    // UTF8-3: E0; E1 to EC; ED; EE and EF
     LeadE0,
     LeadE1,
     LeadED,
+    LeadEE,
+    // UTF8-4: F0; F1 to F3; F4
     LeadF0,
     LeadF1,
     LeadF4,

@@ -21,15 +21,20 @@ pub enum StringMode {
     Low2,
     Low3,
     Low4,
-    // one, two, three more bytes of a UTF-8 sequence
-    Tail1,
-    Tail2,
-    Tail3,
-    // the second byte after a first byte that narrows it
+    // the second byte of a UTF-8 sequence, a mode for each row of RFC 3629, section 4: UTF8-2, after C2 to DF
+    SecondC2,
+    // UTF8-3: after E0; E1 to EC; ED; EE and EF
     SecondE0,
+    SecondE1,
     SecondED,
+    SecondEE,
+    // UTF8-4: after F0; F1 to F3; F4
     SecondF0,
+    SecondF1,
     SecondF4,
+    // two bytes of UTF8-tail, and one
+    Tail2,
+    Tail1,
 }
 
 // What a byte does inside a string.

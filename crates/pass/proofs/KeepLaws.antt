@@ -48,13 +48,16 @@ keeps-mode S.Low1 v e = never e
 keeps-mode S.Low2 v e = never e
 keeps-mode S.Low3 v e = never e
 keeps-mode S.Low4 v e = never e
-keeps-mode S.Tail1 v e = never e
-keeps-mode S.Tail2 v e = never e
-keeps-mode S.Tail3 v e = never e
+keeps-mode S.SecondC2 v e = never e
 keeps-mode S.SecondE0 v e = never e
+keeps-mode S.SecondE1 v e = never e
 keeps-mode S.SecondED v e = never e
+keeps-mode S.SecondEE v e = never e
 keeps-mode S.SecondF0 v e = never e
+keeps-mode S.SecondF1 v e = never e
 keeps-mode S.SecondF4 v e = never e
+keeps-mode S.Tail2 v e = never e
+keeps-mode S.Tail1 v e = never e
 
 keeps-by : (m : Mode) (x : Progress) → keepsIn m x ≡ true → (m ≡ M.Key S.Char) × (readsOn x ≡ true)
 keeps-by (M.At p) x e = never e

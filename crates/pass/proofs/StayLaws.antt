@@ -120,6 +120,7 @@ plain-char C.LeadC2 e = never e
 plain-char C.LeadE0 e = never e
 plain-char C.LeadE1 e = never e
 plain-char C.LeadED e = never e
+plain-char C.LeadEE e = never e
 plain-char C.LeadF0 e = never e
 plain-char C.LeadF1 e = never e
 plain-char C.LeadF4 e = never e
@@ -152,13 +153,16 @@ text-stays S.Low1 top b h e = never e
 text-stays S.Low2 top b h e = never e
 text-stays S.Low3 top b h e = never e
 text-stays S.Low4 top b h e = never e
-text-stays S.Tail1 top b h e = never e
-text-stays S.Tail2 top b h e = never e
-text-stays S.Tail3 top b h e = never e
+text-stays S.SecondC2 top b h e = never e
 text-stays S.SecondE0 top b h e = never e
+text-stays S.SecondE1 top b h e = never e
 text-stays S.SecondED top b h e = never e
+text-stays S.SecondEE top b h e = never e
 text-stays S.SecondF0 top b h e = never e
+text-stays S.SecondF1 top b h e = never e
 text-stays S.SecondF4 top b h e = never e
+text-stays S.Tail2 top b h e = never e
+text-stays S.Tail1 top b h e = never e
 
 -- a digit after which the mode of a number is the same
 digit-stays : (n : NumberMode) (top : Top) (b : ℕ) → isDigit b ≡ true → numberMove n b ≡ NM.Go n → StaysAs (M.Number n) top b

@@ -53,6 +53,7 @@ plainClass C.LeadC2 = false
 plainClass C.LeadE0 = false
 plainClass C.LeadE1 = false
 plainClass C.LeadED = false
+plainClass C.LeadEE = false
 plainClass C.LeadF0 = false
 plainClass C.LeadF1 = false
 plainClass C.LeadF4 = false
@@ -75,13 +76,16 @@ awaitsChar S.Low1 = false
 awaitsChar S.Low2 = false
 awaitsChar S.Low3 = false
 awaitsChar S.Low4 = false
-awaitsChar S.Tail1 = false
-awaitsChar S.Tail2 = false
-awaitsChar S.Tail3 = false
+awaitsChar S.SecondC2 = false
 awaitsChar S.SecondE0 = false
+awaitsChar S.SecondE1 = false
 awaitsChar S.SecondED = false
+awaitsChar S.SecondEE = false
 awaitsChar S.SecondF0 = false
+awaitsChar S.SecondF1 = false
 awaitsChar S.SecondF4 = false
+awaitsChar S.Tail2 = false
+awaitsChar S.Tail1 = false
 
 -- any number of digits may follow
 abbrev pub inDigits : NumberMode → Bool

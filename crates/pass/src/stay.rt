@@ -29,6 +29,7 @@ pub fn plain_class(k: Class) -> bool
         Class::LeadE0 => false,
         Class::LeadE1 => false,
         Class::LeadED => false,
+        Class::LeadEE => false,
         Class::LeadF0 => false,
         Class::LeadF1 => false,
         Class::LeadF4 => false,
@@ -56,13 +57,16 @@ pub fn awaits_char(s: StringMode) -> bool
         StringMode::Low2 => false,
         StringMode::Low3 => false,
         StringMode::Low4 => false,
-        StringMode::Tail1 => false,
-        StringMode::Tail2 => false,
-        StringMode::Tail3 => false,
+        StringMode::SecondC2 => false,
         StringMode::SecondE0 => false,
+        StringMode::SecondE1 => false,
         StringMode::SecondED => false,
+        StringMode::SecondEE => false,
         StringMode::SecondF0 => false,
+        StringMode::SecondF1 => false,
         StringMode::SecondF4 => false,
+        StringMode::Tail2 => false,
+        StringMode::Tail1 => false,
     }
 }
 

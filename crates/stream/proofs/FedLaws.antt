@@ -19,7 +19,7 @@ use Rattle.progress.specs.declared.Progress.{Progress}
 use Rattle.progress.specs.declared.Task.{Task}
 use Rattle.progress.specs.declared.Task.the-variants as To
 use Rattle.progress.specs.Act.{firstFault, levelAfter, lenAfter, taskOf}
-use Rattle.progress.specs.Progress.{counted, faulted, charIn, moved, sound, advanced}
+use Rattle.progress.specs.Progress.{counted, faulted, charIn, moved, sound, advanced, judged}
 use Rattle.progress.specs.Memory.{Mem, topAt, perform, advancedAt, stepMem, endsRecord, Ran, runMem}
 use Rattle.progress.proofs.MemoryLaws.{length-stepMem, progress-perform, fresh-of-RS}
 use Rattle.reader.specs.declared.Reader.{Reader}
@@ -31,7 +31,7 @@ use Rattle.reader.specs.Refusals.{withinReader, callGate}
 use Rattle.reader.specs.Machine.{Outcome, refusing, memoryOf, ending, going, outcome, feeding, feedOf}
 use Rattle.reader.proofs.RefusalLaws.{through-elim, reader-of-call, bounds-of-fit, fit-all}
 use Rattle.stream.specs.Lent.{levelOf, modeOf, byteFed, thenFed, inTwo}
-use Rattle.stream.proofs.ByteLaws.{Within, endsRecord-of-byte, within-of-byte}
+use Rattle.stream.proofs.ByteLaws.{Within, Moves, moves-of-byte, endsRecord-of-RS, endsRecord-of-byte, within-of-byte}
 
 -- ---- the gate
 
@@ -95,6 +95,29 @@ module _ (r : Reader) (t : Table) (w : List ℕ) (b : ℕ) where
   feeding-of-end : endsRecord (r .progress) b ≡ true → feeding r t w (b ∷ []) ≡ ending r (memoryOf r w) 1 false
   unfolding feeding runMem
   feeding-of-end e = rw e
+
+  -- an RS after at least one byte of a record gives its verdict
+  pub judged-of-RS : gateOf r t w ≡ Is.Open → eqb b 0x1E ≡ true → ltb 0 (r .progress .pos) ≡ true
+      → byteFed r t w b .answer ≡ Says.Judged (judged (r .progress) (r .root))
+  judged-of-RS g e p =
+      ap (λ (x : Outcome). x .answer) (feedOf-of-open r t w (b ∷ []) g ∙ feeding-of-end (endsRecord-of-RS (r .progress) b e ∙ p))
+
+  module _ (g : gateOf r t w ≡ Is.Open) (e : eqb b 0x1E ≡ false) where
+    -- another byte gives no verdict, and this is what is known of the record after it
+    pub fed-of-other : byteFed r t w b ≡ going r (stepMem t (r .frames) (memoryOf r w) b) 1
+    fed-of-other = feedOf-of-open r t w (b ∷ []) g ∙ feeding-of-byte (endsRecord-of-byte (r .progress) b e)
+
+    pub quiet-of-other : byteFed r t w b .answer ≡ Says.Quiet
+    quiet-of-other = ap (λ (x : Outcome). x .answer) fed-of-other
+
+    pub progress-of-other : byteFed r t w b .reader .progress ≡ advanced (r .progress) (r .frames) b (stepAt r w b) .progress
+    unfolding stepMem
+    progress-of-other =
+        ap (λ (x : Outcome). x .reader .progress) fed-of-other
+        ∙ progress-perform (advancedAt (r .frames) (memoryOf r w) b .task) t (memoryOf r w) (advancedAt (r .frames) (memoryOf r w) b .progress)
+
+    pub moves-of-other : Moves (r .frames) (r .progress) (byteFed r t w b .reader .progress)
+    moves-of-other = rw fed-of-other (moves-of-byte t (r .frames) (memoryOf r w) b e)
 
   -- a sound byte does its task
   pub fed-of-sound : IsSound r t w b → byteFed r t w b ≡ done r t w b (stepAt r w b)
@@ -244,3 +267,8 @@ module _ (r : Reader) (t : Table) (w : List ℕ) where
         by-gate : (a : Gate) → gateOf r t w ≡ a → feedOf r t w (b ∷ s) ≡ inTwo t (byteFed r t w b) s
         by-gate Is.Open g = by-end g (endsRecord (r .progress) b) refl
         by-gate (Is.Shut k) g = rw (feedOf-of-shut r t w (b ∷ s) k g, feedOf-of-shut r t w (b ∷ []) k g)
+
+-- after a byte other than RS the reader is let in again
+pub open-of-other : (r : Reader) (t : Table) (w : List ℕ) (b : ℕ) → gateOf r t w ≡ Is.Open → eqb b 0x1E ≡ false
+    → gateOf (byteFed r t w b .reader) t (byteFed r t w b .work) ≡ Is.Open
+open-of-other r t w b g e = rw (fed-of-other r t w b g e) (open-again r t w b [] g)

@@ -16,5 +16,6 @@ pub mod NumberLaws
 pub mod ValueLaws
 pub mod SoundLaws
 pub mod LentLaws
+pub mod PairLaws
 pub mod LentExamples
 pub mod Examples

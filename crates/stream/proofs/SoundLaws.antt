@@ -33,6 +33,7 @@ use Rattle.progress.specs.Memory.{topAt, valueAt, perform}
 use Rattle.progress.specs.Act.{scalarOf}
 use Rattle.progress.proofs.ActLaws.{levelAfter-le}
 use Rattle.reader.specs.declared.Reader.{Reader}
+use Rattle.reader.specs.declared.Gate.the-variants as Gate
 use Rattle.reader.specs.Machine.{Outcome, memoryOf, closing, closeOf}
 use Rattle.reader.specs.Refusals.{withinReader}
 use Rattle.reader.proofs.RefusalLaws.{room-of-call, through-elim}
@@ -73,6 +74,12 @@ not-faulty r t w h f =
     through-elim (λ (o : Outcome). saysFaulty (o .answer) ≡ false) (gateOf r t w) (λ k _. refl)
     (λ _. cond-elim (λ (o : Outcome). saysFaulty (o .answer) ≡ false) (ltb 0 (r .progress .pos))
     (λ _. judged-not-faulty (r .progress) (r .root) h f) (λ _. refl))
+
+-- a close tells of the fault of a malformed record of which a byte is read
+pub faulty-of-malformed : (r : Reader) (t : Table) (w : List ℕ) → gateOf r t w ≡ Gate.Open → ltb 0 (r .progress .pos) ≡ true → r .progress .head ≡ false
+    → r .progress .fault ≡ F.Malformed → faultyIn r t w ≡ true
+unfolding closeOf closing judged
+faulty-of-malformed r t w g p h f = rw (g, p, h, f)
 
 -- ---- a sound byte
 

@@ -163,7 +163,7 @@ kind-iff-read : {x : Decimal} {q : Read} → CountsOf x q → (numberKind x ≡ 
 kind-iff-read {x} (counts-of {k} h) = rw (true-of-T (mayEnd k) h) (kind-iff x)
 
 -- a call that says nothing of an empty piece is let in
-open-of-quiet : (r : Reader) (t : Table) (w : List ℕ) → feedOf r t w [] .answer ≡ Says.Quiet → gateOf r t w ≡ Is.Open
+pub open-of-quiet : (r : Reader) (t : Table) (w : List ℕ) → feedOf r t w [] .answer ≡ Says.Quiet → gateOf r t w ≡ Is.Open
 open-of-quiet r t w e = go (gateOf r t w) refl
   where
     go : (g : Gate) → gateOf r t w ≡ g → gateOf r t w ≡ Is.Open

@@ -23,4 +23,5 @@ class-for-spec =
     (λ c. simp (c .match .keys14))
     (λ c. simp (c .match .keys15))
     (λ c. simp (c .match .keys16))
+    (λ c. simp (c .match .keys17))
     (λ c. search tests))

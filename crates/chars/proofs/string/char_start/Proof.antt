@@ -7,7 +7,7 @@ pub char-start-spec : {M : Type 1} → statement M
 char-start-spec =
     tie.close
     (tie.spec (λ c. search needs) (λ c. search needs) (λ c. search needs) (λ c. search needs) (λ c. search needs) (λ c. search needs)
-    (λ c. search needs) (λ c. search needs) (λ c. search needs) (λ c. search needs) (λ c. search needs) (λ c. search needs)
+    (λ c. search needs) (λ c. search needs) (λ c. search needs) (λ c. search needs) (λ c. search needs) (λ c. search needs) (λ c. search needs)
     (λ c. search needs) (λ c. search needs) (λ c. search needs) (λ c. search needs) (λ c. search needs)
     (λ c. simp (c .enum-told .given .1))
     (λ c. simp (c .enum-told2 .given .1))
@@ -25,4 +25,5 @@ char-start-spec =
     (λ c. simp (c .enum-told14 .given .1))
     (λ c. simp (c .enum-told15 .given .1))
     (λ c. simp (c .enum-told16 .given .1))
-    (λ c. simp (c .enum-told17 .given .1)))
+    (λ c. simp (c .enum-told17 .given .1))
+    (λ c. simp (c .enum-told18 .given .1)))

@@ -7,9 +7,9 @@ pub high-after-spec : {M : Type 1} → statement M
 high-after-spec =
     tie.close
     (tie.spec (λ c. search needs) (λ c κs. search needs) (λ c κs. search needs) (λ c. search needs) (λ c. search needs) (λ c. search needs)
-    (λ c. search needs) (λ c. search needs) (λ c. search needs) (λ c. search needs) (λ c. search needs) (λ c. search needs)
-    (λ c. search needs) (λ c. search needs) (λ c. search needs) (λ c. search needs) (λ c. search needs) (λ c. search needs)
-    (λ c. search needs) (λ c. search needs) (λ c. search needs) (λ c. search needs) (λ c. search needs) (λ c. search needs)
+    (λ c. search needs) (λ c. search needs) (λ c. search needs) (λ c. search needs) (λ c. search needs) (λ c. search needs) (λ c. search needs)
+    (λ c. search needs) (λ c. search needs) (λ c. search needs) (λ c. search needs) (λ c. search needs) (λ c. search needs) (λ c. search needs)
+    (λ c. search needs) (λ c. search needs) (λ c. search needs) (λ c. search needs) (λ c. search needs) (λ c. search needs) (λ c. search needs)
     (λ c. simp (c .before .before .enum-told .given .1, c .before .hex-of .ensures, c .hex-bits .ensures))
     (λ c. simp (c .enum-told2 .given .1))
     (λ c. simp (c .enum-told3 .given .1))
@@ -31,4 +31,7 @@ high-after-spec =
     (λ c. simp (c .enum-told19 .given .1))
     (λ c. simp (c .enum-told20 .given .1))
     (λ c. simp (c .enum-told21 .given .1))
-    (λ c. simp (c .enum-told22 .given .1)))
+    (λ c. simp (c .enum-told22 .given .1))
+    (λ c. simp (c .enum-told23 .given .1))
+    (λ c. simp (c .enum-told24 .given .1))
+    (λ c. simp (c .enum-told25 .given .1)))

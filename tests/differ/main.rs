@@ -12,6 +12,7 @@ mod make_book;
 mod make_number;
 mod make_record;
 mod number;
+mod pairs;
 mod plant;
 mod program;
 mod rng;
@@ -66,7 +67,11 @@ fn main() {
     println!("seed {}", options.seed);
     let watched = program.folder.clone();
     thread::spawn(move || watch(watched));
-    let good = if options.plants { plants(&options, &program) } else { compare_all(&options, &program) };
+    let good = if options.plants {
+        plants(&options, &program)
+    } else {
+        (options.only.is_some() || pairs::hold()) & compare_all(&options, &program)
+    };
     program::remove(&program.folder);
     exit(if good { 0 } else { 1 });
 }
@@ -285,8 +290,14 @@ fn plants(options: &Options, program: &Program) -> bool {
     for &(plant, words) in plant::ALL {
         plant::set(plant);
         NOW.fetch_add(1, Ordering::Relaxed);
-        match kept.iter().position(if plant::of_library(plant) { differs_again } else { differs }) {
-            Some(at) => println!("found after {:>5} trials: {words}", at + 1),
+        let found = if plant::of_pairs(plant) {
+            pairs::differs().then_some(0)
+        } else {
+            kept.iter().position(if plant::of_library(plant) { differs_again } else { differs }).map(|at| at + 1)
+        };
+        match found {
+            Some(0) => println!("found among all pairs:    {words}"),
+            Some(trials) => println!("found after {trials:>5} trials: {words}"),
             None => {
                 missed += 1;
                 println!("NOT FOUND: {words}");

@@ -29,6 +29,7 @@ plants! {
     NoFirstBlanks: "blanks before the first value refused",
     FormFeed: "form feed taken as a blank",
     ByteOrderMark: "a byte order mark skipped",
+    LeadC1: "C1 80 accepted",
     LongE0: "E0 80 accepted",
     SurrogateBytes: "ED A0 accepted",
     LongF0: "F0 80 accepted",
@@ -150,6 +151,10 @@ plants! {
     TableForm: "a form above 2 counts as arr",
     TableNoKey: "an edge of no key fits an unknown key",
     TableLength: "a key has at most 32 bytes, whatever its length says",
+    PairC1: "a decoder that takes C1 80",
+    PairE0: "a decoder that takes E0 9F",
+    PairED: "a decoder that takes ED A0",
+    PairF4: "a decoder that takes F4 90",
     WorkBefore: "library: the byte before the work buffer written",
     OutBehind: "library: the byte after out written",
     BookWritten: "library: the book written",
@@ -162,6 +167,11 @@ plants! {
 /// True for the faults that are planted in the calls of the library, not in the paper.
 pub fn of_library(plant: Plant) -> bool {
     plant as u32 >= Plant::WorkBefore as u32
+}
+
+/// Faults of what all pairs are held against.
+pub fn of_pairs(plant: Plant) -> bool {
+    matches!(plant, Plant::PairC1 | Plant::PairE0 | Plant::PairED | Plant::PairF4)
 }
 
 pub fn set(plant: Plant) {

@@ -208,10 +208,12 @@ impl<'a> Text<'a> {
     /// RFC 3629, 4: a character of two to four bytes; the second byte's bounds hang on the first.
     fn many(&mut self, text: &mut Vec<u8>) -> Step<()> {
         let (low, high, behind) = match self.need()? {
+            0xC1 if on(Plant::LeadC1) => (0x80, 0xBF, 0),
             0xC2..=0xDF => (0x80, 0xBF, 0),
             0xE0 => (if on(Plant::LongE0) { 0x80 } else { 0xA0 }, 0xBF, 1),
+            0xE1..=0xEC => (0x80, 0xBF, 1),
             0xED => (0x80, if on(Plant::SurrogateBytes) { 0xBF } else { 0x9F }, 1),
-            0xE1..=0xEF => (0x80, 0xBF, 1),
+            0xEE..=0xEF => (0x80, 0xBF, 1),
             0xF0 => (if on(Plant::LongF0) { 0x80 } else { 0x90 }, 0xBF, 2),
             0xF1..=0xF3 => (0x80, 0xBF, 2),
             0xF4 => (0x80, if on(Plant::HighF4) { 0xBF } else { 0x8F }, 2),

@@ -111,6 +111,14 @@ elif python3 docs/stated.py; then
 else
     bad 'docs/STATED.md: the list, the heads of specs/ and docs/CLAIMS.md do not agree'
 fi
+if ! command -v python3 >/dev/null 2>&1; then
+    echo 'skipped docs/UTF8.md: python3 is not installed'
+    skipped=$((skipped + 1))
+elif python3 docs/utf8.py; then
+    passed=$((passed + 1))
+else
+    bad 'docs/UTF8.md: its rows are not those of the code'
+fi
 for stray in "$work"/blocks/*.stray; do
     [ ! -e "$stray" ] || bad "$(cat -- "$stray")"
 done

@@ -24,7 +24,7 @@ fn begins(bytes: &[u8]) -> bool {
     }
 }
 
-/// True where some character begins with the two bytes, planted faults aside.
+/// True where some character begins with the two bytes, or where a planted fault says so of them.
 fn permitted(first: u8, second: u8) -> bool {
     let planted = [
         (Plant::PairC1, (0xC1, 0x80)),

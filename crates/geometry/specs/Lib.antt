@@ -1,0 +1,3 @@
+pub mod Plane
+pub mod Tests
+pub mod Kinds

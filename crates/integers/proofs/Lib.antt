@@ -1,0 +1,3 @@
+pub mod BoundLaws
+pub mod RingLaws
+pub mod OrderLaws

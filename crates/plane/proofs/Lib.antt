@@ -1,0 +1,4 @@
+pub mod WithinLaws
+pub mod SideLaws
+pub mod ScanLaws
+pub mod Examples

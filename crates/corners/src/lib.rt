@@ -1,0 +1,1 @@
+// This crate has definitions and laws only: see specs/ and proofs/.

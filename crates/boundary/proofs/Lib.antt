@@ -1,0 +1,12 @@
+pub mod StretchLaws
+pub mod BookLaws
+pub mod TrackLaws
+pub mod MemoryLaws
+pub mod FoundLaws
+pub mod FilledLaws
+pub mod WalkLaws
+pub mod StepLaws
+pub mod EndLaws
+pub mod CallLaws
+pub mod PointLaws
+pub mod AnswerLaws

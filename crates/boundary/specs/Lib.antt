@@ -1,0 +1,5 @@
+pub mod Boundary
+pub mod Exact
+pub mod Walk
+pub mod Steps
+pub mod Calls

@@ -40,6 +40,24 @@ size_t fieldtext_judge_table(const uint8_t *table, const uint8_t *stream, size_t
 size_t fieldtext_judge(const uint8_t *book, size_t book_length, const uint8_t *stream, size_t stream_length, size_t size,
                        uint8_t *work, size_t work_length, uint8_t *out, size_t out_length);
 
+/* The numbers of corners: 1,024 corners of two numbers each. */
+#define FIELDTEXT_CORNERS 2048
+
+#define FIELDTEXT_OUTSIDE 0
+#define FIELDTEXT_INSIDE 1
+#define FIELDTEXT_EDGE 2
+
+/* Judges the text by book B, takes its corners, and says where the point (x, y) lies: FIELDTEXT_OUTSIDE, FIELDTEXT_INSIDE or
+   FIELDTEXT_EDGE, with the number of the nearest corner in *nearest; or the refusal 31, 32 or 33, with *nearest 0. table
+   (FIELDTEXT_TABLE bytes) and corners (FIELDTEXT_CORNERS numbers) are lent: afterwards table holds book B's table, and corners the
+   corners' numbers x, y one after the other and zeros behind them; all zeros where the text or a corner is refused (a point that is out
+   of range leaves the corners in place). */
+uint8_t fieldtext_locate(const uint8_t *text, size_t text_length, int32_t x, int32_t y, uint8_t *table, int32_t *corners, size_t *nearest);
+
+/* Reads the text alone: returns how many corners it has (3 to 1,024), or 0 with the refusal 31, 32 or 33 in *refusal (0 where it is not
+   refused). Same lent memory. */
+size_t fieldtext_corners(const uint8_t *text, size_t text_length, uint8_t *table, int32_t *corners, uint8_t *refusal);
+
 #ifdef __cplusplus
 }
 #endif

@@ -1,2 +1,4 @@
 pub mod Judge
 pub mod Shows
+pub mod Field
+pub mod Said

@@ -3,96 +3,9 @@
 # The last line is a count; exit status 1 where anything failed. Needs coreutils, awk, find and python3; with a C compiler it tries failing reads too.
 set -u
 unset CDPATH
-root=$(cd -- "$(dirname -- "$0")/.." && pwd -P) || exit 1
-work=$(mktemp -d) || exit 1
-work=$(cd -- "$work" && pwd -P)
-trap 'rm -rf -- "$work"' EXIT
-trap 'exit 130' HUP INT TERM
-export TMPDIR="$work/tmp"
-mkdir -- "$TMPDIR" "$work/user" "$work/run"
-passed=0
-failed=0
-
-ok() { passed=$((passed + 1)); }
-bad() {
-    failed=$((failed + 1))
-    printf 'FAILED %s\n' "$1"
-}
-
-# call COMMAND...: runs it, with its status, output and words for people kept
-call() {
-    timeout 120 "$@" >"$work/out" 2>"$work/err"
-    status=$?
-}
-
-# prints NAME STATUS LINE...: the last call ended so, and printed these lines and no words
-prints() {
-    name=$1
-    want=$2
-    shift 2
-    if [ $# -eq 0 ]; then : >"$work/want"; else printf '%s\n' "$@" >"$work/want"; fi
-    if [ "$status" != "$want" ]; then
-        bad "$name: exit status $status, not $want"
-        cat -- "$work/err"
-    elif ! cmp -s -- "$work/want" "$work/out"; then
-        bad "$name: other output than wanted (wanted <, got >)"
-        diff -- "$work/want" "$work/out" | head -n 10
-    elif [ -s "$work/err" ]; then
-        bad "$name: words where none are due"
-        head -n 5 -- "$work/err"
-    else
-        ok
-    fi
-}
-
-# says NAME STATUS WORDS: the last call ended so, said the words, and printed nothing
-says() {
-    if [ "$status" != "$2" ]; then
-        bad "$1: exit status $status, not $2"
-    elif [ -s "$work/out" ]; then
-        bad "$1: it printed something"
-    elif ! grep -q -F -e "$3" -- "$work/err"; then
-        bad "$1: it does not say '$3'"
-        head -n 5 -- "$work/err"
-    else
-        ok
-    fi
-}
-
-# builds_and_prints NAME STATUS LINE...: the last call ended so, printed these lines, and named each crate on standard error as it was proved
-builds_and_prints() {
-    name=$1
-    want=$2
-    shift 2
-    printf '%s\n' "$@" >"$work/want"
-    sed -n 's/^judge: proving \(crate .*\) ([0-9]* s)$/\1/p' "$work/err" >"$work/named"
-    if [ "$status" != "$want" ]; then
-        bad "$name: exit status $status, not $want"
-    elif ! cmp -s -- "$work/want" "$work/out"; then
-        bad "$name: other output than wanted (wanted <, got >)"
-        diff -- "$work/want" "$work/out" | head -n 10
-    elif [ "$(cat "$work/named")" != "$(printf 'crate 1 of 2, under\ncrate 2 of 2, judge')" ]; then
-        bad "$name: it does not name each crate that it proves"
-        head -n 5 -- "$work/err"
-    else
-        ok
-    fi
-}
-
-# same NAME A B: two files are equal
-same() {
-    if cmp -s -- "$2" "$3"; then
-        ok
-    else
-        bad "$1: outputs differ"
-        diff -- "$2" "$3" | head -n 10
-    fi
-}
-
-# tidy NAME: no temporary folder is left
-tidy() {
-    if [ -z "$(ls -A -- "$TMPDIR")" ]; then ok; else bad "$1: a temporary folder is left"; fi
-}
+wrapper=judge
+# shellcheck source=tests/calls.sh
+. "$(dirname -- "$0")/calls.sh"
 
 judge=$root/judge
 day=$root/examples/day
@@ -432,6 +345,7 @@ rm -f long
 
 mkdir -p "$work/repo/crates/judge/src" "$work/repo/crates/under/src" "$work/repo/crates/beside/src" "$work/repo/examples" "$work/rt" "$work/tools"
 cp "$judge" "$work/repo/judge"
+cp -R "$root/tools" "$work/repo/tools"
 cp -R "$day" "$work/repo/examples/day"
 printf '# names\nunder:\njudge: under io\nbeside:\n' >"$work/repo/crates.txt"
 touch -d '2020-01-01' "$work/repo/crates/judge/src/lib.rt" "$work/repo/crates/under/src/lib.rt" "$work/repo/crates/beside/src/lib.rt"
@@ -487,30 +401,7 @@ tidy 'after the builds'
 
 # ---- signals
 
-mkfifo "$work/open"
-for signal in HUP INT TERM; do
-    if python3 -c '
-import signal, subprocess, sys, time, os
-words = sys.argv[3:]
-
-def heard():
-    for name in (signal.SIGHUP, signal.SIGINT, signal.SIGTERM):
-        signal.signal(name, signal.SIG_DFL)
-
-process = subprocess.Popen(words, stdin=os.open(sys.argv[2], os.O_RDWR), stdout=subprocess.DEVNULL, preexec_fn=heard)
-for _ in range(200):
-    time.sleep(0.05)
-    if any(os.path.exists(os.path.join(os.environ["TMPDIR"], name, "run", "book.txt")) for name in os.listdir(os.environ["TMPDIR"])):
-        break
-time.sleep(0.5)
-process.send_signal(getattr(signal, "SIG" + sys.argv[1]))
-try:
-    sys.exit(0 if process.wait(timeout=10) > 128 else 1)
-except subprocess.TimeoutExpired:
-    process.kill()
-    sys.exit(1)' $signal "$work/open" "$judge" "$day/book.txt"; then ok; else bad "SIG$signal does not end it"; fi
-    tidy "after SIG$signal"
-done
+ended_by_signals book.txt "$judge" "$day/book.txt"
 
 cd / || exit 1
 echo "$passed passed, $failed failed"

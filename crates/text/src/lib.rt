@@ -5,7 +5,7 @@ ghost use Rattle.verdict.specs.Verdict.{shown};
 ghost use Rattle.text.specs.Text.{streamNames, wordNumber, lineOf, bookLines};
 ghost use Rattle.text.specs.Put.{hasRoom, write};
 
-mod put; // put.rt: words and numbers, byte by byte
+pub mod put; // put.rt: words and numbers, byte by byte
 
 use verdict::Verdict;
 
@@ -27,7 +27,7 @@ pub fn word_of(v: Verdict) -> u8
 }
 
 // The buffer has room from the place on.
-fn has_room(len: usize, at: usize) -> bool
+pub fn has_room(len: usize, at: usize) -> bool
     ensures { λ r. ⌜ r ≡ hasRoom len at ⌝ }
 {
     if at <= len {

@@ -1,0 +1,17 @@
+-- `answer::write_said` meets its contract: with room it writes, without it does not. Assumes nothing.
+use borrow.Author.Needs.{needs}
+use Rattle.text.proofs.PutLaws.{le-of-room, write-of-put, write-none}
+use Rattle.points.proofs.answer.write_said.Statement.{statement}
+use Rattle.points.proofs.answer.write_said.Tie as tie
+
+put-said-requires : tie.Need-put-said-requires
+put-said-requires c κs = search (needs, le-of-room)
+
+returns : tie.Need-returns
+returns c = search (needs, write-of-put)
+
+returns-2 : tie.Need-returns-2
+returns-2 c = search (needs, write-none)
+
+pub write-said-spec : {M : Type 1} → statement M
+write-said-spec = tie.close (tie.spec (λ c κs. search needs) put-said-requires (λ c. search needs) returns returns-2)

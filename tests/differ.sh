@@ -1,5 +1,5 @@
 #!/bin/sh
-# Compares a judging program and the library with an independent paper (tests/differ/) on made books and streams, then checks that planted
+# Compares a judging program and the library with an independent paper (tests/differ/) on made books, streams and fields, then checks that planted
 # faults are found.
 # Usage: tests/differ.sh [JUDGE [LIBRARY]]; where none is named, JUDGE is target/bin/judge and LIBRARY is target/staticlib/libfieldtext.a of
 # the repository that this file stands in.

@@ -24,15 +24,18 @@ failed=0
 skipped=0
 
 cd -- "$root" || exit 1
-# the program is built once, and each copy gets it
-if ! ./judge >"$work/first" 2>&1; then
-    cat -- "$work/first"
-    echo "the program cannot be run: 0 passed, 1 failed"
-    exit 1
-fi
 mkdir -p "$work/clean/target/bin" "$work/blocks" "$work/tmp"
 git ls-files -z --cached --others --exclude-standard | xargs -0 cp -p --parents -t "$work/clean" || exit 1
-cp -p target/bin/judge "$work/clean/target/bin/judge"
+# each program is built once, and each copy gets it
+for program in judge field; do
+    if ! "./$program" >"$work/first" 2>&1; then
+        cat -- "$work/first"
+        echo "./$program cannot be run: 0 passed, 1 failed"
+        exit 1
+    fi
+    cp -p "target/bin/$program" "$work/clean/target/bin/$program"
+    [ ! -e "target/$program.built" ] || cp -p "target/$program.built" "$work/clean/target/$program.built"
+done
 if ! { [ -e target/staticlib/libfieldtext.a ] || rt staticlib fieldtext >"$work/first" 2>&1; }; then
     cat -- "$work/first"
     echo "the library cannot be built: 0 passed, 1 failed"
@@ -40,7 +43,6 @@ if ! { [ -e target/staticlib/libfieldtext.a ] || rt staticlib fieldtext >"$work/
 fi
 mkdir -p "$work/clean/target/staticlib"
 cp -p target/staticlib/libfieldtext.a "$work/clean/target/staticlib/"
-[ ! -e target/judge.built ] || cp -p target/judge.built "$work/clean/target/judge.built"
 
 for page in README.md docs/*.md; do
     awk -v page="$page" -v to="$work/blocks/$(basename "$page" .md)" '

@@ -1,10 +1,12 @@
-//! The examples of docs/REQUIREMENT.md, section 8, held against the paper before it is held against the program.
+//! The examples of docs/REQUIREMENT.md, sections 8 and 9, held against the paper before it is held against the program.
 
 use crate::book::load;
+use crate::field;
 use crate::number::Written;
 use crate::stream::{judge, lines};
 
-const BOOK: &str = "rule form state key value next
+/// Book B.
+pub const BOOK: &str = "rule form state key value next
 0 obj 0 corners r1 1
 0 obj 1 name str 2
 0 obj 2 - end -
@@ -62,6 +64,20 @@ const FRAMES: &[Frames] = &[
     (b"\x1E{\"corners\":[[1.5,", &[(1, 0, 1), (1, 16, 1), (2, 0, 2), (2, 34, 1), (2, 36, 1), (3, 0, 2)]),
 ];
 
+/// Corners of a field, points, and what is answered for each: a place or a refusal, and the nearest corner.
+type Located = (&'static str, &'static [((i128, i128), (u32, usize))]);
+const FIELDS: &[Located] = &[
+    ("[0,0],[10,0],[10,10],[0,10]", &[((5, 5), (1, 0)), ((5, 0), (2, 0)), ((-1, 10), (0, 3)), ((1_000_001, 0), (33, 0)), ((0, 3), (2, 0))]),
+    ("[0,-0],[10,0],[10,10],[-0,10]", &[((5, 5), (1, 0)), ((0, -1_000_001), (33, 0))]),
+    ("[0,0],[10,10],[10,0],[0,10]", &[((5, 5), (2, 0)), ((9, 5), (1, 1)), ((5, 1), (0, 0))]),
+    ("[3,3],[3,3],[3,3]", &[((3, 3), (2, 0)), ((3, 4), (0, 0))]),
+    ("[0,0],[9999999,0]", &[((0, 0), (32, 0))]),
+    ("[0,0],[1.0,0],[0,1]", &[((0, 0), (33, 0))]),
+    ("[0,0],[1e1,0],[0,1]", &[((0, 0), (33, 0))]),
+    ("[0,0],[1000001,0],[0,1]", &[((0, 0), (33, 0))]),
+    ("[0,0],[1.5,0],[0,1]", &[((0, 0), (31, 0))]),
+];
+
 /// What the paper says with so many work bytes.
 fn said(book: &[u8], stream: &[u8], work: usize) -> String {
     lines(&judge(&load(book), stream, &mut vec![0; work])).join(", ")
@@ -82,7 +98,7 @@ pub fn wrong() -> Option<String> {
     if got != "number line, 9 2" {
         return Some(format!("a line 0 obj 0 a int 0: {got}"));
     }
-    wrong_number().or_else(wrong_value).or_else(|| FRAMES.iter().find_map(wrong_frames))
+    wrong_number().or_else(wrong_value).or_else(|| FRAMES.iter().find_map(wrong_frames)).or_else(|| FIELDS.iter().find_map(wrong_field))
 }
 
 /// A number that stands for a corner, where the book asks for `int`.
@@ -124,4 +140,12 @@ fn wrong_frames(&(record, bytes): &Frames) -> Option<String> {
     want.extend([0xA5; 12]);
     judge(&load(BOOK.as_bytes()), record, &mut work);
     (work != want).then(|| format!("frames {work:?}, not {want:?}"))
+}
+
+fn wrong_field(&(corners, points): &Located) -> Option<String> {
+    let book = load(BOOK.as_bytes()).ok()?;
+    let text = format!("{{\"n\\u0061me\":\"[[1,2]]\",\"corners\":[{corners}]}}");
+    let field = field::read(&book, text.as_bytes());
+    let (point, _) = points.iter().find(|&&(point, want)| field.answer(point) != want)?;
+    Some(format!("{point:?} in {text}: {:?}", field.answer(*point)))
 }

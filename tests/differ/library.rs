@@ -1,6 +1,7 @@
 //! The library behind include/fieldtext.h. All that is lent to it stands in the middle of larger buffers.
 
 use crate::flat::TABLE;
+use crate::lent::Lent;
 use crate::plant::{on, Plant};
 use crate::rng::noise;
 use crate::trial::Stream;
@@ -19,51 +20,12 @@ extern "C" {
     ) -> usize;
 }
 
-/// Bytes on each side of what is lent, at least.
-const MARGIN: usize = 128;
-
-/// Bytes to lend, with others around them.
-struct Lent {
-    all: Vec<u8>,
-    before: Vec<u8>,
-    behind: Vec<u8>,
-}
-
-impl Lent {
-    fn new(bytes: &[u8], seed: u64) -> Lent {
-        let before = noise(seed, MARGIN + (seed % 16) as usize);
-        let behind = noise(!seed, MARGIN);
-        Lent { all: [&before, bytes, &behind].concat(), before, behind }
-    }
-
-    fn length(&self) -> usize {
-        self.all.len() - self.before.len() - self.behind.len()
-    }
-
-    fn bytes(&self) -> &[u8] {
-        &self.all[self.before.len()..][..self.length()]
-    }
-
-    fn start(&self) -> *const u8 {
-        self.bytes().as_ptr()
-    }
-
-    fn start_mut(&mut self) -> *mut u8 {
-        self.all[self.before.len()..].as_mut_ptr()
-    }
-
-    /// True where the bytes around are as they were.
-    fn whole(&self) -> bool {
-        self.all.starts_with(&self.before) && self.all.ends_with(&self.behind)
-    }
-}
-
 /// The number and line of a book's refusal; none where the book, or bytes around it, were written.
 pub fn refusal(book: &[u8]) -> Option<(u32, usize)> {
     let lent = Lent::new(book, book.len() as u64);
     // SAFETY: pointer and length are those of one part of a buffer.
     let (number, line) = unsafe { (fieldtext_book_number(lent.start(), lent.length()), fieldtext_book_line(lent.start(), lent.length())) };
-    (lent.whole() && lent.bytes() == book).then_some((number.into(), line))
+    (lent.whole() && lent.values() == book).then_some((number.into(), line))
 }
 
 /// What load gives: the number of a refusal, 0 for an accepted book, and the table; none where the book, or bytes around it or around the
@@ -74,7 +36,7 @@ pub fn load(book: &[u8]) -> Option<(u32, Vec<u8>)> {
     let mut table = Lent::new(&noise(seed ^ 7, TABLE), seed ^ 8);
     // SAFETY: pointer and length are those of one part of a buffer, and the table's part has its 7,920 bytes.
     let number = unsafe { fieldtext_load(lent.start(), lent.length(), table.start_mut()) };
-    (lent.whole() && lent.bytes() == book && table.whole()).then(|| (number.into(), table.bytes().to_vec()))
+    (lent.whole() && lent.values() == book && table.whole()).then(|| (number.into(), table.values().to_vec()))
 }
 
 /// What a stream is judged by.
@@ -134,14 +96,14 @@ pub fn judge(by: By, stream: &Stream) -> Shown {
         shown.calls.push(call);
     }
     for (lent, before, name) in [(&lent[0], by.bytes(), "book or table"), (&lent[1], &stream.bytes, "stream")] {
-        if !lent.whole() || lent.bytes() != before {
+        if !lent.whole() || lent.values() != before {
             shown.wrong.get_or_insert(format!("the {name}, or bytes around it, were written"));
         }
     }
     shown
 }
 
-fn call(by: By, lent: &mut [Lent; 2], size: usize, mut work: Lent, mut out: Lent, wrong: &mut Option<String>) -> (Call, Vec<u8>) {
+fn call(by: By, lent: &mut [Lent<u8>; 2], size: usize, mut work: Lent<u8>, mut out: Lent<u8>, wrong: &mut Option<String>) -> (Call, Vec<u8>) {
     let (work_length, out_length) = (work.length(), out.length());
     let [first, stream] = &*lent;
     // SAFETY: each pointer and length are those of one part of a buffer, a table has its 7,920 bytes, and the four buffers are apart.
@@ -164,11 +126,11 @@ fn call(by: By, lent: &mut [Lent; 2], size: usize, mut work: Lent, mut out: Lent
             wrong.get_or_insert(format!("bytes around the {name} were written, in pieces of {size} bytes"));
         }
     }
-    (Call { count, out: out.bytes().to_vec() }, work.bytes().to_vec())
+    (Call { count, out: out.values().to_vec() }, work.values().to_vec())
 }
 
 /// Planted faults of a library: bytes written where none may be.
-fn spoil(by: By, lent: &mut [Lent; 2], work: &mut Lent, out: &mut Lent, size: usize) {
+fn spoil(by: By, lent: &mut [Lent<u8>; 2], work: &mut Lent<u8>, out: &mut Lent<u8>, size: usize) {
     let (before, behind) = (work.before.len() - 1, out.before.len() + out.length());
     let plants = [
         (Plant::WorkBefore, &mut work.all, before),

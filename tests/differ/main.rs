@@ -1,14 +1,18 @@
 //! A differential test: the library and the judging program against a paper of its own, written from the words of the requirement (docs/REQUIREMENT.md).
-//! Usage: differ JUDGE [--cases N] [--seed S] [--only TRIAL] [--plants] [--say]. See README.md beside this file.
+//! Usage: differ JUDGE [--cases N] [--seed S] [--only TRIAL] [--field NUMBER] [--plants] [--say]. See README.md beside this file.
 
 mod book;
 mod entries;
 mod examples;
+mod field;
 mod flat;
 mod frames;
 mod held;
+mod lent;
 mod library;
+mod locate;
 mod make_book;
+mod make_field;
 mod make_number;
 mod make_record;
 mod number;
@@ -46,13 +50,14 @@ struct Options {
     cases: Option<u64>,
     seed: u64,
     only: Option<u64>,
+    field: Option<u64>,
     plants: bool,
     say: bool,
 }
 
 fn main() {
     let Some(options) = options() else {
-        eprintln!("usage: differ JUDGE [--cases N] [--seed S] [--only TRIAL] [--plants] [--say]");
+        eprintln!("usage: differ JUDGE [--cases N] [--seed S] [--only TRIAL] [--field NUMBER] [--plants] [--say]");
         exit(2);
     };
     let path = match options.judge.canonicalize() {
@@ -69,8 +74,10 @@ fn main() {
     thread::spawn(move || watch(watched));
     let good = if options.plants {
         plants(&options, &program)
+    } else if options.field.is_some() {
+        fields(&options)
     } else {
-        (options.only.is_some() || pairs::hold()) & compare_all(&options, &program)
+        (options.only.is_some() || pairs::hold() & fields(&options)) & compare_all(&options, &program)
     };
     program::remove(&program.folder);
     exit(if good { 0 } else { 1 });
@@ -90,7 +97,10 @@ fn watch(folder: PathBuf) {
         seconds = if now == last { seconds + 1 } else { 0 };
         last = now;
         if seconds > LONGEST_TRIAL {
-            println!("DIFFERENCE trial {now} does not end");
+            match now.checked_sub(locate::WATCHED) {
+                Some(field) => println!("DIFFERENCE field {field} does not end"),
+                None => println!("DIFFERENCE trial {now} does not end"),
+            }
             program::remove(&folder);
             exit(1);
         }
@@ -99,18 +109,24 @@ fn watch(folder: PathBuf) {
 
 fn options() -> Option<Options> {
     let mut words = std::env::args().skip(1);
-    let mut options = Options { judge: PathBuf::from(words.next()?), cases: None, seed: 1, only: None, plants: false, say: false };
+    let mut options = Options { judge: PathBuf::from(words.next()?), cases: None, seed: 1, only: None, field: None, plants: false, say: false };
     while let Some(word) = words.next() {
         match word.as_str() {
             "--cases" => options.cases = Some(words.next()?.parse().ok()?),
             "--seed" => options.seed = words.next()?.parse().ok()?,
             "--only" => options.only = Some(words.next()?.parse().ok()?),
+            "--field" => options.field = Some(words.next()?.parse().ok()?),
             "--plants" => options.plants = true,
             "--say" => options.say = true,
             _ => return None,
         }
     }
     Some(options)
+}
+
+/// The comparison of fields: half as many points as there are cases of streams.
+fn fields(options: &Options) -> bool {
+    locate::hold(options.seed, options.cases.unwrap_or(200_000) / 2, options.field, options.say)
 }
 
 /// What program and library gave for a trial.
@@ -282,7 +298,7 @@ fn differs_again((trial, given): &(Trial, Given)) -> bool {
 /// Each planted fault must be found. Those of the paper are held against what was given once; for those of the library the calls are repeated.
 fn plants(options: &Options, program: &Program) -> bool {
     let kept = kept_trials(options, program);
-    if kept.iter().any(differs) {
+    if kept.iter().any(differs) || locate::found_after(options.seed).is_some() {
         println!("the paper differs without a planted fault");
         return false;
     }
@@ -291,13 +307,15 @@ fn plants(options: &Options, program: &Program) -> bool {
         plant::set(plant);
         NOW.fetch_add(1, Ordering::Relaxed);
         let found = if plant::of_pairs(plant) {
-            pairs::differs().then_some(0)
+            pairs::differs().then(|| "among all pairs:   ".to_string())
+        } else if plant::of_fields(plant) {
+            locate::found_after(options.seed).map(|fields| format!("after {fields:>5} fields:"))
         } else {
-            kept.iter().position(if plant::of_library(plant) { differs_again } else { differs }).map(|at| at + 1)
+            let at = kept.iter().position(if plant::of_library(plant) { differs_again } else { differs });
+            at.map(|at| format!("after {:>5} trials:", at + 1))
         };
         match found {
-            Some(0) => println!("found among all pairs:    {words}"),
-            Some(trials) => println!("found after {trials:>5} trials: {words}"),
+            Some(place) => println!("found {place} {words}"),
             None => {
                 missed += 1;
                 println!("NOT FOUND: {words}");

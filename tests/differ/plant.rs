@@ -151,6 +151,50 @@ plants! {
     TableForm: "a form above 2 counts as arr",
     TableNoKey: "an edge of no key fits an unknown key",
     TableLength: "a key has at most 32 bytes, whatever its length says",
+    FieldEnds: "field: an end at the point's own height counted for both of its sides",
+    FieldNoEnds: "field: an end at the point's own height counted for neither of its sides",
+    FieldOpen: "field: the closing side forgotten where crossings are counted",
+    FieldOpenEdge: "field: the closing side forgotten where the edge is asked",
+    FieldLeft: "field: a crossing to the left counted",
+    FieldWinding: "field: inside where the sides wind around the point, even twice",
+    FieldLine: "field: the edge goes on past the ends of a side",
+    FieldProducts: "field: products wrap at 2^32 where the edge is asked",
+    FieldCrossing: "field: products wrap at 2^32 where crossings are counted",
+    FieldTie: "field: of two corners equally near the higher number",
+    FieldSum: "field: nearest by the sum of both distances",
+    FieldSquare: "field: a squared distance wraps at 2^32",
+    FieldCountLater: "field: 32 after a corner's 33",
+    FieldPointFirst: "field: the point's 33 before 31",
+    FieldPointSecond: "field: the point's 33 before 32",
+    FieldPointThird: "field: the point's 33 before a corner's, whose corners stay in memory",
+    FieldNearest: "field: a nearest corner for a point out of range",
+    FieldPointReach: "field: a point at 1,000,001 taken",
+    FieldPointWraps: "field: a point at -2,147,483,648 taken, which has no positive",
+    FieldTwo: "field: two corners taken",
+    FieldMore: "field: 1,025 corners taken",
+    FieldLess: "field: 1,024 corners refused",
+    FieldRing: "field: a last corner equal to the first left out",
+    FieldRepeats: "field: a repeated corner left out",
+    FieldMinus: "field: a minus sign ignored",
+    FieldMinusZero: "field: -0 refused",
+    FieldPoint: "field: 1.0 taken as 1",
+    FieldExponent: "field: 1e2 taken as 100",
+    FieldReach: "field: a corner at 1,000,001 taken",
+    FieldReachBelow: "field: a corner at -1,000,001 taken",
+    FieldReachShort: "field: a corner at 1,000,000 refused",
+    FieldReachShortBelow: "field: a corner at -1,000,000 refused",
+    FieldWraps32: "field: a coordinate wraps at 2^32",
+    FieldWraps64: "field: a coordinate wraps at 2^64",
+    FieldCut: "field: a coordinate cut after seven digits",
+    FieldLeft31: "field: corners of a text refused with 31 left in memory",
+    FieldLeft32: "field: corners of a text refused with 32 left in memory",
+    FieldLeft33: "field: corners of a text refused with 33 left in memory",
+    FieldPointClears: "field: a point out of range clears the corners",
+    FieldBehind: "field: what stood behind the corners in memory stays",
+    FieldTable: "field: the table of a refused text is empty",
+    FieldWritten: "library: the text of a field written",
+    CornersBehind: "library: the number after the corners written",
+    NearestBehind: "library: the number after the nearest corner written",
     PairC1: "a decoder that takes C1 80",
     PairE0: "a decoder that takes E0 9F",
     PairED: "a decoder that takes ED A0",
@@ -172,6 +216,11 @@ pub fn of_library(plant: Plant) -> bool {
 /// Faults of what all pairs are held against.
 pub fn of_pairs(plant: Plant) -> bool {
     matches!(plant, Plant::PairC1 | Plant::PairE0 | Plant::PairED | Plant::PairF4)
+}
+
+/// Faults of what fields are held against, and of the calls for them.
+pub fn of_fields(plant: Plant) -> bool {
+    (Plant::FieldEnds as u32..=Plant::NearestBehind as u32).contains(&(plant as u32))
 }
 
 pub fn set(plant: Plant) {

@@ -1,4 +1,5 @@
 // Memory of ours: the bytes of code, of stack and of the work buffer.
+#include "../include/fieldtext.h"
 #include "bench.hpp"
 
 #include <ucontext.h>
@@ -41,6 +42,22 @@ size_t own_stack_bytes(const std::function<void()> &call) {
     return stack_bytes(call) - stack_bytes([] {});
 }
 
+// A square read, and a point located in it.
+size_t field_stack_bytes() {
+    static const std::string text = R"({"name":"Square","corners":[[0,0],[10,0],[10,10],[0,10]]})";
+    std::vector<uint8_t> table(FIELDTEXT_TABLE);
+    std::vector<int32_t> corners(FIELDTEXT_CORNERS);
+    uint8_t answer = 0;
+    const size_t bytes = own_stack_bytes([&] {
+        size_t nearest;
+        answer = fieldtext_locate(reinterpret_cast<const uint8_t *>(text.data()), text.size(), 5, 5, table.data(), corners.data(), &nearest);
+    });
+    if (answer != FIELDTEXT_INSIDE) {
+        fail("the middle of a square is not inside it");
+    }
+    return bytes;
+}
+
 } // namespace
 
 void measure_sizes(Report &report, size_t text_bytes) {
@@ -60,6 +77,7 @@ void measure_sizes(Report &report, size_t text_bytes) {
     row("stack of fieldtext_load", own_stack_bytes([&] { load(input.book, table); }));
     row("stack of fieldtext_judge_table: start, feeds and close", own_stack_bytes([&] { judge_by_table(table, input.stream, 64, work, out); }));
     row("stack of fieldtext_judge, which has a table of its own", own_stack_bytes([&] { ours.run(input, 64); }));
+    row("stack of fieldtext_locate", field_stack_bytes());
     row("work buffer for each level", 96);
     row("work buffer for 64 levels", 96 * 64);
     report.line("## Memory of ours\n");

@@ -8,7 +8,7 @@ import sys
 from pathlib import Path
 
 ROOT = Path(__file__).resolve().parent.parent
-WIDTH, LEFT, BOX, GAP, ROW, HIGH = 1180, 250, 116, 22, 104, 34
+LEFT, BOX, GAP, ROW, HIGH = 250, 116, 22, 104, 34
 
 
 def rooms():
@@ -48,7 +48,7 @@ def places(found):
     for number, (_, crates) in enumerate(found):
         y = ROW * (len(found) - number) - ROW // 2 + 16
         for column, crate in enumerate(crates):
-            at[crate] = (LEFT + BOX // 2 + column * (BOX + GAP), y - 7 * column)
+            at[crate] = (LEFT + BOX // 2 + column * (BOX + GAP), y - 35 * column // max(5, len(crates) - 1))
     return at
 
 
@@ -69,13 +69,14 @@ def main():
     if sorted(named) != sorted(needs):
         sys.exit(f"README.md and crates.txt name other crates: {sorted(set(named) ^ set(needs))}")
     at = places(found)
+    width = LEFT + max(len(crates) for _, crates in found) * (BOX + GAP) + 8
     height = ROW * len(found) + 24
-    print(f'<svg xmlns="http://www.w3.org/2000/svg" viewBox="0 0 {WIDTH} {height}" font-family="sans-serif" font-size="14">')
+    print(f'<svg xmlns="http://www.w3.org/2000/svg" viewBox="0 0 {width} {height}" font-family="sans-serif" font-size="14">')
     print('<style>text{fill:#222}.room{fill:#eef2ea;stroke:#c8d3bf}.crate{fill:#fff;stroke:#55704a}.on{fill:none;stroke:#9aa892}</style>')
-    print(f'<rect width="{WIDTH}" height="{height}" fill="#fff"/>')
+    print(f'<rect width="{width}" height="{height}" fill="#fff"/>')
     for number, (room, _) in enumerate(found):
         y = ROW * (len(found) - number - 1) + 14
-        print(f'<rect class="room" x="8" y="{y}" width="{WIDTH - 16}" height="{ROW - 10}" rx="8"/>')
+        print(f'<rect class="room" x="8" y="{y}" width="{width - 16}" height="{ROW - 10}" rx="8"/>')
         print(f'<text x="22" y="{y + 24}" font-weight="bold">{room}</text>')
     for crate, names in direct(needs).items():
         for other in names:

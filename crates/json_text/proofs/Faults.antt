@@ -132,7 +132,7 @@ module _ (r : List ℕ) where
   complete-string S.Tail1 = from-tail1
 
 module _ (𝕄 : Meaning) where
-  open 𝕄 use {Result, InObject, of_word, string_char, of_string, number_byte, of_number, array_element, of_Array, object_key, object_value, of_object}
+  open 𝕄 use {Result, InObject, of_word, string_char, of_string, number_byte, of_number, array_element, of_array, object_key, object_value, of_object}
 
   -- ---- every open value can be closed
 
@@ -150,9 +150,9 @@ module _ (𝕄 : Meaning) where
   unfolding closing step after_element after_pair is_blank
   close-all bare v = closes-with v (λ g. refl)
   close-all (whole w) v = closes-with v (λ g. refl)
-  close-all (in_array a k) v = go (close-all k (of_Array (array_element a v)))
+  close-all (in_array a k) v = go (close-all k (of_array (array_element a v)))
     where
-      go : Closes (finish 𝕄 (of_Array (array_element a v)) k) (closing k) → Closes (in_array (array_element a v) k) (0x5D ∷ closing k)
+      go : Closes (finish 𝕄 (of_array (array_element a v)) k) (closing k) → Closes (in_array (array_element a v) k) (0x5D ∷ closing k)
       go (closes-with w x) = closes-with w x
   close-all (in_object o k) v = go (close-all k (of_object (object_value o v)))
     where
@@ -208,14 +208,14 @@ module _ (𝕄 : Meaning) where
     unfolding step at_first_element at_first_key is_blank
     hope-first bare h = absurd h
     hope-first (whole w) h = absurd h
-    hope-first (in_array a k) h = hope-by (at (M.At P.First) g (in_array a k)) 0x5D (hope-behind k (of_Array a))
+    hope-first (in_array a k) h = hope-by (at (M.At P.First) g (in_array a k)) 0x5D (hope-behind k (of_array a))
     hope-first (in_object o k) h = hope-by (at (M.At P.First) g (in_object o k)) 0x7D (hope-behind k (of_object o))
 
     hope-after : (k : Stack 𝕄) → Begun 𝕄 k → Hope (at (M.At P.After) g k)
     unfolding step after_element after_pair is_blank
     hope-after bare h = absurd h
     hope-after (whole w) h = hope [] w refl
-    hope-after (in_array a k) h = hope-by (at (M.At P.After) g (in_array a k)) 0x5D (hope-behind k (of_Array a))
+    hope-after (in_array a k) h = hope-by (at (M.At P.After) g (in_array a k)) 0x5D (hope-behind k (of_array a))
     hope-after (in_object o k) h = hope-by (at (M.At P.After) g (in_object o k)) 0x7D (hope-behind k (of_object o))
 
     hope-text : (m : StringMode) (k : Stack 𝕄) → Hope (at (M.Text m) g k)

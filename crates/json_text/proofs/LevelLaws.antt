@@ -237,7 +237,7 @@ scan_at (M.Number x) n = outside n
 scan_at (M.Word w i) n = outside n
 
 module _ (𝕄 : Meaning) where
-  open 𝕄 use {Result, of_number, of_Array, of_object}
+  open 𝕄 use {Result, of_number, of_array, of_object}
 
   -- what the scan of the bytes so far knows
   scan_of : State 𝕄 → Scan
@@ -278,7 +278,7 @@ module _ (𝕄 : Meaning) where
     after_kept (in_array a k) b =
         let Q : ℕ → Step → Type 0 = λ b st. Kept (outside (suc (depth 𝕄 k))) b (take 𝕄 st 0 b g g (in_array a k)) in
         cond-elim (Q b) (is_blank b) (λ h _. blank-outside (suc (depth 𝕄 k)) b h) (λ _.
-        cond_byte Q b 0x2C (λ _. refl) (cond_byte Q b 0x5D (λ _. closed (of_Array a) k) true-neq-false))
+        cond_byte Q b 0x2C (λ _. refl) (cond_byte Q b 0x5D (λ _. closed (of_array a) k) true-neq-false))
     after_kept (in_object o k) b =
         let Q : ℕ → Step → Type 0 = λ b st. Kept (outside (suc (depth 𝕄 k))) b (take 𝕄 st 0 b g g (in_object o k)) in
         cond-elim (Q b) (is_blank b) (λ h _. blank-outside (suc (depth 𝕄 k)) b h) (λ _.
@@ -293,7 +293,7 @@ module _ (𝕄 : Meaning) where
     place_kept P.First (in_array a k) b h =
         let Q : ℕ → Step → Type 0 = λ b st. Kept (outside (suc (depth 𝕄 k))) b (take 𝕄 st 0 b g g (in_array a k)) in
         cond-elim (Q b) (is_blank b) (λ h _. blank-outside (suc (depth 𝕄 k)) b h) (λ _.
-        cond_byte Q b 0x5D (λ _. closed (of_Array a) k) (start-kept (in_array a k) b))
+        cond_byte Q b 0x5D (λ _. closed (of_array a) k) (start-kept (in_array a k) b))
     place_kept P.First (in_object o k) b h =
         let Q : ℕ → Step → Type 0 = λ b st. Kept (outside (suc (depth 𝕄 k))) b (take 𝕄 st 0 b g g (in_object o k)) in
         cond-elim (Q b) (is_blank b) (λ h _. blank-outside (suc (depth 𝕄 k)) b h) (λ _.

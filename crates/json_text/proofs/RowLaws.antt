@@ -52,6 +52,7 @@ second F4 = S.SecondF4
 -- what holds of each row that has a name holds of each row of the list
 rows-elim : (P : Row → Type 0) → ((l : Name) → P (row_of l).0) → (x : Row) → Memᴰ x rows → P x
 unfolding row_of
+rows-elim P f x (past (past (past (past (past (past (past (past x33)))))))) = elim x33 [ ]
 rows-elim P f x (here e) = subst P (sym e) (f C2)
 rows-elim P f x (past (here e)) = subst P (sym e) (f E0)
 rows-elim P f x (past (past (here e))) = subst P (sym e) (f E1)

@@ -49,13 +49,13 @@ drop_all zero (b ∷ l) h = absurd (omega arith)
 drop_all (suc n) (b ∷ l) h = drop_all n l (omega arith)
 
 module _ (𝕄 : Meaning) where
-  open 𝕄 use {Result, InArray, InObject, of_word, string_start, string_char, of_string, number_start, number_byte, of_number, array_start, array_element, of_Array, object_start, object_key, object_value, of_object}
+  open 𝕄 use {Result, InArray, InObject, of_word, string_start, string_char, of_string, number_start, number_byte, of_number, array_start, array_element, of_array, object_start, object_key, object_value, of_object}
 
   -- after a value that has joined the stack: the bytes finish the open values, and the whole value is the last
   data After : Stack 𝕄 → List ℕ → Result → Type 0 where
     after-whole : {s : List ℕ} {w : Result} → Ending s → After (whole w) s w
     after-element : {a : InArray} {k : Stack 𝕄} {s r : List ℕ} {vs : Values} {w : Result} → AfterElement s vs r
-        → After (finish 𝕄 (of_Array (elements 𝕄 vs a)) k) r w → After (in_array a k) s w
+        → After (finish 𝕄 (of_array (elements 𝕄 vs a)) k) r w → After (in_array a k) s w
     after-pair : {o : InObject} {k : Stack 𝕄} {s r : List ℕ} {ps : Pairs} {w : Result} → AfterPair s ps r
         → After (finish 𝕄 (of_object (members 𝕄 ps o)) k) r w → After (in_object o k) s w
 
@@ -64,7 +64,7 @@ module _ (𝕄 : Meaning) where
     rest-value : {g : Token 𝕄} {k : Stack 𝕄} {s r : List ℕ} {v : Json} {w : Result} → AtValue s v r
         → After (finish 𝕄 (meaning 𝕄 v) k) r w → Rest (at (M.At P.Value) g k) s w
     rest-first-element : {g : Token 𝕄} {a : InArray} {k : Stack 𝕄} {s r : List ℕ} {vs : Values} {w : Result} → AtFirstElement s vs r
-        → After (finish 𝕄 (of_Array (elements 𝕄 vs a)) k) r w → Rest (at (M.At P.First) g (in_array a k)) s w
+        → After (finish 𝕄 (of_array (elements 𝕄 vs a)) k) r w → Rest (at (M.At P.First) g (in_array a k)) s w
     rest-first-key : {g : Token 𝕄} {o : InObject} {k : Stack 𝕄} {s r : List ℕ} {ps : Pairs} {w : Result} → AtFirstKey s ps r
         → After (finish 𝕄 (of_object (members 𝕄 ps o)) k) r w → Rest (at (M.At P.First) g (in_object o k)) s w
     rest-key : {g : Token 𝕄} {o : InObject} {k : Stack 𝕄} {s r : List ℕ} {ps : Pairs} {w : Result} → AtKey s ps r
@@ -108,7 +108,7 @@ module _ (𝕄 : Meaning) where
   element-comma (rest-value e x) = comma-after e x
 
   element-close : {g : Token 𝕄} (a : InArray) (k : Stack 𝕄) {s : List ℕ} {w : Result}
-      → Rest (at (M.At P.After) g (finish 𝕄 (of_Array a) k)) s w → After (in_array a k) (0x5D ∷ s) w
+      → Rest (at (M.At P.After) g (finish 𝕄 (of_array a) k)) s w → After (in_array a k) (0x5D ∷ s) w
   element-close a k (rest-after x) = after-element close-array x
 
   pair-blank : {g : Token 𝕄} {o : InObject} {k : Stack 𝕄} {b : ℕ} {s : List ℕ} {w : Result} → T (is_blank b)
@@ -200,7 +200,7 @@ module _ (𝕄 : Meaning) where
         on-blank : {b : ℕ} → T (is_blank b) → Rest (at (M.At P.First) g (in_array a k)) s w → Rest (at (M.At P.First) g (in_array a k)) (b ∷ s) w
         on-blank h (rest-first-element e x) = rest-first-element (blank-first h e) x
 
-        on-close : Rest (at (M.At P.After) g (finish 𝕄 (of_Array a) k)) s w → Rest (at (M.At P.First) g (in_array a k)) (0x5D ∷ s) w
+        on-close : Rest (at (M.At P.After) g (finish 𝕄 (of_array a) k)) s w → Rest (at (M.At P.First) g (in_array a k)) (0x5D ∷ s) w
         on-close (rest-after x) = rest-first-element close-first x
 
         begins : (b : ℕ) → Held (in_array a k) (b ∷ s) w → Rest (at (M.At P.First) g (in_array a k)) (b ∷ s) w
@@ -376,7 +376,7 @@ module _ (𝕄 : Meaning) where
   reads-of-rest : {s : List ℕ} {w : Result} → Rest (start 𝕄) s w → Reads s w
   reads-of-rest (rest-value {v} e x) = whole-reads v e x
     where
-      whole-reads : {s r : List ℕ} {w : Result} (v : Json) → AtValue s v r → After (whole (meaning 𝕄 v)) r w → Reads s w
+      whole-reads : {s r : List ℕ} (v : Json) {w : Result} → AtValue s v r → After (whole (meaning 𝕄 v)) r w → Reads s w
       whole-reads v e (after-whole z) = reads v (text-of-phrase e z) refl
 
   -- what the machine accepts is a text, and the result is its meaning

@@ -19,7 +19,7 @@ later none = none
 later (some i) = some (suc i)
 
 module _ (𝕄 : Meaning) where
-  open 𝕄 use {Result, InString, InNumber, InArray, InObject, of_word, string_start, string_char, of_string, number_start, number_byte, of_number, array_start, array_element, of_Array, object_start, object_key, object_value, of_object}
+  open 𝕄 use {Result, InString, InNumber, InArray, InObject, of_word, string_start, string_char, of_string, number_start, number_byte, of_number, array_start, array_element, of_array, object_start, object_key, object_value, of_object}
 
   -- the open values, the innermost first; below them nothing yet, or the whole value of the text
   pub data Stack : Type 0 where
@@ -53,7 +53,7 @@ module _ (𝕄 : Meaning) where
   abbrev pub close : Stack → Stack
   close bare = bare
   close (whole w) = whole w
-  close (in_array a k) = finish (of_Array a) k
+  close (in_array a k) = finish (of_array a) k
   close (in_object o k) = finish (of_object o) k
 
   -- a finished key belongs to the innermost open object

@@ -44,6 +44,7 @@ member-of-any {A} f (y ∷ xs) h =
 -- a test that holds of each member holds of any one
 pub T-of-all : {A : Type 0} (f : A → Bool) {x : A} (xs : List A) → T (all f xs) → Memᴰ x xs → T (f x)
 unfolding all
+T-of-all {A = A} f [] h x3 = elim x3 [ ]
 T-of-all f (y ∷ xs) h (Memᴰ.head e) = rw e (T-and-left (f y) (all f xs) h)
 T-of-all f (y ∷ xs) h (Memᴰ.tail i) = T-of-all f xs (T-and-right (f y) (all f xs) h) i
 
@@ -51,5 +52,6 @@ T-of-all f (y ∷ xs) h (Memᴰ.tail i) = T-of-all f xs (T-and-right (f y) (all 
 
 -- where two functions make the same list of a list, they are the same at each member
 pub eq-of-map : {A B : Type 0} (f g : A → B) {x : A} (xs : List A) → map f xs ≡ map g xs → Memᴰ x xs → f x ≡ g x
+eq-of-map {A = A} {B = B} f g [] e x3 = elim x3 [ ]
 eq-of-map f g (y ∷ xs) e (Memᴰ.head d) = rw d cc
 eq-of-map f g (y ∷ xs) e (Memᴰ.tail i) = eq-of-map f g xs (cc) i

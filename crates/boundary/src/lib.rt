@@ -14,7 +14,7 @@ use geometry::{Located, Point};
 mod walk; // walk.rt: the text judged and its numbers taken, in one walk
 
 // Why a text or a point is refused.
-#[derive(Drop)]
+#[derive(Clone, Copy)]
 pub enum Refusal {
     // 31: the text is not valid under book B
     NotValid,
@@ -25,14 +25,14 @@ pub enum Refusal {
 }
 
 // What is read of a text: how many corners it has, or why it is refused.
-#[derive(Drop)]
+#[derive(Clone, Copy)]
 pub enum Boundary {
     Corners(usize),
     Refused(Refusal),
 }
 
 // What is answered for a point: where it lies, with the number of the nearest corner, or why it is refused.
-#[derive(Drop)]
+#[derive(Clone, Copy)]
 pub enum Answer {
     Edge(usize),
     Inside(usize),

@@ -108,7 +108,7 @@ fn put(corners: &mut [i32; 2048], n: usize, c: Coordinate) -> bool
 }
 
 // Where the walk stands: the reader, the place in the text, how many numbers are taken, whether one of them is unfit, and whether it goes on.
-#[derive(Drop)]
+#[derive(Clone, Copy)]
 struct Walk {
     reader: Reader,
     at: usize,
@@ -265,7 +265,7 @@ fn says_valid(a: Answer) -> bool
 }
 
 // What is read of a text: whether it is valid under book B, how many numbers at level 3 it has, and whether one of them is unfit.
-#[derive(Drop)]
+#[derive(Clone, Copy)]
 pub struct Read {
     pub valid: bool,
     pub taken: usize,

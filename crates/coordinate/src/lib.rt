@@ -3,7 +3,7 @@ ghost use Rattle.std.specs.Prelude.{◌≡◌, ◌+◌, ◌*◌, ◌≤◌, pos,
 ghost use Rattle.coordinate.specs.Exact.{UpTo, longer, whole_of, coordinate_of};
 
 // A number in plain digits and in range, or one that is not.
-#[derive(Drop)]
+#[derive(Clone, Copy)]
 pub enum Coordinate {
     At(i32),
     Unfit,

@@ -8,7 +8,7 @@ use crate::entry;
 use reader::{Answer, Reader};
 
 // What the feeds of a stream give: the reader, the bytes read, how many entries, and whether the last feed was refused.
-#[derive(Drop)]
+#[derive(Clone, Copy)]
 struct Fed {
     reader: Reader,
     read: usize,

@@ -11,7 +11,7 @@ use points::Line;
 use points::answer::Said;
 
 // What text.json gave: its bytes, or that it has too many or cannot be read.
-#[derive(Drop)]
+#[derive(Clone, Copy)]
 enum Loaded {
     Bytes(usize),
     TooLong,
@@ -19,7 +19,7 @@ enum Loaded {
 }
 
 // Lines answered, bytes of the line under way, bytes of the output that are not printed, and whether the program goes on.
-#[derive(Drop)]
+#[derive(Clone, Copy)]
 struct State {
     lines: usize,
     held: usize,
@@ -39,7 +39,7 @@ fn read_more(read: usize, more: usize, len: usize) -> usize
 }
 
 // What one read gave: how many bytes, 0 at the end, and whether it failed.
-#[derive(Drop)]
+#[derive(Clone, Copy)]
 struct Got {
     bytes: usize,
     failed: bool,

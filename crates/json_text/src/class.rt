@@ -1,6 +1,6 @@
 // The class of each byte: REQUIREMENT.md, section 2.
 
-#[derive(Drop)]
+#[derive(Clone, Copy)]
 pub enum Class {
     // 00 to 1F, the breaks aside
     Control,

@@ -4,7 +4,7 @@ use super::string::StringMode;
 use super::word::Word;
 
 // What is awaited between two tokens.
-#[derive(Drop)]
+#[derive(Clone, Copy)]
 pub enum Awaited {
     // a value
     Value,
@@ -19,7 +19,7 @@ pub enum Awaited {
 }
 
 // Where the next byte stands: between tokens, in a key, in a string, in a number, in a word of which some letters are read.
-#[derive(Drop)]
+#[derive(Clone, Copy)]
 pub enum Mode {
     At(Awaited),
     Key(StringMode),
@@ -29,7 +29,7 @@ pub enum Mode {
 }
 
 // The kind of the innermost open value.
-#[derive(Drop)]
+#[derive(Clone, Copy)]
 pub enum Top {
     Bare,
     Array,
@@ -37,7 +37,7 @@ pub enum Top {
 }
 
 // What a byte does to the open values.
-#[derive(Drop)]
+#[derive(Clone, Copy)]
 pub enum Act {
     // no text goes on with the byte
     Fault,
@@ -61,7 +61,7 @@ pub enum Act {
 }
 
 // What a byte does: whether it first ends a number, then its act, and where the next byte stands.
-#[derive(Drop)]
+#[derive(Clone, Copy)]
 pub struct Step {
     pub mode: Mode,
     pub ends: bool,

@@ -1,7 +1,7 @@
 // Numbers: RFC 8259, section 6.
 
 // After which part of a number the next byte stands.
-#[derive(Drop)]
+#[derive(Clone, Copy)]
 pub enum NumberMode {
     Minus,
     Zero,
@@ -14,7 +14,7 @@ pub enum NumberMode {
 }
 
 // What a byte does after a part of a number.
-#[derive(Drop)]
+#[derive(Clone, Copy)]
 pub enum NumberMove {
     Fault,
     Go(NumberMode),

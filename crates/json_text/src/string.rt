@@ -1,7 +1,7 @@
 // Strings and keys: RFC 8259, section 7; RFC 3629, section 4; escaped surrogates in pairs only.
 
 // What is awaited inside a string.
-#[derive(Drop)]
+#[derive(Clone, Copy)]
 pub enum StringMode {
     // a character, or the closing quotation mark
     Char,
@@ -39,7 +39,7 @@ pub enum StringMode {
 }
 
 // What a byte does inside a string.
-#[derive(Drop)]
+#[derive(Clone, Copy)]
 pub enum StringMove {
     Fault,
     // the character is not finished

@@ -1,6 +1,6 @@
 // The words true, false and null, matched one byte at a time.
 
-#[derive(Drop)]
+#[derive(Clone, Copy)]
 pub enum Word {
     Null,
     True,
@@ -8,7 +8,7 @@ pub enum Word {
 }
 
 // What a byte does inside a word.
-#[derive(Drop)]
+#[derive(Clone, Copy)]
 pub enum WordMove {
     Fault,
     // letters are left

@@ -7,7 +7,7 @@ use reader::Reader;
 use report::Begun;
 
 // A reader, and whether the program goes on.
-#[derive(Drop)]
+#[derive(Clone, Copy)]
 struct State {
     reader: Reader,
     going: bool,
@@ -41,7 +41,7 @@ fn read_more(read: usize, more: usize, len: usize) -> usize
 }
 
 // What one read of a file gave: how many bytes, 0 at the end of the file, and whether it failed.
-#[derive(Drop)]
+#[derive(Clone, Copy)]
 struct Got {
     bytes: usize,
     failed: bool,
@@ -108,7 +108,7 @@ fn stopped(r: Reader) -> State {
 }
 
 // A piece under way: the reader, and the bytes of the piece that are read.
-#[derive(Drop)]
+#[derive(Clone, Copy)]
 struct Part {
     reader: Reader,
     read: usize,

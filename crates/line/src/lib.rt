@@ -15,7 +15,7 @@ const END: [u8; 3] = *b"end";
 const DASH: [u8; 1] = *b"-";
 
 // Where the five spaces of a line are, if it has exactly five.
-#[derive(Drop)]
+#[derive(Clone, Copy)]
 pub struct Cuts {
     pub six: bool,
     pub p1: usize,
@@ -26,7 +26,7 @@ pub struct Cuts {
 }
 
 // What a line is: an end line, or an edge with the kind of value that it asks for.
-#[derive(Drop)]
+#[derive(Clone, Copy)]
 pub enum Sort {
     End,
     Edge(ValueKind),
@@ -34,7 +34,7 @@ pub enum Sort {
 
 // What a line says, or its fault, 3 or 4; 0 is none. Its form is obj or else arr, and an end line has next 0. The key is key_len bytes of the
 // line from key_at on.
-#[derive(Drop)]
+#[derive(Clone, Copy)]
 pub struct Line {
     pub fault: u8,
     pub rule: u8,

@@ -9,7 +9,7 @@ mod read; // read.rt: a book line by line, refusals 1 to 7
 mod check; // check.rt: the checks after all lines, refusals 8 and 9
 
 // What load says of a book: accepted, or a refusal, with its line where it has one.
-#[derive(Drop)]
+#[derive(Clone, Copy)]
 pub enum BookAnswer {
     Accepted,
     // 1: empty, or over 65,536 bytes

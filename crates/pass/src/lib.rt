@@ -14,7 +14,7 @@ use whole::Decimal;
 mod stay; // stay.rt: bytes that leave the mode as it is
 
 // After the bytes passed over: what is known of the record, where that is in the piece, and the step that the lexer makes of the byte there.
-#[derive(Drop)]
+#[derive(Clone, Copy)]
 pub struct Passed {
     pub progress: Progress,
     pub at: usize,
@@ -22,14 +22,14 @@ pub struct Passed {
 }
 
 // After the characters of a key: what is known of the record, and where that is in the piece.
-#[derive(Drop)]
+#[derive(Clone, Copy)]
 pub struct KeyRead {
     pub progress: Progress,
     pub at: usize,
 }
 
 // The registers of the open character and of the open number.
-#[derive(Drop)]
+#[derive(Clone, Copy)]
 struct Registers {
     bits: u32,
     high: u32,
@@ -37,7 +37,7 @@ struct Registers {
 }
 
 // A mode of a number, or another.
-#[derive(Drop)]
+#[derive(Clone, Copy)]
 enum Part {
     Number(NumberMode),
     Other,

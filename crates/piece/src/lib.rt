@@ -20,7 +20,7 @@ fn ends_record(x: Progress, b: u8) -> bool
 }
 
 // How far a record was read: up to the end of the piece, over a byte that ends no record, or over the RS that ended it.
-#[derive(Drop)]
+#[derive(Clone, Copy)]
 pub struct Went {
     pub progress: Progress,
     pub root: bool,

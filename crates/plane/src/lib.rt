@@ -13,7 +13,7 @@ const FARTHER: i64 = 8_000_000_000_001;
 
 // What is known of the sides so far: the corner before the next one, whether the point is on one of them, whether an odd number of them
 // crosses, and the number of the nearest corner with its squared distance.
-#[derive(Drop)]
+#[derive(Clone, Copy)]
 struct Scan {
     before: Point,
     edge: bool,

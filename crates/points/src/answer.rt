@@ -21,7 +21,7 @@ const LINE: [u8; 5] = *b"line ";
 const STOP: [u8; 24] = *b": not two whole numbers\n";
 
 // Where a point lies, with the nearest corner, or a refusal's number.
-#[derive(Drop)]
+#[derive(Clone, Copy)]
 pub enum Said {
     Edge(usize),
     Inside(usize),

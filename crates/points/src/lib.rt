@@ -8,7 +8,7 @@ pub mod number; // number.rt: a whole number, as it is written
 pub mod answer; // answer.rt: the lines that are written
 
 // A line with a point, or another.
-#[derive(Drop)]
+#[derive(Clone, Copy)]
 pub enum Line {
     At(i32, i32),
     Other,

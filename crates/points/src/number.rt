@@ -7,7 +7,7 @@ ghost use Rattle.points.specs.Points.{has_some_digits, number_of};
 use coordinate::Coordinate;
 
 // A number, or bytes that are none. One beyond the range is 2,000,000 with its sign.
-#[derive(Drop)]
+#[derive(Clone, Copy)]
 pub enum Number {
     Is(i32),
     Other,

@@ -14,7 +14,7 @@ pub mod register; // register.rt: the registers of the open character and the op
 pub mod ending; // ending.rt: the verdict of a record without a fault that ends
 
 // The first fault of a record, if there is one.
-#[derive(Drop)]
+#[derive(Clone, Copy)]
 pub enum Fault {
     Sound,
     Malformed,
@@ -23,7 +23,7 @@ pub enum Fault {
 }
 
 // What is known of the open record.
-#[derive(Drop)]
+#[derive(Clone, Copy)]
 pub struct Progress {
     // how many values are open
     pub level: usize,
@@ -45,7 +45,7 @@ pub struct Progress {
 }
 
 // What is to be done to root, key and frames at a byte.
-#[derive(Drop)]
+#[derive(Clone, Copy)]
 pub enum Task {
     Idle,
     // a record begins: its root and its key are fresh
@@ -63,7 +63,7 @@ pub enum Task {
     FinishClose(Scalar),
 }
 
-#[derive(Drop)]
+#[derive(Clone, Copy)]
 pub struct Advanced {
     pub progress: Progress,
     pub task: Task,

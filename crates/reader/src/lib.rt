@@ -13,7 +13,7 @@ use table::limits;
 use verdict::Verdict;
 
 // How many records of each verdict there were. Each count stops at the largest number.
-#[derive(Drop)]
+#[derive(Clone, Copy)]
 pub struct Tally {
     pub valid: u32,
     pub invalid: u32,
@@ -21,7 +21,7 @@ pub struct Tally {
 }
 
 // A reader between two calls. docs/LIMITS.md names the bound of each of its numbers.
-#[derive(Drop)]
+#[derive(Clone, Copy)]
 pub struct Reader {
     // the frames of the buffer given at start
     pub frames: usize,
@@ -35,7 +35,7 @@ pub struct Reader {
 }
 
 // Why a call is refused.
-#[derive(Drop)]
+#[derive(Clone, Copy)]
 pub enum Refusal {
     // 21: a buffer under 96 bytes
     SmallBuffer,
@@ -57,27 +57,27 @@ pub fn refusal_number(n: Refusal) -> u8
 }
 
 // What a call says: nothing, the verdict of a record, or why it is refused.
-#[derive(Drop)]
+#[derive(Clone, Copy)]
 pub enum Answer {
     Quiet,
     Judged(Verdict),
     Refused(Refusal),
 }
 
-#[derive(Drop)]
+#[derive(Clone, Copy)]
 pub struct Started {
     pub reader: Reader,
     pub answer: Answer,
 }
 
-#[derive(Drop)]
+#[derive(Clone, Copy)]
 pub struct Fed {
     pub reader: Reader,
     pub count: usize,
     pub answer: Answer,
 }
 
-#[derive(Drop)]
+#[derive(Clone, Copy)]
 pub struct Closed {
     pub reader: Reader,
     pub answer: Answer,
@@ -100,7 +100,7 @@ fn fit_reader(frames: usize, level: usize, len: u8) -> bool
 }
 
 // Whether a call is let in.
-#[derive(Drop)]
+#[derive(Clone, Copy)]
 pub enum Gate {
     Open,
     Shut(Refusal),

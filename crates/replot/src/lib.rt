@@ -12,7 +12,7 @@ use geometry::Point;
 
 // A point of a track, with room for its answer: the number of the answer, and the nearest corner. 16 bytes.
 #[repr(C)]
-#[derive(Drop)]
+#[derive(Clone, Copy)]
 pub struct TrackPoint {
     pub x: i32,
     pub y: i32,

@@ -7,7 +7,7 @@ ghost use Rattle.report.specs.Report.{is_last, written, report_next, report_of, 
 use reader::{Answer, Reader};
 
 // What a report gives: the reader, the bytes read of the piece, the bytes written to the output, and what the last feed answered.
-#[derive(Drop)]
+#[derive(Clone, Copy)]
 pub struct Reported {
     pub reader: Reader,
     pub read: usize,
@@ -140,7 +140,7 @@ pub fn finish<'a>(r: Reader, table: &'a [u8; 7920], work: &'a [u8], out: &mut [u
 }
 
 // What a book begins with: whether it is accepted, and the bytes written to the output.
-#[derive(Drop)]
+#[derive(Clone, Copy)]
 pub struct Begun {
     pub accepted: bool,
     pub used: usize,

@@ -27,7 +27,7 @@ const INT: [u8; 3] = *b"int";
 const DASH: [u8; 1] = *b"-";
 
 // The plain kind that a word names, or that it names none.
-#[derive(Drop)]
+#[derive(Clone, Copy)]
 pub enum Word {
     Kind(Scalar),
     Other,

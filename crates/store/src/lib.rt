@@ -13,7 +13,7 @@ use line::{Line, Sort};
 use table::{bits, flat, keys, kind};
 
 // The numbers of an edge as a table stores them, but for its line. A kind is stored by its code.
-#[derive(Drop)]
+#[derive(Clone, Copy)]
 pub struct Cell {
     pub rule: u8,
     pub state: u8,

@@ -3,7 +3,7 @@ ghost use Rattle.std.specs.Prelude.{◌≡◌};
 ghost use Rattle.table.specs.Kind.{kind_of, scalar_code, code_of, scalar_fits, rule_fits, fits_kind};
 
 // A plain kind of value. Of a finished number, Int says that its value is whole.
-#[derive(Drop)]
+#[derive(Clone, Copy)]
 pub enum Scalar {
     Null,
     True,
@@ -14,14 +14,14 @@ pub enum Scalar {
 }
 
 // The kind of value that an edge asks for: a plain kind, or a reference to a rule.
-#[derive(Drop)]
+#[derive(Clone, Copy)]
 pub enum ValueKind {
     Plain(Scalar),
     Rule(u8),
 }
 
 // A finished value: a scalar, or an object or array with the rules that have an accepting run over it, rule N at bit N.
-#[derive(Drop)]
+#[derive(Clone, Copy)]
 pub enum Finished {
     Scalar(Scalar),
     Rules(u32),

@@ -1,4 +1,6 @@
 // The table of a rule book: what load makes of a book, in an array of bytes that its caller lends.
+#![tactic(auto)]
+
 pub mod bits; // bits.rt: bits of bytes
 pub mod bytes; // bytes.rt: byte strings
 pub mod flat; // flat.rt: a table in lent bytes

@@ -10,7 +10,7 @@ use table::kind::{Finished, ValueKind};
 use table::{bytes, keys, kind};
 
 // What is known of the record after the byte, and whether its root fits rule 0.
-#[derive(Drop)]
+#[derive(Clone, Copy)]
 pub struct Turned {
     pub progress: Progress,
     pub root: bool,

@@ -4,7 +4,7 @@ use reader::{Answer, Reader, Refusal};
 use verdict::Verdict;
 
 // What the calls share.
-#[derive(Drop)]
+#[derive(Clone, Copy)]
 struct State {
     reader: Reader,
     // the bytes lent as work buffer

@@ -10,7 +10,7 @@ use reader::{Answer, Reader};
 const BLOCK: usize = 65536;
 
 // A stream under way: the reader, and how many entries there are.
-#[derive(Drop)]
+#[derive(Clone, Copy)]
 struct Stream {
     reader: Reader,
     made: usize,

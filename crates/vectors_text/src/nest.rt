@@ -8,7 +8,7 @@ use reader::Reader;
 // More bytes than any stream here has.
 const TEXT: usize = 2048;
 
-#[derive(Drop)]
+#[derive(Clone, Copy)]
 pub enum Shape {
     Arrays,
     Objects,

@@ -9,7 +9,7 @@ use json_text::number::NumberMode;
 pub mod run; // run.rt: bytes that stand one after the other, counted at once
 
 // What is known of the open number.
-#[derive(Drop)]
+#[derive(Clone, Copy)]
 pub struct Decimal {
     // the zeros at the end of the digits so far, those before the point and those after it
     pub zeros: u32,

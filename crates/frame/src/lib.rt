@@ -1,5 +1,7 @@
 // Frames: what each open value of a text holds, 96 bytes of a work buffer that the caller lends: REQUIREMENT.md, section 5.
 // Levels are numbered from 1. Where the buffer has no frame of a level, nothing is read and nothing changes.
+#![tactic(auto)]
+
 mod close; // close.rt: the rules that a closed value fits
 mod edge; // edge.rt: tests of one edge
 mod key; // key.rt: a finished key

@@ -1,0 +1,12 @@
+-- `string::low1` meets its contract: its tests are the definition's, in the same order. Assumes nothing.
+use Rattle.json_text.specs.Lexer.{low1}
+use Rattle.laws.proofs.Tests.{tests}
+use Rattle.chars.proofs.string.low1.Goals as goal
+
+pub returns-then-h-eq13 : goal.returns-then-h-eq13
+unfolding low1
+returns-then-h-eq13 c = search tests
+
+pub returns : goal.returns
+unfolding low1
+returns c = search tests

@@ -1,0 +1,22 @@
+-- `close::key_states` meets its contract. The loop has set the states of the edges below e. Assumes nothing.
+use Prim.Native.Nat.{◌-◌, ◌≤◌}
+use Rattle.frame.specs.Edges.{edge_count}
+use Rattle.frame.specs.Ops.{key_states}
+use Rattle.frame.specs.InTable.{leads_to, walking_in}
+use Rattle.laws.proofs.BitLaws.{set_all-more}
+use Rattle.laws.specs.Bits.{set_all}
+use Rattle.table.specs.Flat.{table_in}
+use borrow.Author.Rules.{rules}
+use lib.ListN.{length, replicate}
+use mathlib.Core.Path.{◌≡◌}
+use native.Mathlib.Omega.{arith}
+use Rattle.frame.proofs.close.key_states.Given as goal
+
+abbrev pub invariant-loop-e : goal.invariant-loop-e
+invariant-loop-e l =
+    (l.e ≤ l.n)
+    × (l.next ≡ set_all (walking_in (table_in l.table) l.frame l.from l.key) (leads_to (table_in l.table)) l.e (replicate 64 0))
+    × (length l.next ≡ 64)
+
+abbrev pub decreases-loop-e : goal.decreases-loop-e
+decreases-loop-e l = l.n - l.e

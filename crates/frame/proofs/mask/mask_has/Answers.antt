@@ -1,0 +1,13 @@
+-- `mask::mask_has` meets its contract: below 64 it is the shifted bit. Assumes nothing.
+use Rattle.frame.specs.Mask.{mask_has}
+use Rattle.laws.proofs.Tests.{tests}
+use borrow.Author.Rules.{rules}
+use Rattle.frame.proofs.mask.mask_has.Goals as goal
+
+pub returns-then-code-lt64 : goal.returns-then-code-lt64
+unfolding mask_has
+returns-then-code-lt64 c = search tests
+
+pub returns : goal.returns
+unfolding mask_has
+returns c = search tests

@@ -20,6 +20,7 @@ use Rattle.table.specs.Keys.{number_of}
 pub number-lt-of-member : (ks : List (List ℕ)) (k : List ℕ) → Memᴰ k ks → number_of ks k < length ks
 unfolding number_of
 number-lt-of-member (x ∷ ks) k (Memᴰ.head e) = cond_yes (λ (n : ℕ). n < suc (length ks)) (same x k) _ (rw e (same_refl x)) (omega arith)
+number-lt-of-member [] k x' = elim x' [ ]
 number-lt-of-member (x ∷ ks) k (Memᴰ.tail i) =
     let h = number-lt-of-member ks k i in
     cond-elim (λ (n : ℕ). n < suc (length ks)) (same x k) (λ (g : T (same x k)). omega arith) (λ (g : T (not (same x k))). omega arith)
@@ -69,6 +70,7 @@ member-keys_from ks (end_state r f q ∷ es) i = member-keys_from ks es i
 key-member-from : (ks : List (List ℕ)) (es : List Entry) {r q m b : ℕ} {f : Form} {l : List ℕ} {t : ValueKind} → Memᴰ (edge r f q (b ∷ l) t m) es
     → Memᴰ (b ∷ l) (keys_from ks es)
 unfolding keys_from
+key-member-from ks [] x' = elim x' [ ]
 key-member-from ks (edge r f q k t m ∷ es) {b} {l} (Memᴰ.head e) =
     let d : b ∷ l ≡ k = cc in member-keys_from (with_key ks k) es (rw (← d) (new-with_key ks b l))
 key-member-from ks (edge r f q k t m ∷ es) (Memᴰ.tail i) = key-member-from (with_key ks k) es i

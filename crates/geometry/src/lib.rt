@@ -1,4 +1,5 @@
 // Points and boundaries in the plane. This crate has definitions and laws; crate plane has the code.
+#![tactic(auto)]
 
 // A point of the plane, in whole centimetres. Its height is y.
 #[derive(Clone, Copy)]

@@ -1,1 +1,2 @@
 // This crate has laws of whole numbers only: see proofs/.
+#![tactic(auto)]

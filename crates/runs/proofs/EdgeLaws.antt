@@ -41,8 +41,9 @@ member-of-edge (past-edge h) = Memᴰ.tail (member-of-edge h)
 member-of-edge (past_end h) = Memᴰ.tail (member-of-edge h)
 
 -- each edge of a book has a number
-pub edge-of-member : (i : ℕ) {es : List Entry} {r q m : ℕ} {f : Form} {k : List ℕ} {t : ValueKind} → edge r f q k t m ∈ es
+pub edge-of-member : {r q m : ℕ} {f : Form} {k : List ℕ} {t : ValueKind} (i : ℕ) {es : List Entry} → edge r f q k t m ∈ es
     → (e : ℕ) × EdgeFrom i es e (edge r f q k t m)
+edge-of-member i {es = []} x'' = elim x'' [ ]
 edge-of-member i {es = edge _ _ _ _ _ _ ∷ _} (Memᴰ.head e) = (i, this-edge refl e)
 edge-of-member i {es = edge _ _ _ _ _ _ ∷ _} (Memᴰ.tail h) = let (e, g) = edge-of-member (suc i) h in (e, past-edge g)
 edge-of-member i {es = end_state _ _ _ ∷ _} (Memᴰ.head e) = let z : ◌≡◌ {A = ℕ} 0 1 = cc in absurd (omega arith)

@@ -77,6 +77,9 @@ module _ (es : List Entry) where
 
 -- only objects and arrays fit a rule
 pub compound-of-fits : {es : List Entry} {v : Json} {r : ℕ} → FitsInSomeOrder es (Rule r) v → Compound v
+compound-of-fits (in_order Rattle.runs.specs.Runs.order_word f) = elim f [ ]
+compound-of-fits (in_order Rattle.runs.specs.Runs.order_string f) = elim f [ ]
+compound-of-fits (in_order Rattle.runs.specs.Runs.order_number f) = elim f [ ]
 compound-of-fits (in_order (order_array os) f) = compound_array
 compound-of-fits (in_order (order_object os) f) = compound_object
 

@@ -53,6 +53,7 @@ key-twice-insert (behind i) (later_twice h) = later_twice (key-twice-insert i h)
 
 -- each pair of an order is a pair of the object, its value in some order
 pub before-of-order : {l : List ℕ} {w : Json} {ps qs : Pairs} → OrderPairs ps qs → Among l w qs → (v : Json) × Among l v ps × Order v w
+before-of-order order_no_pairs a = elim a [ ]
 before-of-order {l} {w} (order_pairs {k} {v} {w = x} {ps} {qs} o os i) a = go (among_cases i a) (λ (b : Among l w qs). before-of-order os b)
   where
     further : (u : Json) × Among l u ps × Order u w → (u : Json) × Among l u (pairs k v ps) × Order u w
@@ -64,11 +65,13 @@ before-of-order {l} {w} (order_pairs {k} {v} {w = x} {ps} {qs} o os i) a = go (a
 
 -- each pair of an object is in its order
 pub after-order : {k : List ℕ} {v : Json} {ps qs : Pairs} → OrderPairs ps qs → Among k v ps → (w : Json) × Among k w qs × Order v w
+after-order order_no_pairs x4 = elim x4 [ ]
 after-order (order_pairs {w} o os i) first = (w, among-of-insert i, o)
 after-order (order_pairs o os i) (later a) = let (w, b, p) = after-order os a in (w, among-insert i b, p)
 
 -- a key that stands twice does so in every order
 pub key-twice-order : {ps qs : Pairs} → OrderPairs ps qs → KeyTwice ps → KeyTwice qs
+key-twice-order order_no_pairs x4 = elim x4 [ ]
 key-twice-order (order_pairs o os i) (first_again a) = let (w, b, p) = after-order os a in key-twice-of-insert i b
 key-twice-order (order_pairs o os i) (later_twice h) = key-twice-insert i (key-twice-order os h)
 

@@ -36,6 +36,7 @@ module _ {es : List Entry} (sound : Sound es) where
   -- after an edge the key numbers of a run are above the edge's
   pub number-lt-of-run : {r q m : ℕ} {k l : List ℕ} {t : ValueKind} {v : Json} {ps : Pairs} → edge r obj q k t m ∈ es → ObjectRun es r m ps
       → Among l v ps → number_in es k < number_in es l
+  number-lt-of-run i (Rattle.runs.specs.Runs.object_end _) x10 = elim x10 [ ]
   number-lt-of-run i (object_edge j f run) first = number-lt-of-edges i j
   number-lt-of-run {k} {l} i (object_edge {k = k'} j f run) (later a) =
       let g : number_in es k < number_in es k' = number-lt-of-edges i j in
@@ -43,11 +44,13 @@ module _ {es : List Entry} (sound : Sound es) where
 
   -- a run's keys are keys of the book
   pub known-of-run : {r q : ℕ} {k : List ℕ} {v : Json} {ps : Pairs} → ObjectRun es r q ps → Among k v ps → number_in es k < key_count es
+  known-of-run (Rattle.runs.specs.Runs.object_end _) x6 = elim x6 [ ]
   known-of-run (object_edge i f run) first = number-lt-of-edge i
   known-of-run (object_edge i f run) (later a) = known-of-run run a
 
   -- no run over pairs with a key twice
   pub keys-once-of-run : {r q : ℕ} {ps : Pairs} → ObjectRun es r q ps → KeyTwice ps → ⊥
+  keys-once-of-run (Rattle.runs.specs.Runs.object_end _) x6 = elim x6 [ ]
   keys-once-of-run (object_edge {k} i f run) (first_again a) = let h : number_in es k < number_in es k = number-lt-of-run i run a in omega arith
   keys-once-of-run (object_edge i f run) (later_twice h) = keys-once-of-run run h
 
@@ -85,6 +88,9 @@ module _ {es : List Entry} (sound : Sound es) where
 -- ---- the order of the pairs in a text does not matter
 
 compound-of-order : {v w : Json} → Order v w → Compound v → Compound w
+compound-of-order Rattle.runs.specs.Runs.order_word x5 = elim x5 [ ]
+compound-of-order Rattle.runs.specs.Runs.order_string x5 = elim x5 [ ]
+compound-of-order Rattle.runs.specs.Runs.order_number x6 = elim x6 [ ]
 compound-of-order (order_array os) compound_array = compound_array
 compound-of-order (order_object os) compound_object = compound_object
 

@@ -216,6 +216,7 @@ pub data AllJudged (es : List Entry) : Pairs → Type 0 where
 
 -- where each value of some pairs is judged as it fits, the value of any one of the pairs is
 judged-of-among : {es : List Entry} {k : List ℕ} {v : Json} {ps : Pairs} → AllJudged es ps → Among k v ps → Evaluated es v
+judged-of-among judged-none x3 = elim x3 [ ]
 judged-of-among (judged-pair j js) first = j
 judged-of-among (judged-pair j js) (later a) = judged-of-among js a
 

@@ -1,1 +1,2 @@
 // Runs of rule books over JSON trees: definitions and theorems only.
+#![tactic(auto)]

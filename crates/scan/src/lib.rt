@@ -1,4 +1,6 @@
 // Scans of a book's bytes: where a separator is, and what a field may be and means.
+#![tactic(auto)]
+
 ghost use Rattle.std.specs.Prelude.{◌≡◌, cond, ◌+◌, ◌*◌, ◌-◌, ◌≤◌, ltb, drop};
 ghost use Rattle.laws.specs.Lists.{all};
 ghost use Rattle.book.specs.Text.{between, is_number, number};

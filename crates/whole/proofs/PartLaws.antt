@@ -85,23 +85,23 @@ read_int : {r : Read} {m f e : ℕ} {g : Bool} {s : List ℕ} → Digits s → R
     → Reaches (fold (read_byte unbounded) r s) N.Int (shown_after m s) f g e
 unfolding shown_after
 read_int no_digits x = x
-read_int (digits {d} h t) x = read_int t (stepped (int-digit h) (digit-counts d h) x)
+read_int {r} (digits {d} h t) x = read_int {r = read_byte unbounded r d} t (stepped (int-digit h) (digit-counts d h) x)
 
 -- digits after it
 read-places : {r : Read} {m f e : ℕ} {g : Bool} {s : List ℕ} → Digits s → Reaches r N.Frac m f g e
     → Reaches (fold (read_byte unbounded) r s) N.Frac (shown_after m s) (f + length s) g e
 unfolding shown_after
 read-places {f} no_digits x = rw (add-zero f) x
-read-places {f} (digits {d} {s} h t) x =
+read-places {r} {f} (digits {d} {s} h t) x =
     let q : f + suc (length s) ≡ f + 1 + length s = omega arith in
-    rw q (read-places t (stepped (frac-digit h) (place-counts d h) x))
+    rw q (read-places {r = read_byte unbounded r d} t (stepped (frac-digit h) (place-counts d h) x))
 
 -- digits of the exponent
 read-size : {r : Read} {m f e : ℕ} {g : Bool} {s : List ℕ} → Digits s → Reaches r N.Exp m f g e
     → Reaches (fold (read_byte unbounded) r s) N.Exp m f g (shown_after e s)
 unfolding shown_after
 read-size no_digits x = x
-read-size (digits {d} h t) x = read-size t (stepped (exp-digit h) (exponent-counts d) x)
+read-size {r} (digits {d} h t) x = read-size {r = read_byte unbounded r d} t (stepped (exp-digit h) (exponent-counts d) x)
 
 -- ---- the parts
 

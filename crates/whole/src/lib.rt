@@ -1,4 +1,6 @@
 // Whether the value of a number is whole, found while its bytes pass, in constant memory.
+#![tactic(auto)]
+
 ghost use Rattle.std.specs.Prelude.{◌≡◌, ◌-◌, ◌≤◌};
 ghost use Rattle.whole.specs.Fresh.{fresh};
 ghost use Rattle.laws.specs.Count.{bump};

@@ -1,0 +1,6 @@
+-- `run::with_places` meets its contract. Assumes nothing.
+use borrow.Author.Rules.{rules}
+use Rattle.whole.proofs.run.with_places.Goals as goal
+
+pub returns : goal.returns
+returns c = simp c.more_by.ensures

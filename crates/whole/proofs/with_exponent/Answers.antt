@@ -1,0 +1,6 @@
+-- `with_exponent` meets its contract. Assumes nothing.
+use borrow.Author.Rules.{rules}
+use Rattle.whole.proofs.with_exponent.Goals as goal
+
+pub returns : goal.returns
+returns c = simp c.longer.ensures

@@ -1,4 +1,6 @@
 // The number of a corner, from the bytes that it is written in.
+#![tactic(auto)]
+
 ghost use Rattle.std.specs.Prelude.{◌≡◌, ◌+◌, ◌*◌, ◌≤◌, pos, nat_abs, drop};
 ghost use Rattle.coordinate.specs.Exact.{UpTo, longer, whole_of, coordinate_of};
 

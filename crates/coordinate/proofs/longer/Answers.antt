@@ -18,7 +18,7 @@ returns-then-value-gt100000 c =
     sym (longer-large _ _ c.if-b-lt48.false c.if-b-gt57.false (omega (arith, large)))
 
 -- the value is at most 100,000
-value-le : (c : goal.Else3) → nat_abs c.args.value ≤ 100000
+value-le : (c : goal.Else-value-gt100000) → nat_abs c.args.value ≤ 100000
 value-le c =
     le-of-stored c.args.value _ 100000 c.requires.natural (omega (arith, c.requires.small)) c.if-value-gt100000.false
 
@@ -27,7 +27,7 @@ appended-grown-requires c =
     rw (stored-up_to 1000000 (omega arith) c.args.value c.requires) (record { natural = refl; small = value-le c }, omega arith)
 
 -- the value and the digit, put together, are below 2 ^ 31
-module _ (c : goal.After-appended) where
+module _ (c : goal.After-appended-grown) where
   grown : c.appended-grown.result ≡ pos (nat_abs c.args.value * 10 + (c.args.b - 0x30))
   grown =
       rw (stored-up_to 1000000 (omega arith) c.args.value c.requires) at c.appended-grown.ensures

@@ -17,7 +17,7 @@ pub returns-then-digits-ne45 : goal.returns-then-digits-ne45
 returns-then-digits-ne45 c = c.whole.ensures ∙ sym (coordinate_of-digits _ c.if-digits-eq0.false c.if-digits-ne45.true)
 
 -- the bytes are a minus sign and others, of which `whole` tells the number
-minus : (c : goal.After-whole2) → coordinate_of c.args.digits.now ≡ negated c.whole-2.result
+minus : (c : goal.After-whole-2) → coordinate_of c.args.digits.now ≡ negated c.whole-2.result
 minus c = coordinate_of-minus _ c.if-digits-eq0.false c.if-digits-ne45.false ∙ ap negated (sym c.whole-2.ensures)
 
 pub returns-in_default : goal.returns-in_default
@@ -25,11 +25,11 @@ unfolding negated
 returns-in_default c = sym (minus c ∙ ap negated c.in_default.is)
 
 -- the number of the digits is in range
-value-up_to : (c : goal.After-value) → UpTo 1000000 c.in-At.value
+value-up_to : (c : goal.In-At-2) → UpTo 1000000 c.in-At.value
 value-up_to c = up_to-of-whole_of _ _ (sym c.whole-2.ensures ∙ c.in-At.is)
 
 -- its negation fits, and is what the machine computes
-module _ (c : goal.After-known-told) where
+module _ (c : goal.In-At) where
   difference : pos 0 -ℤ to_z w32 (of_z w32 c.in-At.value) ≡ neg_ℤ c.in-At.value
   difference = let u = value-up_to c in negated-stored _ _ u.natural (omega (arith, u.small))
 

@@ -18,7 +18,7 @@ pub loop-i-init : goal.loop-i-init
 loop-i-init c = reading-start _ _ c.if-digits-from.false
 
 -- the value is read back as it is
-module _ (c : goal.At-loop invariant-loop decreases-loop) where
+module _ (c : goal.At-loop-i invariant-loop decreases-loop) where
   value-stored : to_z w32 c.loop-i.value ≡ pos c.loop-i.value
   value-stored = to_z_pos w32 _ (omega (arith, c.loop-i.invariant.small))
 

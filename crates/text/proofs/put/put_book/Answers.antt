@@ -5,5 +5,5 @@ use Rattle.text.proofs.put.put_book.Goals as goal
 
 pub returns : goal.returns
 returns c =
-    book-put _ _ _ _ _ _ _ _ _ _ _ _ _ _ c.put_bytes-a.ensures c.put_decimal-b.ensures.0 c.put-c.ensures
-    c.put_decimal-d.ensures.0 c.put.ensures
+    book-put _ _ _ _ _ _ _ _ _ _ _ _ _ _ c.put_bytes-a.ensures c.put_decimal-b.ensures.put c.put-c.ensures
+    c.put_decimal-d.ensures.put c.put.ensures

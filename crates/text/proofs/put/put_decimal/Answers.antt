@@ -11,10 +11,10 @@ pub loop-i-init : goal.loop-i-init
 loop-i-init c = (search rules, search rules, refl, digits-start _ _ _)
 
 pub put_digit-place-requires : goal.put_digit-place-requires
-put_digit-place-requires c = (search rules, search (rules, power-positive))
+put_digit-place-requires c = record { at_in_bounds = search rules; p_nonzero = search (rules, power-positive) }
 
 pub loop-i-preserved : goal.loop-i-preserved
 loop-i-preserved c = (search rules, search rules, search rules, search (rules, digits_more))
 
 pub returns : goal.returns
-returns c = (search (rules, digits_last), search rules)
+returns c = record { put = search (rules, digits_last); upper_bound = search rules }

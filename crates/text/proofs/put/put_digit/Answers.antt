@@ -4,7 +4,7 @@ use borrow.Author.Rules.{rules}
 use Rattle.text.proofs.put.put_digit.Goals as goal
 
 pub returns-then-p-n : goal.returns-then-p-n
-returns-then-p-n c = (search (rules, put-digit-of), search rules)
+returns-then-p-n c = record { put = search (rules, put-digit-of); upper_bound = search rules }
 
 pub returns : goal.returns
-returns c = (search (rules, put-no-digit), search rules)
+returns c = record { put = search (rules, put-no-digit); upper_bound = search rules }

@@ -5,5 +5,5 @@ use Rattle.text.proofs.put.put_line.Goals as goal
 
 pub returns : goal.returns
 returns c =
-    line-put _ _ _ _ _ _ _ _ _ _ _ _ _ _ _ _ _ c.put_word-a.ensures.0 c.put-b.ensures c.number_of_lem.ensures
-    c.put_decimal-c.ensures.0 c.put-d.ensures c.place_of.ensures c.put_decimal-e.ensures.0 c.put.ensures
+    line-put _ _ _ _ _ _ _ _ _ _ _ _ _ _ _ _ _ c.put_word-a.ensures.put c.put-b.ensures c.number_of.ensures
+    c.put_decimal-c.ensures.put c.put-d.ensures c.place_of.ensures c.put_decimal-e.ensures.put c.put.ensures

@@ -4,10 +4,10 @@ use borrow.Author.Rules.{rules}
 use Rattle.text.proofs.put.put_word.Goals as goal
 
 pub returns-then-word-eq0 : goal.returns-then-word-eq0
-returns-then-word-eq0 c = (search (rules, put-valid), search rules)
+returns-then-word-eq0 c = record { put = search (rules, put-valid); upper_bound = search rules }
 
 pub returns-then-word-eq1 : goal.returns-then-word-eq1
-returns-then-word-eq1 c = (search (rules, put-invalid), search rules)
+returns-then-word-eq1 c = record { put = search (rules, put-invalid); upper_bound = search rules }
 
 pub returns : goal.returns
-returns c = (search (rules, put_refused), search rules)
+returns c = record { put = search (rules, put_refused); upper_bound = search rules }

@@ -8,7 +8,7 @@ pub check_table-requires : goal.check_table-requires
 check_table-requires c = (book-ranges _ _ c.take_book-a.ensures).edges
 
 pub returns-then-number_of-eq0 : goal.returns-then-number_of-eq0
-returns-then-number_of-eq0 c = loads-blank _ _ _ (search (rules, load-checked))
+returns-then-number_of-eq0 c = let z = loads-blank _ _ _ (search (rules, load-checked)) in record { loads_as = z.0; blank = z.1 }
 
 pub returns : goal.returns
-returns c = loads-blank _ _ _ (search (rules, load-refused))
+returns c = let z = loads-blank _ _ _ (search (rules, load-refused)) in record { loads_as = z.0; blank = z.1 }

@@ -15,7 +15,7 @@ passed_at-requires c =
       c.digits_end-j.ensures.low,
       c.digits_end-j.ensures.high,
       c.loop-top.invariant.runs.low,
-      c.well-formed,
+      c.well_formed,
     )
 
 pub returns-then-j-end : goal.returns-then-j-end

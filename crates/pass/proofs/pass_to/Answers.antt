@@ -13,7 +13,7 @@ pub number_to-requires : goal.number_to-requires
 number_to-requires c = search (rules, stands-in)
 
 pub passed_at-requires : goal.passed_at-requires
-passed_at-requires c = search (rules, count_fits, c.well-formed)
+passed_at-requires c = search (rules, count_fits, c.well_formed)
 
 pub returns-then-j-end : goal.returns-then-j-end
 returns-then-j-end c =

@@ -1,4 +1,6 @@
 // Loads the books 00, 01, .. of data/, and writes the number and line of each answer: BOOKS.md says what each book is.
+#![tactic(auto)]
+
 use libc::STDOUT_FILENO;
 
 const BOOKS: usize = 71;

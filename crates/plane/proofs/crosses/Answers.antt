@@ -5,26 +5,20 @@ use mir.Facts.{to_z-of_z}
 use mir.Syntax.{w32}
 use mir.Val.{to_z, of_z}
 use Rattle.plane.proofs.SideLaws.{crosses-rising, crosses-falling}
-use Rattle.plane.proofs.crosses.Statement.{statement}
-use Rattle.plane.proofs.crosses.Tie as tie
+use Rattle.plane.proofs.crosses.Goals as goal
 
-returns : tie.Need-returns
-returns c =
-    let start = c.before.before.before.before.before.before.before.before.before in
-    let x = start.args in
+pub returns-then-a-p : goal.returns-then-a-p
+returns-then-a-p c =
+    let x = c.args in
     let a : to_z w32 (of_z w32 x.a.y) ≡ x.a.y = search rules in
     let b : to_z w32 (of_z w32 x.b.y) ≡ x.b.y = search rules in
     let p : to_z w32 (of_z w32 x.p.y) ≡ x.p.y = search rules in
-    crosses-rising x.a x.b x.p a b p (to_z-of_z start.ranges.area ∙ start.requires) c.before.before.before.before.if1.true
+    crosses-rising x.a x.b x.p a b p (to_z-of_z c.ranges.area ∙ c.requires) c.if-a-p.true
 
-returns-2 : tie.Need-returns-2
-returns-2 c =
-    let start = c.before.before.before.before.before.before.before.before.before in
-    let x = start.args in
+pub returns-else-a-p : goal.returns-else-a-p
+returns-else-a-p c =
+    let x = c.args in
     let a : to_z w32 (of_z w32 x.a.y) ≡ x.a.y = search rules in
     let b : to_z w32 (of_z w32 x.b.y) ≡ x.b.y = search rules in
     let p : to_z w32 (of_z w32 x.p.y) ≡ x.p.y = search rules in
-    crosses-falling x.a x.b x.p a b p (to_z-of_z start.ranges.area ∙ start.requires) c.before.before.before.before.if1.false
-
-pub crosses-spec : {M : Type 1} → statement M
-crosses-spec = tie.close (tie.spec returns returns-2)
+    crosses-falling x.a x.b x.p a b p (to_z-of_z c.ranges.area ∙ c.requires) c.if-a-p.false

@@ -7,9 +7,8 @@ use Rattle.reader.proofs.admit.Goals as goal
 pub returns-in-Shut : goal.returns-in-Shut
 returns-in-Shut c = search (rules, call-shut)
 
--- TODO no new goal for overflow-mul-if2
--- mul-if2 : tie.Need-overflow-mul-if2
--- mul-if2 c = omega (arith, frames-le _ _ _ _ c.before.fit-reader.ensures c.if1.true)
+pub overflow_mul-frames : goal.overflow_mul-frames
+overflow_mul-frames c = omega (arith, frames-le _ _ _ _ c.fit_reader.ensures c.if-fit_reader.true)
 
 pub returns-then-n-frames : goal.returns-then-n-frames
 returns-then-n-frames c = search (rules, call-short)

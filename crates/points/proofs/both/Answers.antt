@@ -17,8 +17,6 @@ returns-in_default-y c = simp (c.in-Is.is, c.in_default-y.is)
 pub returns : goal.returns
 unfolding both
 returns c =
-    let x = c.x-1.given in
-    let y = c.y-1.given in
-    let p : to_z w32 (of_z w32 x.0.0) ≡ x.0.0 = search rules in
-    let q : to_z w32 (of_z w32 y.0.0) ≡ y.0.0 = search rules in
-    rw (p, q, x.1, y.1)
+    let p : to_z w32 (of_z w32 c.in-Is.a) ≡ c.in-Is.a = search rules in
+    let q : to_z w32 (of_z w32 c.in-Is-y.b) ≡ c.in-Is-y.b = search rules in
+    rw (p, q, c.in-Is.is, c.in-Is-y.is)

@@ -11,6 +11,5 @@ beyond-requires c = sym c.read.ensures ∙ c.in-Unfit.is
 
 pub returns-in-At : goal.returns-in-At
 returns-in-At c =
-    let z = c.z-1.given in
-    let q : to_z w32 (of_z w32 z.0.0) ≡ z.0.0 = search rules in
-    rw q (sym (number-of-at _ _ (sym c.read.ensures ∙ z.1)))
+    let q : to_z w32 (of_z w32 c.in-At.z) ≡ c.in-At.z = search rules in
+    rw q (sym (number-of-at _ _ (sym c.read.ensures ∙ c.in-At.is)))

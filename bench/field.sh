@@ -10,7 +10,7 @@ usage: bench/field.sh [options]
 Measures the calls for fields beside the same test written by hand in C++, and beside libraries of geometry.
 
   --rounds N        rounds of each table (9)
-  --archive FILE    the library (target/staticlib/libfieldtext.a, made by `rt staticlib fieldtext`)
+  --archive FILE    the library (target/staticlib/libfieldtext.a, made by tools/library.sh)
   --markdown FILE   writes the tables to a file, too
 
 Results go to target/bench/field.tsv. CXX names the compiler (c++).
@@ -47,7 +47,7 @@ while [ $# -gt 0 ]; do
     shift
 done
 case $rounds in '' | *[!0-9]* | 0) fail '--rounds wants a number from 1 on' ;; esac
-[ -f "$archive" ] || fail "there is no $archive; make it with: rt staticlib fieldtext"
+[ -f "$archive" ] || fail "there is no $archive; make it with: tools/library.sh"
 command -v "$compiler" >/dev/null 2>&1 || fail "there is no compiler $compiler"
 
 # peer NAME HEADER LIBRARY PACKAGE: takes part where its header is found

@@ -15,7 +15,7 @@ target/maps are taken.
   --rounds N        rounds of each table (7)
   --megabytes N     length of the made streams (20)
   --seed N          seed of the made streams (1)
-  --archive FILE    the library (target/staticlib/libfieldtext.a, made by `rt staticlib fieldtext`)
+  --archive FILE    the library (target/staticlib/libfieldtext.a, made by tools/library.sh)
   --markdown FILE   writes the tables to a file, too
 
 Results go to target/bench/results.tsv. CXX names the compiler (c++).
@@ -64,7 +64,7 @@ peer() {
 }
 
 build() {
-    [ -f "$archive" ] || fail "there is no $archive; make it with: rt staticlib fieldtext"
+    [ -f "$archive" ] || fail "there is no $archive; make it with: tools/library.sh"
     command -v "$compiler" >/dev/null 2>&1 || fail "there is no compiler $compiler"
     peer yajl yajl/yajl_parse.h -lyajl libyajl-dev
     peer rapidjson rapidjson/reader.h '' rapidjson-dev

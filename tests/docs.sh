@@ -34,9 +34,8 @@ for program in judge field; do
         exit 1
     fi
     cp -p "target/bin/$program" "$work/clean/target/bin/$program"
-    [ ! -e "target/$program.built" ] || cp -p "target/$program.built" "$work/clean/target/$program.built"
 done
-if ! { [ -e target/staticlib/libfieldtext.a ] || rt staticlib fieldtext >"$work/first" 2>&1; }; then
+if ! { [ -e target/staticlib/libfieldtext.a ] || tools/library.sh >"$work/first" 2>&1; }; then
     cat -- "$work/first"
     echo "the library cannot be built: 0 passed, 1 failed"
     exit 1

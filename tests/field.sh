@@ -373,14 +373,16 @@ find "$work/repo" -exec touch -d '2020-01-01' {} +
 cat >"$work/rt/rt" <<RT
 #!/bin/sh
 echo "\$*" >>"$work/rt/count"
-[ "\$*" = 'check field' ] || exit 3
-mkdir -p target/bin target/log
-: >target/log/under.out
+[ "\$*" = run ] && [ "\$(pwd -P)" = "$work/repo/crates/field" ] || exit 3
+mkdir -p out
+echo 'rt: chose --jobs 2 for under' >&2
 sleep 1.5
-: >target/log/field.out
+echo 'rt: chose --jobs 2 for field' >&2
 sleep 1.5
-printf '#!/bin/sh\ncat text.json -\n' >target/bin/field
-chmod +x target/bin/field
+printf '#!/bin/sh\ncat text.json -\n' >out/field
+chmod +x out/field
+echo 'rt: running out/field; to give it other input, run that file yourself' >&2
+exec out/field
 RT
 chmod +x "$work/rt/rt"
 printf 'a\nb\n' >two

@@ -359,16 +359,18 @@ cat >"$work/rt/rt" <<END
 #!/bin/sh
 echo "\$*" >>"$work/rt/count"
 echo 'a line of the log'
-[ "\$*" = 'check judge' ] || exit 3
+[ "\$*" = run ] && [ "\$(pwd -P)" = "$work/repo/crates/judge" ] || exit 3
 [ ! -e "$work/rt/fails" ] || exit 1
-mkdir -p target/bin target/log
-: >target/log/under.out
+mkdir -p out
+echo 'rt: chose --jobs 2 for under' >&2
 sleep 1.5
-: >target/log/judge.out
+echo 'rt: chose --jobs 2 for judge' >&2
 sleep 1.5
-printf '#!/bin/sh\ncat book.txt -\nexit 7\n' >target/bin/judge.new
-chmod +x target/bin/judge.new
-[ -e target/bin/judge ] || mv target/bin/judge.new target/bin/judge
+printf '#!/bin/sh\ncat book.txt -\nexit 7\n' >out/judge.new
+chmod +x out/judge.new
+[ -e out/judge ] || mv out/judge.new out/judge
+echo 'rt: running out/judge; to give it other input, run that file yourself' >&2
+exec out/judge
 END
 chmod +x "$work/rt/rt"
 call env PATH="$work/tools" "$work/repo/judge"
@@ -388,12 +390,18 @@ if builds 2; then ok; else bad "the program is built $(wc -l <"$work/rt/count") 
 touch -d '+2 seconds' "$work/repo/crates/beside/src/lib.rt"
 call "$work/repo/judge" five.txt two
 if builds 2; then ok; else bad 'a crate that the program does not need makes a build'; fi
-touch -d '2021-01-01' "$work/repo/target/bin/judge" "$work/repo/target/judge.built"
+touch -d '2021-01-01' "$work/repo/target/bin/judge" "$work/repo/crates/judge/out/judge"
 touch -d '2022-01-01' "$work/repo/crates/under/src/lib.rt"
 call "$work/repo/judge" five.txt two
 builds_and_prints 'a build where a source is newer' 7 "$(cat five.txt)" "$(cat two)"
 call "$work/repo/judge" five.txt two
 if builds 3; then ok; else bad "a newer source: $(wc -l <"$work/rt/count") builds, not 3"; fi
+touch -d '+2 seconds' "$work/repo/crates/under/src/lib.rt"
+: >"$work/rt/fails"
+call "$work/repo/judge" five.txt two
+says 'a build that fails beside an older program' 2 'a line of the log'
+rm "$work/rt/fails"
+touch -d '2022-01-01' "$work/repo/crates/under/src/lib.rt"
 call env PATH="$work/tools" "$work/repo/judge" five.txt two
 prints 'no rt, and none needed' 7 "$(cat five.txt)" "$(cat two)"
 PATH=$old

@@ -46,18 +46,18 @@ make_folder() {
     mkdir -- "$folder/run" || fail "no temporary folder could be made"
 }
 
-# the program's crates, by the dependencies in crates.txt
+# the program's crates by the dependencies in crates.txt, in the order in which rt builds them: each after those that it uses
 crates() {
     awk -F': *' -v program="$program" '
-        !/^#/ { needs[$1] = $2; listed[$1] = 1 }
-        END {
-            list[1] = program; n = 1; seen[program] = 1
-            for (i = 1; i <= n; i++) {
-                k = split(needs[list[i]], words, " ")
-                for (j = 1; j <= k; j++) if (!(words[j] in seen)) { seen[words[j]] = 1; list[++n] = words[j] }
-            }
-            for (i = 1; i <= n; i++) if (list[i] in listed) print list[i]
-        }' crates.txt 2>/dev/null
+        function visit(name, names, count, i) {
+            if (name in seen) return
+            seen[name] = 1
+            count = split(needs[name], names, " ")
+            for (i = 1; i <= count; i++) visit(names[i])
+            if (name in listed) print name
+        }
+        !/^#/ { split($1, words, " "); needs[words[1]] = $2; listed[words[1]] = 1 }
+        END { visit(program) }' crates.txt 2>/dev/null
 }
 
 # the folders of their sources
@@ -69,10 +69,10 @@ sources() {
     done
 }
 
-# newest FILE: it is there, and nothing of the sources is newer
+# newest FILE: nothing of the sources is newer
 newest() {
     # shellcheck disable=SC2046 # names of crates hold no blanks
-    [ -e "$1" ] && [ -z "$(find crates.txt $(sources) -type f -newer "$1" -print 2>/dev/null | head -n 1)" ]
+    [ -z "$(find crates.txt $(sources) -type f -newer "$1" -print 2>/dev/null | head -n 1)" ]
 }
 
 # says on standard error which crate is being proved, and the seconds since the first, until $folder/begun is gone: a signal that comes while the
@@ -81,16 +81,14 @@ progress() {
     names=$(crates)
     total=$(printf '%s\n' "$names" | wc -l)
     begun=$(date +%s)
-    count=0
-    said=' '
+    told=' '
     while [ -e "$folder/begun" ] && kill -0 $$ 2>/dev/null; do
-        for name in $names; do
-            case $said in *" $name "*) continue ;; esac
-            # rt opens a crate's log where it begins with the crate
-            [ -n "$(find "$folder/begun" ! -newer "target/log/$name.out" 2>/dev/null)" ] || continue
-            said="$said$name "
-            count=$((count + 1))
-            printf '%s: proving crate %d of %d, %s (%d s)\n' "$program" "$count" "$total" "$name" "$(($(date +%s) - begun))" >&2
+        # rt writes such a line where it begins to prove a crate; of one that it has proved before it writes none
+        for name in $(sed -n 's/^rt: chose --jobs [0-9]* for \([a-z0-9_]*\)$/\1/p' "$folder/log"); do
+            case $told in *" $name "*) continue ;; esac
+            told="$told$name "
+            place=$(printf '%s\n' "$names" | grep -n -x -e "$name" | cut -d : -f 1)
+            printf '%s: proving crate %d of %d, %s (%d s)\n' "$program" "$place" "$total" "$name" "$(($(date +%s) - begun))" >&2
         done
         sleep 1
     done
@@ -98,26 +96,29 @@ progress() {
 
 # builds the program where need be; the repository is the folder that this runs in
 build() {
-    if [ -f "target/bin/$program" ] && { newest "target/bin/$program" || newest "target/$program.built"; }; then
+    if [ -f "target/bin/$program" ] && newest "target/bin/$program"; then
         return
     fi
     command -v rt >/dev/null 2>&1 || fail "target/bin/$program must be built, and rt, of the Rattle kit, is not on the path"
-    printf '%s: rt check %s proves and builds the program; the first time this takes some minutes\n' "$program" "$program" >&2
+    printf '%s: rt run in crates/%s proves and builds the program; the first time this takes some minutes\n' "$program" "$program" >&2
     : >"$folder/begun"
+    : >"$folder/log"
     progress &
     child=$!
-    rt check "$program" >"$folder/log" 2>&1 </dev/null
-    status=$?
+    # once the program is built, rt runs it as well: here without input, and in a folder that has no file for it
+    (cd -- "crates/$program" && exec rt run) >"$folder/log" 2>&1 </dev/null
     rm -f -- "$folder/begun"
     kill "$child" 2>/dev/null
     wait "$child" 2>/dev/null
     child=
-    if [ "$status" -ne 0 ]; then
+    # the exit status may be the program's: this line says that it is built
+    if ! grep -q "^rt: running out/$program;" "$folder/log"; then
         cat -- "$folder/log" >&2
-        fail "rt check $program failed; its log is above"
+        fail "rt run in crates/$program failed; its log is above"
     fi
-    [ -f "target/bin/$program" ] || fail "rt check $program gave no target/bin/$program"
-    : >"target/$program.built"
+    if ! { mkdir -p target/bin && cp -- "crates/$program/out/$program" "target/bin/$program.new" && mv -f -- "target/bin/$program.new" "target/bin/$program"; }; then
+        fail "rt run gave no crates/$program/out/$program that could be copied to target/bin"
+    fi
 }
 
 # runs the program in $folder/run, with what descriptor 3 reads as its input and its words for people to descriptor 4, and sets `status` to its exit

@@ -26,7 +26,7 @@ def rooms():
 def dependencies():
     """What each crate of crates.txt lists, the kit's libraries aside."""
     lines = [line.split("#")[0] for line in (ROOT / "crates.txt").read_text(encoding="utf8").splitlines()]
-    listed = dict((name.strip(), names.split()) for name, _, names in (line.partition(":") for line in lines if line.strip()))
+    listed = dict((head.split()[0], names.split()) for head, _, names in (line.partition(":") for line in lines if line.strip()))
     return {name: [other for other in names if other in listed] for name, names in listed.items()}
 
 

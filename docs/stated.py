@@ -23,9 +23,9 @@ def head(text):
 
 def uses(text, own):
     """The files of specs/ that a file uses, with the names that it takes from each."""
-    for found in re.finditer(r"^use Rattle·(\w+?)(?:·specs)?\.specs\.(?:specs\.)?(\w+)(?:\.\{([^}]*)\})?", text, re.M):
+    for found in re.finditer(r"^use Rattle\.(\w+)\.specs\.(\w+)(?:\.\{([^}]*)\})?", text, re.M):
         crate, file, names = found.groups()
-        if file not in ("declared", "specs"):
+        if crate != "std" and file != "declared":
             yield f"{crate}/specs/{file}.antt", {name.split(" as ")[0].strip() for name in (names or "*").split(",")}
 
 
@@ -89,7 +89,8 @@ for path in sorted(ROOT.glob("crates/*/src/lib.rt")):
     for module in re.findall(r"^pub mod (\w+);", path.read_text(), re.M):
         files[f"{module}::"] = path.with_name(f"{module}.rt")
     for module, file in files.items():
-        for function in re.finditer(r"^( *)pub (?:extern \"C\" )?fn (\w+)(.*?)\n\1\{", file.read_text(), re.M | re.S):
+        # a function's head ends at its `{`, which stands on a line of its own where there are clauses
+        for function in re.finditer(r"^( *)pub (?:extern \"C\" )?fn (\w+)(.*?)(?: \{$|\n\1\{$)", file.read_text(), re.M | re.S):
             if re.search(r"^ *requires ", function.group(3), re.M):
                 asking.add(f"{crate}::{module}{function.group(2)}")
 told = set()

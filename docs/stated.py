@@ -3,7 +3,7 @@
 A head says either Stated or Derived. STATED.md lists the stated files, each with its lines, and none uses one that stands later. A stated file uses definitions of stated files
 alone, but for the names that STATED.md lists as standing for what the code gives. The column 'stated in' of CLAIMS.md names stated files alone.
 DEVELOPING.md lists the functions with a `requires` that another crate can name.
-Prints what is not so, and ends with status 1 where anything is not."""
+Prints what is not so, and ends with status 1 where anything is not. With --count it first writes the numbers of lines into STATED.md."""
 import pathlib
 import re
 import sys
@@ -42,7 +42,11 @@ for name, text in texts.items():
     elif "Stated" in says:
         stated.add(name)
 
-list_part, _, names_part = (ROOT / "docs/STATED.md").read_text().partition("## Names")
+page = ROOT / "docs/STATED.md"
+if "--count" in sys.argv[1:]:
+    row = r"^(\| `(\w+/specs/\w+\.antt)` \|) \d+ \|"
+    page.write_text(re.sub(row, lambda m: f"{m[1]} {len(texts[m[2]].splitlines())} |", page.read_text(), flags=re.M))
+list_part, _, names_part = page.read_text().partition("## Names")
 listed = {}
 for name, lines in re.findall(r"^\| `(\w+/specs/\w+\.antt)` \| (\d+) \|", list_part, re.M):
     if name in listed:

@@ -45,7 +45,7 @@ for name, text in texts.items():
 page = ROOT / "docs/STATED.md"
 if "--count" in sys.argv[1:]:
     row = r"^(\| `(\w+/specs/\w+\.antt)` \|) \d+ \|"
-    page.write_text(re.sub(row, lambda m: f"{m[1]} {len(texts[m[2]].splitlines())} |", page.read_text(), flags=re.M))
+    page.write_text(re.sub(row, lambda m: f"{m[1]} {len(texts.get(m[2], str()).splitlines())} |", page.read_text(), flags=re.M))
 list_part, _, names_part = page.read_text().partition("## Names")
 listed = {}
 for name, lines in re.findall(r"^\| `(\w+/specs/\w+\.antt)` \| (\d+) \|", list_part, re.M):

@@ -142,11 +142,11 @@ module _ (s : List ℕ) (from v i : ℕ) (inv : Reading s from v i) where
   reading-unfit h e = sym inv.rest ∙ rw (drop-cons s i 0 h) (whole_from-of-unfit _ _ _ e)
 
   -- a digit more
-  pub reading-more : i < length s → (z : ℤ) → longer v (get_or s i 0) ≡ At z → Reading s from (of_z w32 z) (i + 1)
+  pub reading-more : i < length s → (z : ℤ) → longer v (get_or s i 0) ≡ At z → (to_z w32 (of_z w32 z) ≡ pos (nat_abs (to_z w32 (of_z w32 z)))) × Reading s from (nat_abs (to_z w32 (of_z w32 z))) (i + 1)
   reading-more h z e =
       let k = whole_from-of-at v (get_or s i 0) (drop (i + 1) s) z e in
-      rw k.0.natural
-      (record { small = k.0.small; rest = sym k.1 ∙ rw add-one (rw (drop-cons s i 0 h) at inv.rest) })
+      rw (stored-up_to 1000000 (omega arith) z k.0)
+      (refl, record { small = k.0.small; rest = sym k.1 ∙ rw add-one (rw (drop-cons s i 0 h) at inv.rest) })
 
   -- no byte is left
   pub reading-end : length s ≤ i → At (pos v) ≡ whole_of (drop from s)

@@ -87,7 +87,7 @@ module _ (𝔸 𝔹 : Meaning) where
   -- after any bytes
   pub run-alike : {q : State 𝔸} {r : State 𝔹} (s : List ℕ) → Alike q r → Alike (run 𝔸 q s) (run 𝔹 r s)
   run-alike [] x = x
-  run-alike (b ∷ s) x = run-alike s (step-alike b x)
+  run-alike {q} {r} (b ∷ s) x = run-alike {q = step 𝔸 q b} {r = step 𝔹 r b} s (step-alike b x)
 
   pub alike : (s : List ℕ) → Alike (run 𝔸 (start 𝔸) s) (run 𝔹 (start 𝔹) s)
   alike s = run-alike s (both_at both-bare)

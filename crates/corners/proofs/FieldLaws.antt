@@ -212,12 +212,35 @@ book_order-of-run (object_edge {m} {k} {t} {v} {ps} h f r) =
 
 order-corners : {us vs : Values} {cs : List Corner} → OrderValues us vs → CornersIn vs cs → CornersIn us cs
 order-corners order_no_values no_corner = no_corner
+order-corners (order_values order_word h) x9 = elim x9 [ ]
+order-corners (order_values order_string h) x9 = elim x9 [ ]
+order-corners (order_values order_number h) x10 = elim x10 [ ]
+order-corners (order_values (order_array order_no_values) h) x17 = elim x17 [ ]
+order-corners (order_values (order_array (order_values order_word _)) h) x31 = elim x31 [ ]
+order-corners (order_values (order_array (order_values order_string _)) h) x31 = elim x31 [ ]
+order-corners (order_values (order_array (order_values order_number order_no_values)) h) x35 = elim x35 [ ]
+order-corners (order_values (order_array (order_values order_number (order_values order_word _))) h) x49 = elim x49 [ ]
+order-corners (order_values (order_array (order_values order_number (order_values order_string _))) h) x49 = elim x49 [ ]
+order-corners (order_values (order_array (order_values order_number (order_values order_number (order_values _ _)))) h) x59 = elim x59 [ ]
+order-corners (order_values (order_array (order_values order_number (order_values (order_array _) _))) h) x54 = elim x54 [ ]
+order-corners (order_values (order_array (order_values order_number (order_values (order_object _) _))) h) x55 = elim x55 [ ]
+order-corners (order_values (order_array (order_values (order_array _) _)) h) x36 = elim x36 [ ]
+order-corners (order_values (order_array (order_values (order_object _) _)) h) x37 = elim x37 [ ]
+order-corners (order_values (order_object _) h) x15 = elim x15 [ ]
 order-corners (order_values (order_array (order_values order_number (order_values order_number order_no_values))) h) (corner x) = corner (order-corners h x)
 
 string-of-order : {u w : Json} → Order u w → IsString w → IsString u
+string-of-order order_word x5 = elim x5 [ ]
+string-of-order order_number x5 = elim x5 [ ]
+string-of-order (order_array _) x9 = elim x9 [ ]
+string-of-order (order_object _) x10 = elim x10 [ ]
 string-of-order order_string value_string = value_string
 
 corners-of-order : {u w : Json} → Order u w → IsCorners w → IsCorners u
+corners-of-order order_word x5 = elim x5 [ ]
+corners-of-order order_string x5 = elim x5 [ ]
+corners-of-order order_number x6 = elim x6 [ ]
+corners-of-order (order_object _) x10 = elim x10 [ ]
 corners-of-order (order_array h) (is-corners x) = is-corners (order-corners h x)
 
 -- the tree of a field
@@ -226,12 +249,14 @@ pub data IsField : Json → Type 0 where
   name-first : {v u : Json} → IsCorners v → IsString u → IsField (object (pairs name_key u (pairs corners_key v no_pairs)))
 
 no-pairs-of-order : {ps : Pairs} → OrderPairs ps no_pairs → ps ≡ no_pairs
+no-pairs-of-order (order_pairs _ _ x9) = elim x9 [ ]
 no-pairs-of-order order_no_pairs = refl
 
 data OnePair (k : List ℕ) (w : Json) : Pairs → Type 0 where
   one-pair : {u : Json} → Order u w → OnePair k w (pairs k u no_pairs)
 
 one-of-order : {k : List ℕ} {w : Json} {ps : Pairs} → OrderPairs ps (pairs k w no_pairs) → OnePair k w ps
+one-of-order (order_pairs o h (behind x8)) = elim x8 [ ]
 one-of-order (order_pairs o h in_front) = go o (no-pairs-of-order h)
   where
     go : {l : List ℕ} {u w : Json} {ps : Pairs} → Order u w → ps ≡ no_pairs → OnePair l w (pairs l u ps)

@@ -1,1 +1,2 @@
 // This crate has definitions and laws only: see specs/ and proofs/.
+#![tactic(auto)]

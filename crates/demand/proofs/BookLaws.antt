@@ -32,6 +32,7 @@ use Rattle.demand.specs.Book.{Book}
 
 -- a claim that holds of each member holds of a member
 of-each : {A : Type 0} (P : A → Type 0) {x : A} (l : List A) → Each P l → Memᴰ x l → P x
+of-each P [] h x3 = elim x3 [ ]
 of-each P (y ∷ l) h (Memᴰ.head e) = rw e h.0
 of-each P (y ∷ l) h (Memᴰ.tail i) = of-each P l h.1 i
 

@@ -1,1 +1,2 @@
 // Demand 3 of accepted books: definitions and theorems only.
+#![tactic(auto)]

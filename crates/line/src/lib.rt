@@ -1,4 +1,6 @@
 // One line of a book: its fields, and what it says by itself, refusals 3 and 4.
+#![tactic(auto)]
+
 ghost use Rattle.std.specs.Prelude.{◌≡◌, ◌+◌, ◌<◌, length};
 ghost use Rattle.book.specs.Text.{number};
 ghost use Rattle.book.specs.Line.{formed as isFormed, key_of, kind_in, small_kind, say_fields, say_line};

@@ -1,4 +1,6 @@
 // Load: the table that a rule book says, or its refusal. REQUIREMENT.md, section 3.
+#![tactic(auto)]
+
 ghost use Rattle.std.specs.Prelude.{◌≡◌};
 ghost use Rattle.load.specs.BookAnswer.{numbered};
 ghost use Rattle.table.specs.Flat.{table_in};

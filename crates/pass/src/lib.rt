@@ -1,5 +1,7 @@
 // Bytes that only move a reader on: those that change where it stands in the record, and the plain characters of a key. Each kind is passed over
 // in a loop of its own.
+#![tactic(auto)]
+
 ghost use Rattle.std.specs.Prelude.{true, ◌≡◌, ◌+◌, ◌-◌, ◌<◌, ◌≤◌, min, length, get_or};
 ghost use Rattle.json_text.specs.Lexer.{step_of};
 ghost use Rattle.chars.specs.Table.{class_table};

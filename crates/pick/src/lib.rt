@@ -1,4 +1,6 @@
 // Pick: the record of a stream slice that has verdict n.
+#![tactic(auto)]
+
 ghost use Rattle.std.specs.Prelude.{◌≡◌};
 ghost use Rattle.pick.specs.Pick.{pick_of};
 ghost use Rattle.pick.specs.Scan.{ends_part, is_it, counted, part_start};

@@ -1,4 +1,6 @@
 // A piece is read on: the bytes that are passed over, and one byte more.
+#![tactic(auto)]
+
 ghost use Rattle.std.specs.Prelude.{◌≡◌, true, ◌<◌, length, get_or};
 ghost use Rattle.chars.specs.Table.{class_table};
 ghost use Rattle.table.specs.Flat.{table_in};

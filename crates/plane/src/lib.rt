@@ -1,4 +1,6 @@
 // Where a point lies to the corners of a boundary, and which corner is nearest.
+#![tactic(auto)]
+
 ghost use Rattle.std.specs.Prelude.{◌≡◌, ◌+◌, ◌*◌, ◌<◌, ◌-ℤ◌, ◌*ℤ◌, length};
 ghost use Rattle.geometry.specs.Plane.{distance};
 ghost use Rattle.geometry.specs.Tests.{cross, between, on_segment, crosses, located};

@@ -1,4 +1,6 @@
 // Points from lines of text, and the lines that answer them.
+#![tactic(auto)]
+
 ghost use Rattle.std.specs.Prelude.{◌≡◌, ◌≤◌, length};
 ghost use Rattle.points.specs.Points.{is_blank, is_of, run, after_blanks, word, after_word, without_cr, both, point_from, point_of};
 

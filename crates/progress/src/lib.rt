@@ -1,4 +1,6 @@
 // The open record, byte by byte: what the reader knows of it, its frames and the bytes of its key aside.
+#![tactic(auto)]
+
 ghost use Rattle.std.specs.Prelude.{◌≡◌};
 ghost use Rattle.progress.specs.Fresh.{fresh_progress};
 ghost use Rattle.progress.specs.Progress.{counted, faulted, moved, acted, sound, advanced, judged};

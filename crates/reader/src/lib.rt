@@ -1,4 +1,6 @@
 // The reader: start, feed and close.
+#![tactic(auto)]
+
 ghost use Rattle.std.specs.Prelude.{◌≡◌, length, true, [], ◌∷◌};
 ghost use Rattle.table.specs.Flat.{table_in};
 ghost use Rattle.table.specs.Limits.{within_limits};

@@ -1,4 +1,6 @@
 // The judging program's work, on slices.
+#![tactic(auto)]
+
 ghost use Rattle.std.specs.Prelude.{◌≡◌, ◌+◌, ◌≤◌, ◌<◌, length, drop};
 ghost use Rattle.table.specs.Flat.{table_in};
 ghost use Rattle.reader.specs.Machine.{feed_of};

@@ -1,4 +1,6 @@
 // The table of a book, one entry after the other.
+#![tactic(auto)]
+
 ghost use Rattle.std.specs.Prelude.{◌&&◌, ◌≡◌, ◌+◌, ◌*◌, ◌<◌, ◌≤◌, eqb, length};
 ghost use Rattle.laws.specs.Bits.{bit_at};
 ghost use Rattle.table.specs.Flat.{table_in, empty_table};

@@ -1,5 +1,7 @@
 // The text of the judging program, as bytes in a lent buffer. Each function answers the place after what it wrote; where the buffer has less
 // than 64 bytes from the place on, it writes nothing.
+#![tactic(auto)]
+
 ghost use Rattle.std.specs.Prelude.{◌≡◌};
 ghost use Rattle.verdict.specs.Verdict.{shown};
 ghost use Rattle.text.specs.Text.{stream_names, word_number, line_of, book_lines};

@@ -1,4 +1,6 @@
 // One byte that ends no record: what it does to the record, its key and its frames.
+#![tactic(auto)]
+
 ghost use Rattle.std.specs.Prelude.{false, ◌≡◌, ◌≤◌, length, replicate};
 ghost use Rattle.table.specs.Flat.{table_in};
 ghost use Rattle.progress.specs.Memory.{mem, top_at};

@@ -56,6 +56,7 @@ module _ {es : List Entry} {n : ℕ} {p : List ℕ} where
   valid-iff = (into, λ (f, (t, x, v)). by_book f x v)
     where
       into : Judged es n p Is.Valid → Faultless n p × ((t : Json) × Text p t × Valid es t)
+      into (by_fault x3 _) = elim x3 [ ]
       into (by_book {t} f x v) = (f, (t, x, v))
 
   -- a part is invalid exactly when it is a text within the limits that is not valid by the book
@@ -63,6 +64,7 @@ module _ {es : List Entry} {n : ℕ} {p : List ℕ} where
   invalid-iff = (into, λ (f, (t, x, v)). not_by_book f x v)
     where
       into : Judged es n p Is.Invalid → Faultless n p × ((t : Json) × Text p t × (Valid es t → ⊥))
+      into (by_fault x3 _) = elim x3 [ ]
       into (not_by_book {t} f x v) = (f, (t, x, v))
 
   -- a part is too long exactly when its first fault is a byte too many
@@ -100,6 +102,7 @@ module _ {es : List Entry} {n : ℕ} {p : List ℕ} where
   unfinished-iff i = (into, λ (e, f, m). rw e (by_end f m))
     where
       into : {k : ℕ} → Judged es n p (Is.Unfinished k) → (k ≡ length p) × Faultless n p × ((t : Json) → Text p t → ⊥)
+      into (by_fault x3 _) = elim x3 [ ]
       into (by_end f m) = (refl, f, m)
 
   -- 15 is for the head alone

@@ -1,4 +1,6 @@
 // The verdict of a record: REQUIREMENT.md, section 6.
+#![tactic(auto)]
+
 ghost use Rattle.std.specs.Prelude.{◌≡◌};
 ghost use Rattle.verdict.specs.Verdict.{shown};
 

@@ -16,6 +16,4 @@ pub returns-then-s-ne48 : goal.returns-then-s-ne48
 returns-then-s-ne48 c = search (rules, is_number-other)
 
 pub returns : goal.returns
-returns c =
-    is_number-zero _ c.if-s-eq0.false _ c.is_between.ensures c.if-not-is_between.false _ c.all_between.ensures
-    c.if-not-all_between.false c.if-s-ne48.false
+returns c = search (rules, is_number-zero)

@@ -1,0 +1,10 @@
+-- `feeds::feed_close` meets its contract: the feeds, then the close. Assumes nothing.
+use Rattle.entries.proofs.FeedLaws.{streamed-of}
+use borrow.Author.Rules.{rules}
+use Rattle.entries.proofs.feeds.feed_close.Goals as goal
+
+pub returns : goal.returns
+returns c =
+    let put = c.put_answer in
+    let fed = c.feed_all-f in
+    streamed-of _ _ _ _ _ _ _ _ _ _ _ fed.ensures.0 _ _ _ _ c.close-c.ensures _ _ put.ensures.0 put.ensures.1

@@ -1,0 +1,16 @@
+-- `check::dangling_line` meets its contract: what is left gives the line that all give. Assumes nothing.
+use mathlib.Core.Path.{◌≡◌}
+use Prim.Native.Nat.{◌≤◌, ◌-◌}
+use Rattle.store.specs.Store.{first_at}
+use Rattle.load.specs.Check.{dangles_at, line_at, dangling_line}
+use Rattle.store.proofs.LoopLaws.{first_at-hit, first_at-more, first_at-end}
+use Rattle.load.proofs.CheckLaws.{dangles_at-kind, dangling_line-start}
+use Rattle.table.specs.Flat.{table_in}
+use borrow.Author.Rules.{rules}
+use Rattle.load.proofs.check.dangling_line.Given as goal
+
+abbrev pub invariant-loop-e : goal.invariant-loop-e
+invariant-loop-e l = (l.e ≤ l.n) × (first_at (dangles_at (table_in l.table)) (line_at (table_in l.table)) l.e (l.n - l.e) ≡ dangling_line (table_in l.table))
+
+abbrev pub decreases-loop-e : goal.decreases-loop-e
+decreases-loop-e l = l.n - l.e

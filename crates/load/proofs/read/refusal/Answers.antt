@@ -1,0 +1,6 @@
+-- `read::refusal` meets its contract. Assumes nothing.
+use borrow.Author.Rules.{rules}
+use Rattle.load.proofs.read.refusal.Goals as goal
+
+pub returns : goal.returns
+returns c = cc

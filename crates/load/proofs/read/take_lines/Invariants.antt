@@ -1,0 +1,19 @@
+-- `read::take_lines` meets its contract: the lines that are left, into the table so far, give what all give. Each line has at least its LF, so that
+-- its number stays below its place. Assumes nothing.
+use mathlib.Core.Path.{◌≡◌}
+use Prim.Native.Nat.{◌≤◌, ◌+◌, ◌-◌}
+use lib.ListN.{length, drop}
+use Rattle.book.specs.Text.{split}
+use Rattle.load.specs.Ranges.{Ranges}
+use Rattle.load.specs.Step.{take_lines}
+use Rattle.load.proofs.ReadLaws.{lines_end, lines-open, lines-bad, lines_more}
+use Rattle.load.proofs.RangeLaws.{ranges-line, ranges-empty}
+use Rattle.table.specs.Flat.{table_in, empty_table}
+use borrow.Author.Rules.{rules}
+use Rattle.load.proofs.read.take_lines.Given as goal
+
+abbrev pub invariant-loop-i : goal.invariant-loop-i
+invariant-loop-i l = (l.i ≤ length l.b) × (l.n + 29 ≤ l.i) × Ranges (table_in l.table) × (take_lines l.n (table_in l.table) (split 10 (drop l.i l.b)) ≡ take_lines 2 empty_table (split 10 (drop 31 l.b)))
+
+abbrev pub decreases-loop-i : goal.decreases-loop-i
+decreases-loop-i l = length l.b - l.i

@@ -1,0 +1,12 @@
+-- `bits_over` meets its contract. Assumes nothing.
+use Rattle.pass.specs.Pass.{bits_over}
+use borrow.Author.Rules.{rules}
+use Rattle.pass.proofs.bits_over.Goals as goal
+
+pub returns-then-some : goal.returns-then-some
+unfolding bits_over
+returns-then-some c = simp (c.bits_in.ensures, c.if-some.true)
+
+pub returns : goal.returns
+unfolding bits_over
+returns c = simp c.if-some.false

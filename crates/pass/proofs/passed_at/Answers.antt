@@ -1,0 +1,6 @@
+-- `passed_at` meets its contract. Assumes nothing.
+use borrow.Author.Rules.{rules}
+use Rattle.pass.proofs.passed_at.Goals as goal
+
+pub returns : goal.returns
+returns c = simp c.place_at.ensures

@@ -1,0 +1,6 @@
+-- `act::len_after` meets its contract. Assumes nothing.
+use borrow.Author.Rules.{rules}
+use Rattle.progress.proofs.act.len_after.Goals as goal
+
+pub returns-in-KeyChar : goal.returns-in-KeyChar
+returns-in-KeyChar c = simp (c.key_len.ensures, c.in-KeyChar.is)

@@ -1,0 +1,6 @@
+-- `counted` meets its contract. Assumes nothing.
+use borrow.Author.Rules.{rules}
+use Rattle.progress.proofs.counted.Goals as goal
+
+pub returns : goal.returns
+returns c = simp c.bump.ensures

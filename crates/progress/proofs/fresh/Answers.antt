@@ -1,0 +1,6 @@
+-- `fresh` meets its contract. Assumes nothing.
+use borrow.Author.Rules.{rules}
+use Rattle.progress.proofs.fresh.Goals as goal
+
+pub returns : goal.returns
+returns c = simp c.fresh-d.ensures

@@ -1,0 +1,6 @@
+-- `count_invalid` meets its contract. Assumes nothing.
+use borrow.Author.Rules.{rules}
+use Rattle.reader.proofs.count_invalid.Goals as goal
+
+pub returns : goal.returns
+returns c = simp c.bump.ensures

@@ -1,0 +1,7 @@
+-- `report_next` meets its contract: a feed, then its line. Assumes nothing.
+use Rattle.report.proofs.ReportLaws.{next_of}
+use borrow.Author.Rules.{rules}
+use Rattle.report.proofs.report_next.Goals as goal
+
+pub returns : goal.returns
+returns c = search (rules, next_of)

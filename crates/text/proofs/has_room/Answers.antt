@@ -1,0 +1,10 @@
+-- `has_room` meets its contract. Assumes nothing.
+use Rattle.text.proofs.PutLaws.{room-some, room-none}
+use borrow.Author.Rules.{rules}
+use Rattle.text.proofs.has_room.Goals as goal
+
+pub returns-then-at-len : goal.returns-then-at-len
+returns-then-at-len c = search (rules, room-some)
+
+pub returns : goal.returns
+returns c = search (rules, room-none)

@@ -69,10 +69,8 @@ fn say_tally(rt: &impl Print, r: Reader) {
 
 // Each byte of the buffer becomes b.
 fn fill(work: &mut [u8], b: u8) {
-    let mut i = 0;
-    while i < work.len() {
-        work[i] = b;
-        i += 1;
+    for x in work.iter_mut() {
+        *x = b;
     }
 }
 

@@ -1,4 +1,5 @@
 // The boundary of a field: a text judged by book B and its corners taken, and the answer for a point. REQUIREMENT.md, section 9.
+#![tactic(auto)]
 
 ghost use Rattle.std.specs.Prelude.{◌≡◌, ◌≤◌, leb, pos, nat_abs, replicate};
 ghost use Rattle.table.specs.Flat.{table_in};

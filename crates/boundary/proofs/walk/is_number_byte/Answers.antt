@@ -3,12 +3,8 @@ use borrow.Author.Rules.{rules}
 use Rattle.json_text.specs.Bytes.{within}
 use Rattle.json_text.specs.Numbers.{is_digit, is_e}
 use Rattle.corners.specs.Numbers.{is_number_byte}
-use Rattle.boundary.proofs.walk.is_number_byte.Statement.{statement}
-use Rattle.boundary.proofs.walk.is_number_byte.Tie as tie
+use Rattle.boundary.proofs.walk.is_number_byte.Goals as goal
 
-returns : tie.Need-returns
+pub returns : goal.returns
 unfolding is_number_byte is_digit within is_e
 returns c = search rules
-
-pub is-number-byte-spec : {M : Type 1} → statement M
-is-number-byte-spec = tie.close (tie.spec returns)

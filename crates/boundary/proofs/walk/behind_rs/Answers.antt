@@ -1,0 +1,8 @@
+-- `walk::behind_rs` meets its contract. Assumes nothing.
+use Rattle.boundary.proofs.EndLaws.{behind-of-feed}
+use borrow.Author.Rules.{rules}
+use Rattle.boundary.proofs.walk.behind_rs.Goals as goal
+
+pub returns : goal.returns
+returns c =
+    behind-of-feed c.requires.1 c.requires.0 c.started-r.ensures c.feed-f.ensures

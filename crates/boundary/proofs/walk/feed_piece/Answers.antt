@@ -1,0 +1,10 @@
+-- `walk::feed_piece` meets its contract. Assumes nothing.
+use Rattle.boundary.proofs.StepLaws.{walked_on, walked-told}
+use borrow.Author.Rules.{rules}
+use Rattle.boundary.proofs.walk.feed_piece.Goals as goal
+
+pub returns-then-takes : goal.returns-then-takes
+returns-then-takes c = search (rules, walked-told)
+
+pub returns : goal.returns
+returns c = search (rules, walked_on)

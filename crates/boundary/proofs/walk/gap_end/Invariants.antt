@@ -1,0 +1,13 @@
+-- `walk::gap_end` meets its contract: a stretch of bytes between numbers grows byte by byte. Assumes nothing.
+use Prim.Native.Nat.{◌-◌}
+use lib.ListN.{length}
+use Rattle.boundary.specs.Walk.{is_gap_byte}
+use Rattle.boundary.proofs.StretchLaws.{Stretching, stretch-start, stretch-on, stretch-stop, stretch-end}
+use borrow.Author.Rules.{rules}
+use Rattle.boundary.proofs.walk.gap_end.Given as goal
+
+abbrev pub invariant-loop-i : goal.invariant-loop-i
+invariant-loop-i l = Stretching is_gap_byte l.text l.from l.i
+
+abbrev pub decreases-loop-i : goal.decreases-loop-i
+decreases-loop-i l = length l.text - l.i

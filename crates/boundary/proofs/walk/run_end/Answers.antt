@@ -1,0 +1,19 @@
+-- `walk::run_end` meets its contract: a stretch of bytes of numbers grows byte by byte. Assumes nothing.
+use Prim.Native.Nat.{◌-◌}
+use lib.ListN.{length}
+use Rattle.corners.specs.Numbers.{is_number_byte}
+use Rattle.boundary.proofs.StretchLaws.{Stretching, stretch-start, stretch-on, stretch-stop, stretch-end}
+use borrow.Author.Rules.{rules}
+use Rattle.boundary.proofs.walk.run_end.Goals as goal
+
+pub loop-i-init : goal.loop-i-init
+loop-i-init c = search (rules, stretch-start)
+
+pub returns-else-is_number_byte : goal.returns-else-is_number_byte
+returns-else-is_number_byte c = search (rules, stretch-stop)
+
+pub loop-i-preserved : goal.loop-i-preserved
+loop-i-preserved c = search (rules, stretch-on)
+
+pub returns : goal.returns
+returns c = search (rules, stretch-end)

@@ -1,0 +1,8 @@
+-- `walk::takes` meets its contract. Assumes nothing.
+use borrow.Author.Rules.{rules}
+use Rattle.boundary.specs.Walk.{takes}
+use Rattle.boundary.proofs.walk.takes.Goals as goal
+
+pub returns : goal.returns
+unfolding takes
+returns c = rw c.in_number.ensures

@@ -1,3 +1,4 @@
+-- `read_file` is safe and ends: each turn leaves less room in the space. Assumes nothing.
 use Rattle.std.proofs.Common.{length, ◌-◌, ◌≤◌}
 use Rattle.field.proofs.read_file.Given as goal
 

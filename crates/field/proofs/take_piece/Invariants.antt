@@ -1,3 +1,4 @@
+-- `take_piece` is safe and ends: each turn takes a byte. Assumes nothing.
 use Rattle.std.proofs.Common.{length, ◌-◌}
 use Rattle.field.proofs.take_piece.Given as goal
 

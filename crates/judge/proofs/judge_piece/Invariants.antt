@@ -1,3 +1,4 @@
+-- `judge_piece` is safe and ends: each turn reads some of the piece. Assumes nothing.
 use Rattle.std.proofs.Common.{length, ◌-◌, ◌≤◌}
 use Rattle.judge.proofs.judge_piece.Given as goal
 

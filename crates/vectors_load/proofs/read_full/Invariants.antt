@@ -1,3 +1,4 @@
+-- `read_full` is safe and ends: each turn leaves less room in the space. Assumes nothing.
 use Rattle.std.proofs.Common.{length, ◌-◌, ◌≤◌}
 use Rattle.vectors_load.proofs.read_full.Given as goal
 

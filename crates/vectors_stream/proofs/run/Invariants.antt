@@ -1,3 +1,4 @@
+-- `run` is safe and ends: it goes through the calls by index, and lends only bytes that are there. Assumes nothing.
 use Rattle.std.proofs.Common.{length, ◌-◌, ◌≤◌, ◌≡◌}
 use Rattle.vectors_stream.proofs.run.Given as goal
 

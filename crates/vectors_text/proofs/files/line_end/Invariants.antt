@@ -1,3 +1,4 @@
+-- `files::line_end` stays within the names: it goes through them by index. Assumes nothing.
 use Rattle.std.proofs.Common.{length, ◌-◌, ◌≤◌}
 use Rattle.vectors_text.proofs.files.line_end.Given as goal
 

@@ -1,3 +1,4 @@
+-- `read_full` is safe and ends: each turn leaves less room in the space. Assumes nothing.
 use Rattle.std.proofs.Common.{length, ◌-◌, ◌≤◌}
 use Rattle.vectors_text.proofs.files.read_full.Given as goal
 

@@ -1,3 +1,4 @@
+-- `files::run_names` is safe and ends: each line ends after its beginning. Assumes nothing.
 use Rattle.std.proofs.Common.{length, ◌-◌, ◌≤◌}
 use Rattle.vectors_text.proofs.files.run_names.Given as goal
 

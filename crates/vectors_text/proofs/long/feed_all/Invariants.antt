@@ -1,3 +1,4 @@
+-- `long::feed_all` is safe and ends: each feed that reads goes on in the piece. Assumes nothing.
 use Rattle.std.proofs.Common.{length, ◌-◌, ◌≤◌}
 use Rattle.vectors_text.proofs.long.feed_all.Given as goal
 

@@ -1,3 +1,4 @@
+-- `long::fill` is safe and ends: it goes through the block by index. Assumes nothing.
 use Rattle.std.proofs.Common.{◌-◌, ◌≤◌}
 use Rattle.vectors_text.proofs.long.fill.Given as goal
 

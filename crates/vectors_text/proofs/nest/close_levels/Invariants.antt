@@ -1,3 +1,4 @@
+-- `nest::close_levels` is safe and ends: it goes down the levels. Assumes nothing.
 use Rattle.std.proofs.Common.{◌≤◌}
 use Rattle.vectors_text.proofs.nest.close_levels.Given as goal
 

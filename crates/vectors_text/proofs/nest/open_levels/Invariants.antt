@@ -1,3 +1,4 @@
+-- `nest::open_levels` is safe and ends: it goes up the levels. Assumes nothing.
 use Rattle.std.proofs.Common.{◌-◌, ◌≤◌}
 use Rattle.vectors_text.proofs.nest.open_levels.Given as goal
 

@@ -1,3 +1,4 @@
+-- `nest::put` is safe and ends: it goes through the bytes by index. Assumes nothing.
 use Rattle.std.proofs.Common.{length, ◌-◌, ◌≤◌}
 use Rattle.vectors_text.proofs.nest.put.Given as goal
 

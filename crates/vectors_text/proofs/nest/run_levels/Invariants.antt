@@ -1,3 +1,4 @@
+-- `nest::run_levels` is safe and ends: it counts the levels up. Assumes nothing.
 use Rattle.std.proofs.Common.{◌-◌}
 use Rattle.vectors_text.proofs.nest.run_levels.Given as goal
 

@@ -1,3 +1,4 @@
+-- `say::say_first` is safe and ends: it goes through the entries by index. Assumes nothing.
 use Rattle.std.proofs.Common.{◌-◌, ◌≤◌}
 use Rattle.vectors_text.proofs.say.say_first.Given as goal
 

@@ -11,9 +11,9 @@ use geometry::Point;
 use points::Line;
 use points::answer::Said;
 use std::fs::File;
-use std::io::{Error, Read};
+use std::io::Read;
 use std::rt::Files;
-use std::str;
+use std::{io, str};
 
 // The bytes of one read, and of the answers that are printed at once.
 const BLOCK: usize = 65536;
@@ -26,7 +26,7 @@ const LINE_SPACE: usize = 4096;
 enum Loaded {
     Bytes(usize),
     TooLong,
-    Failed(Error),
+    Failed(io::Error),
 }
 
 // Lines answered, bytes of the line under way, bytes of the output that are not printed, and whether the program goes on.
@@ -53,7 +53,7 @@ fn read_more(read: usize, more: usize, len: usize) -> usize
 #[derive(Clone, Copy)]
 struct Got {
     bytes: usize,
-    failed: Option<Error>,
+    failed: Option<io::Error>,
 }
 
 // Reads what has arrived of a file.
@@ -116,7 +116,7 @@ fn write_error(rt: &impl Eprint, out: &[u8], used: usize) {
 }
 
 // Says on standard error that a file cannot be read, and why.
-fn fail(rt: &impl Eprint, path: &str, e: Error) {
+fn fail(rt: &impl Eprint, path: &str, e: io::Error) {
     let _ = eprintln!(rt; "{path}: {e}");
 }
 

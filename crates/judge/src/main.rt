@@ -34,11 +34,7 @@ fn work_space() -> [u8; WORK]
 }
 
 // The bytes of one read, and of the lines that are printed at once.
-fn block_space() -> [u8; 65536]
-    ensures { 65536 ≡ length result }
-{
-    [0; 65536]
-}
+const BLOCK: usize = 65536;
 
 // How many bytes are read after a read of `more`; as many as before, where the space has fewer left.
 fn read_more(read: usize, more: usize, len: usize) -> usize
@@ -227,7 +223,7 @@ fn judge_all(
 
 fn main(rt: HostRuntime) {
     let mut book = book_space();
-    let mut out = block_space();
+    let mut out = [0u8; BLOCK];
     let n = read_book(&rt, &mut book);
     let mut table = [0u8; 7920];
     let begun = begin(&book, n, &mut table, &mut out);
@@ -235,7 +231,7 @@ fn main(rt: HostRuntime) {
     print(&rt, &out, used);
     if begun.accepted {
         let mut work = work_space();
-        let mut space = block_space();
+        let mut space = [0u8; BLOCK];
         let started = Reader::start(&table, &work);
         let first = started.reader;
         let last = judge_all(&rt, first, &table, &mut work, &mut space, &mut out);

@@ -4,7 +4,7 @@
 ghost use Rattle.std.specs.Prelude.{◌≤◌, IfOk, length};
 
 use std::fs::File;
-use std::io::{Error, ErrorKind, Read};
+use std::io::{ErrorKind, Read};
 use std::rt::Files;
 use std::{io, str};
 
@@ -28,7 +28,7 @@ fn digit(n: usize) -> u8 {
 fn open<R: Files>(rt: &R, path: &[u8]) -> io::Result<R::File> {
     match str::from_utf8(path) {
         Ok(name) => File::open(rt, name),
-        Err(_) => Err(Error::from(ErrorKind::InvalidInput)),
+        Err(_) => Err(io::Error::from(ErrorKind::InvalidInput)),
     }
 }
 
@@ -55,7 +55,7 @@ fn content<R: Files>(rt: &R, path: &[u8], space: &mut [u8]) -> io::Result<usize>
 }
 
 // Says on standard error that a file cannot be opened, and why.
-fn fail(rt: &impl Eprint, path: &[u8], e: Error) {
+fn fail(rt: &impl Eprint, path: &[u8], e: io::Error) {
     let name = str::from_utf8(path).unwrap_or("");
     let _ = eprintln!(rt; "{name}: {e}");
 }

@@ -6,7 +6,7 @@ ghost use Rattle.std.specs.Prelude.{◌≤◌, IfOk, length};
 use reader::{Answer, Reader, Refusal};
 use std::fs::File;
 use std::io;
-use std::io::{Error, Read};
+use std::io::Read;
 use std::rt::Files;
 use verdict::Verdict;
 
@@ -210,7 +210,7 @@ fn content(rt: &impl Files, path: &str, space: &mut [u8]) -> io::Result<usize>
 }
 
 // Says on standard error that a file cannot be opened, and why.
-fn fail(rt: &impl Eprint, path: &str, e: Error) {
+fn fail(rt: &impl Eprint, path: &str, e: io::Error) {
     let _ = eprintln!(rt; "{path}: {e}");
 }
 

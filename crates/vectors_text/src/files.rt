@@ -6,7 +6,7 @@ use crate::say::OUT;
 use crate::{WORK, say};
 use entries::feeds;
 use std::fs::File;
-use std::io::{Error, ErrorKind, Read};
+use std::io::{ErrorKind, Read};
 use std::rt::Files;
 use std::{io, str};
 use table::bytes;
@@ -21,12 +21,12 @@ const BLOCK: usize = 65536;
 fn open<R: Files>(rt: &R, path: &[u8]) -> io::Result<R::File> {
     match str::from_utf8(path) {
         Ok(name) => File::open(rt, name),
-        Err(_) => Err(Error::from(ErrorKind::InvalidInput)),
+        Err(_) => Err(io::Error::from(ErrorKind::InvalidInput)),
     }
 }
 
 // Says on standard error that a file cannot be opened, and why.
-fn fail(rt: &impl Eprint, path: &[u8], e: Error) {
+fn fail(rt: &impl Eprint, path: &[u8], e: io::Error) {
     let name = str::from_utf8(path).unwrap_or("");
     let _ = eprintln!(rt; "{name}: {e}");
 }

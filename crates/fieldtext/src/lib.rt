@@ -1,4 +1,6 @@
 // The reader for programs in C or Rust: a book or its table and a stream in, entries out. docs/LIBRARY.md.
+#![tactic(auto)]
+
 ghost use Rattle.std.specs.Prelude.{◌≡◌};
 ghost use Rattle.table.specs.Flat.{table_in};
 ghost use Rattle.book.specs.Load.{loads};

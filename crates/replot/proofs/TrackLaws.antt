@@ -3,7 +3,8 @@
 use mathlib.Core.List.{List, [], ◌∷◌, ◌++◌, map}
 use mathlib.Core.Logic.{◌↔◌}
 use mathlib.Core.Path.{◌≡◌, refl, sym, ap, subst, ◌∙◌}
-use Prim.Native.Nat.{ℕ}
+use Prim.Native.Nat.{ℕ, ◌≤◌}
+use Rattle.std.proofs.Common.{arith, length}
 use lib.IntN.{ℤ}
 use Rattle.geometry.specs.declared.Point.{Point}
 use Rattle.boundary.specs.declared.Refusal.{Refusal}
@@ -15,7 +16,8 @@ use Rattle.boundary.specs.Calls.{ReadOf}
 use Rattle.boundary.proofs.AnswerLaws.{read-bounds, read-refuses, Either, has-bounds, is-refused, either, answered-query, query-answered}
 use Rattle.replot.specs.declared.TrackPoint.{TrackPoint}
 use Rattle.replot.specs.Track.{point_of, with_answer, EachAnswered, no_entries, entry, Replots, answered, untouched}
-use Rattle.replot.specs.Exact.{answered_by, track_by, track_of}
+use Rattle.replot.specs.Exact.{end_of, answered_by, track_by, track_of}
+use Rattle.replot.proofs.PartlyLaws.{partly, partly-all}
 use Rattle.replot.specs.Calls.{ReplotOf}
 
 -- an entry with the answer for the text s and its point alone
@@ -97,3 +99,13 @@ pub replot-of-read : {s : List ℕ} {b : Boundary} {l : List ℤ} {m : List ℕ}
 unfolding track_of
 replot-of-read {s} {t = t} x e =
     record { boundary = x.boundary; track = e ∙ rw (x.boundary, x.corners_left) refl; corners_left = x.corners_left; table_left = x.table_left }
+
+-- where the answers end: within the track, and there all of it is answered
+pub end_of-le : (d : Boundary) (n : ℕ) → end_of d n ≤ n
+end_of-le (Has.Corners k) n = omega arith
+end_of-le (Has.Refused k) n = omega arith
+
+pub partly-end_of : (d : Boundary) (l : List ℤ) (t : List TrackPoint) → partly (answered_by d l) (end_of d (length t)) t ≡ track_by d l t
+unfolding partly
+partly-end_of (Has.Corners k) l t = partly-all (answered_by (Has.Corners k) l) t
+partly-end_of (Has.Refused k) l t = refl

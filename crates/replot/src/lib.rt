@@ -1,4 +1,5 @@
 // A whole track in one pass: each point of a track answered against the boundary of one text. REQUIREMENT.md, section 10.
+#![tactic(auto)]
 
 ghost use Rattle.std.specs.Prelude.{◌≡◌, ◌<◌};
 ghost use Rattle.boundary.specs.Exact.{HeldBy};

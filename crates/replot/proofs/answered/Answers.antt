@@ -1,0 +1,13 @@
+-- `answered` meets its contract: the nearest corner of an answer fits in its room. Assumes nothing.
+use borrow.Author.Rules.{rules}
+use Rattle.replot.specs.Exact.{answered_by}
+use Rattle.replot.proofs.NearestLaws.{nearest-fits}
+use Rattle.replot.proofs.answered.Goals as goal
+
+pub with_answer-requires : goal.with_answer-requires
+with_answer-requires c =
+    rw c.answer_by.ensures (nearest-fits c.args.b c.args.corners.now c.point_of.result c.requires)
+
+pub returns : goal.returns
+unfolding answered_by
+returns c = simp (c.with_answer.ensures, c.answer_by.ensures, c.point_of.ensures)

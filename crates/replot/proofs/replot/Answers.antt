@@ -1,0 +1,7 @@
+-- `replot` meets its contract. Assumes nothing.
+use Rattle.std.proofs.Common.{rules}
+use Rattle.replot.proofs.TrackLaws.{replot-of-read}
+use Rattle.replot.proofs.replot.Goals as goal
+
+pub returns : goal.returns
+returns c = replot-of-read c.read-b.ensures c.answer_each.ensures

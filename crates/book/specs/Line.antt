@@ -1,5 +1,5 @@
 -- One line of a book, by itself: its six fields, what each may be, and what the line says. REQUIREMENT.md, section 3. Stated. Assumes nothing.
-use Rattle.std.specs.Prelude.{Bool, true, false, not, cond, ◌&&◌, ◌||◌, List, [], ◌∷◌, ℕ, leb, ltb, eqb, length}
+use Rattle.std.specs.Prelude.{Bool, true, not, cond, ◌&&◌, ◌||◌, List, [], ◌∷◌, ℕ, leb, ltb, eqb, length}
 use Rattle.laws.specs.Ascii.{ascii}
 use Rattle.laws.specs.Lists.{same, all}
 use Rattle.table.specs.declared.kind.Scalar.TheVariants.{Null, True, False, Str, Num, Int}

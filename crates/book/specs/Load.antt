@@ -4,7 +4,7 @@ use Rattle.laws.specs.Ascii.{ascii}
 use Rattle.laws.specs.Lists.{same, any}
 use Rattle.table.specs.declared.kind.ValueKind.TheVariants.{Plain, Rule}
 use Rattle.table.specs.Kind.{code_of}
-use Rattle.book.specs.Entry.{Form, obj, arr, same_form, Entry, edge, end_state, keys_of, clash}
+use Rattle.book.specs.Entry.{Form, same_form, Entry, edge, end_state, keys_of, clash}
 use Rattle.book.specs.Text.{is_empty, split}
 use Rattle.book.specs.Line.{Said, bad, good, say_line}
 

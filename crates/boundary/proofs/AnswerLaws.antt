@@ -1,20 +1,19 @@
 -- What is computed is what is stated: `answered-iff` for a text and a point, `leaves-left` for the lent memory, `read-bounds` and
 -- `read-refuses` for a text alone. Assumes nothing.
-use mathlib.Core.Bool.{Bool, true, false, cond, ◌&&◌, ◌||◌}
+use mathlib.Core.Bool.{Bool, true, false, cond, ◌&&◌}
 use mathlib.Core.List.{List, [], ◌∷◌, ◌++◌}
 use mathlib.Core.Logic.{◌↔◌}
 use mathlib.Core.Path.{◌≡◌, refl, sym, ap, subst, ◌∙◌}
-use Prim.Native.Nat.{ℕ, ◌+◌, ◌-◌, ◌*◌, ◌/◌, ◌≤◌, ◌<◌}
-use native.Mathlib.Decide.{dec_lt, dec_le}
+use Prim.Native.Nat.{ℕ, ◌-◌, ◌*◌, ◌/◌, ◌≤◌, ◌<◌}
+use native.Mathlib.Decide.{dec_le}
 use native.Mathlib.Omega.{arith}
-use lib.Dec.{T, ltb, leb, leb→le, le→leb}
-use lib.IntN.{ℤ, pos, nat_abs}
+use lib.Dec.{leb, leb→le}
+use lib.IntN.{pos, nat_abs}
 use lib.ListN.{length, replicate}
 use borrow.Author.Tests.{lt-ltb, le-ltb, le-leb}
 use Rattle.laws.proofs.TestLaws.{true-neq-false, T-and-left, T-and-right, T-of-true}
 use Rattle.json_text.specs.Tree.{Json}
 use Rattle.geometry.specs.declared.Point.{Point}
-use Rattle.geometry.specs.declared.Located.{Located}
 use Rattle.geometry.specs.Plane.{Placed}
 use Rattle.geometry.specs.Tests.{located}
 use Rattle.geometry.proofs.PlacedLaws.{placed-located, placed-unique}
@@ -23,7 +22,6 @@ use Rattle.corners.specs.Corners.{ValidB, Corner, CornersOf}
 use Rattle.corners.specs.Numbers.{flat, numbers_of}
 use Rattle.corners.proofs.FieldLaws.{HasCorners, has-corners}
 use Rattle.corners.proofs.ValidLaws.{corners-of-valid, numbers-of-valid}
-use Rattle.plane.specs.Corners.{corners_in}
 use Rattle.boundary.specs.declared.Refusal.{Refusal}
 use Rattle.boundary.specs.declared.Refusal.TheVariants as No
 use Rattle.boundary.specs.declared.Boundary.{Boundary}
@@ -31,7 +29,7 @@ use Rattle.boundary.specs.declared.Boundary.TheVariants as Has
 use Rattle.boundary.specs.declared.Answer.{Answer}
 use Rattle.boundary.specs.declared.Answer.TheVariants as Says
 use Rattle.boundary.specs.Boundary.{Points, Bounds, bounds, Refuses, not_valid, too_few, too_many, unfit_corner, numbers_in, Leaves, leaves_points, leaves_none, says, Answered, refused, unfit_point, placed}
-use Rattle.boundary.specs.Exact.{valid_b, unfit_in, filled, counted, boundary_of, left_by, left_corners, in_range, answer_at, answer_by, query_of}
+use Rattle.boundary.specs.Exact.{valid_b, unfit_in, counted, boundary_of, left_by, left_corners, in_range, answer_at, answer_by, query_of}
 use Rattle.boundary.proofs.StepLaws.{valid-of-test, test-of-valid}
 use Rattle.boundary.proofs.PointLaws.{Fits, fits, fits_not, fits-or-not, length-points, fit-points, length-flat, filled-points, corners-points}
 

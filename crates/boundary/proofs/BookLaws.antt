@@ -1,11 +1,8 @@
 -- The table of book B: what the reader's theorems ask of a table. Assumes nothing.
 use mathlib.Core.Bool.{true}
-use mathlib.Core.List.{List}
-use mathlib.Core.Path.{◌≡◌, refl, sym, ap, ◌∙◌}
-use Prim.Native.Nat.{ℕ}
+use mathlib.Core.Path.{◌≡◌, refl, sym, ap}
 use Rattle.table.specs.Table.{Table}
 use Rattle.table.specs.Limits.{within_limits}
-use Rattle.book.specs.Entry.{Entry}
 use Rattle.book.specs.Load.{loads}
 use Rattle.book.specs.Examples.{book_b}
 use Rattle.book.proofs.Examples.{loads-book_b}

@@ -2,34 +2,30 @@
 use mathlib.Core.Bool.{Bool, true, false, cond}
 use mathlib.Core.List.{List, [], ◌∷◌}
 use mathlib.Core.Path.{◌≡◌, refl, sym, ap, subst, ◌∙◌}
-use Prim.Native.Nat.{ℕ, ◌+◌, ◌-◌, ◌*◌, ◌≤◌, ◌<◌}
+use Prim.Native.Nat.{ℕ, ◌-◌, ◌*◌, ◌≤◌, ◌<◌}
 use native.Mathlib.Omega.{arith}
-use lib.Dec.{T, ltb}
+use lib.Dec.{ltb}
 use lib.IntN.{ℤ, pos}
 use lib.ListN.{length, take, replicate}
 use lib.Seq.{take_all}
 use Rattle.laws.specs.Lists.{any}
 use Rattle.laws.proofs.TestLaws.{true-neq-false}
-use Rattle.json_text.specs.Machine.{State, start}
 use Rattle.table.specs.Table.{Table}
-use Rattle.table.specs.Limits.{within_limits}
 use Rattle.book.specs.Examples.{book_b}
 use Rattle.load.specs.Loads.{book_table}
-use Rattle.runs.specs.Walk.{judging}
-use Rattle.frame.specs.Frame.{frame_count}
 use Rattle.verdict.specs.declared.Verdict.{Verdict}
 use Rattle.verdict.specs.declared.Verdict.TheVariants as Given
 use Rattle.verdict.specs.Track.{Track, sound, stopped, track, track_start, verdict_of, track_end}
 use Rattle.progress.specs.Progress.{judged}
 use Rattle.progress.specs.Memory.{Mem, fresh_mem}
-use Rattle.follows.specs.Follows.{FaultIs, Tracks, on_track, off_track, NoRS, nonempty, read_part}
+use Rattle.follows.specs.Follows.{FaultIs, Tracks, off_track, NoRS, nonempty, read_part}
 use Rattle.follows.proofs.PartLaws.{tracks-part, judged-part, pos-part, length_part}
 use Rattle.demand.proofs.BookLaws.{carries-of-book, plain-of-book}
 use Rattle.reader.specs.declared.Reader.{Reader}
 use Rattle.reader.specs.declared.Answer.{Answer}
 use Rattle.reader.specs.declared.Answer.TheVariants as Says
 use Rattle.reader.specs.declared.Gate.TheVariants as Is
-use Rattle.reader.specs.Refusals.{fit_reader, within_reader, start_gate, call_gate}
+use Rattle.reader.specs.Refusals.{fit_reader, within_reader, call_gate}
 use Rattle.reader.specs.Tally.{zero_tally}
 use Rattle.reader.specs.Start.{Start, fresh_reader, start_of}
 use Rattle.reader.specs.Machine.{Outcome, memory_of, ending, feed_of, closing, close_of}

@@ -5,12 +5,11 @@ use mathlib.Core.Path.{◌≡◌, refl, sym, ap, subst, ◌∙◌}
 use Prim.Native.Nat.{ℕ, zero, suc, ◌+◌, ◌≤◌, ◌<◌}
 use native.Mathlib.Decide.{dec_lt, ℕ_discrete}
 use native.Mathlib.Omega.{arith}
-use lib.Dec.{eqb, ltb}
+use lib.Dec.{ltb}
 use lib.IntN.{ℤ, pos}
-use lib.ListN.{length, get_or, set, replicate, length-append, length-set}
-use lib.Seq.{ext_get_or, get_or-set_same, get_or-set_other, get_or-append-add}
-use borrow.Author.Tests.{lt-ltb, le-ltb, eq-eqb, ne_eqb}
-use Rattle.laws.specs.Lists.{any}
+use lib.ListN.{length, get_or, set, replicate, length-set}
+use lib.Seq.{ext_get_or, get_or-set_same, get_or-set_other}
+use borrow.Author.Tests.{lt-ltb, le-ltb}
 use Rattle.laws.specs.Tab.{tab}
 use Rattle.laws.proofs.TabLaws.{length-tab, get_d-tab}
 use Rattle.book.proofs.KeyLaws.{any_last}

@@ -1,23 +1,22 @@
 -- The numbers at level 3 after a piece: those before it, and the run at its end where the reader says that a number at level 3 is being read. Assumes nothing.
-use mathlib.Core.Bool.{Bool, true, false, cond, not, ◌&&◌}
+use mathlib.Core.Bool.{false, cond, not}
 use mathlib.Core.List.{List, [], ◌∷◌, ◌++◌}
-use mathlib.Core.Path.{◌≡◌, refl, sym, ap, subst, ◌∙◌}
+use mathlib.Core.Path.{◌≡◌, refl, sym, subst}
 use Prim.Native.Nat.{ℕ, ◌*◌, ◌≤◌}
 use native.Mathlib.Omega.{arith}
-use lib.Dec.{T, eqb}
+use lib.Dec.{T}
 use lib.ListN.{length}
 use Rattle.laws.specs.Lists.{all}
-use Rattle.json_text.specs.Machine.{Stack, depth, Token, State, fault, at, step, run, start}
-use Rattle.json_text.specs.declared.lexer.Mode.{Mode}
+use Rattle.json_text.specs.Machine.{State, run, start}
 use Rattle.table.specs.Table.{Table}
 use Rattle.meaning.specs.Shows.{Carries}
 use Rattle.runs.specs.Walk.{judging}
 use Rattle.verdict.specs.Track.{Track, sound, stopped, track, track_start}
 use Rattle.progress.specs.Memory.{Mem, fresh_mem}
-use Rattle.follows.specs.Follows.{PlainKeys, Follows, follows, Tracks, on_track, off_track, NoRS, read_part}
+use Rattle.follows.specs.Follows.{PlainKeys, Follows, follows, Tracks, on_track, NoRS, read_part}
 use Rattle.follows.proofs.PartLaws.{tracks-part}
-use Rattle.corners.specs.Numbers.{is_number_byte, in_number, numbering, so_far, numbers_of}
-use Rattle.corners.proofs.AlikeLaws.{AlikeStacks, Alike, both-fault, both_at, depth-alike, alike}
+use Rattle.corners.specs.Numbers.{is_number_byte, numbering, so_far, numbers_of}
+use Rattle.corners.proofs.AlikeLaws.{Alike, both_at, depth-alike, alike}
 use Rattle.corners.proofs.TookLaws.{rooted-run, run-append}
 use Rattle.corners.proofs.GatherLaws.{Same, With, with-of-piece}
 use Rattle.boundary.specs.Exact.{entries}

@@ -1,23 +1,21 @@
 -- A feed of bytes without RS, from a reader within its bounds with three frames: it reads them all, and the record goes on. Assumes nothing.
-use mathlib.Core.Bool.{true, false, ◌&&◌}
-use mathlib.Core.List.{List, [], ◌∷◌, ◌++◌, append-nil}
+use mathlib.Core.Bool.{true, false}
+use mathlib.Core.List.{List, [], append-nil}
 use mathlib.Core.Path.{◌≡◌, refl, sym, ap, subst, ◌∙◌}
-use Prim.Native.Nat.{ℕ, ◌+◌, ◌*◌, ◌≤◌}
+use Prim.Native.Nat.{ℕ, ◌+◌, ◌≤◌}
 use native.Mathlib.Omega.{arith}
-use lib.Dec.{leb}
 use lib.ListN.{length}
 use borrow.Author.Tests.{le-leb}
 use Rattle.table.specs.Table.{Table}
 use Rattle.table.specs.Limits.{within_limits}
-use Rattle.progress.specs.declared.Progress.{Progress}
-use Rattle.progress.specs.Memory.{Mem, Ran, run_mem, step_mem}
+use Rattle.progress.specs.Memory.{Ran, run_mem}
 use Rattle.reader.specs.declared.Reader.{Reader}
 use Rattle.reader.specs.declared.Gate.TheVariants as Is
 use Rattle.reader.specs.Refusals.{fit_reader, within_reader, call_gate}
-use Rattle.reader.specs.Machine.{Outcome, memory_of, going, outcome, feeding, feed_of}
+use Rattle.reader.specs.Machine.{memory_of, going, feeding, feed_of}
 use Rattle.reader.proofs.RefusalLaws.{call-open-of-room}
 use Rattle.follows.specs.Follows.{NoRS, read_part}
-use Rattle.follows.proofs.PartLaws.{run_mem-part, length_part}
+use Rattle.follows.proofs.PartLaws.{run_mem-part}
 use Rattle.stream.proofs.ByteLaws.{Within, within-of-piece}
 
 pub within-true : (r : Reader) → r.frames ≡ 3 → r.progress.level ≤ 3 → r.progress.len ≤ 33 → within_reader r ≡ true

@@ -1,8 +1,7 @@
 -- The points of corners: there are such points, one list of them, exactly where no number is unfit; and the memory that holds them. Assumes nothing.
-use mathlib.Core.Bool.{Bool, true, false, ◌||◌}
+use mathlib.Core.Bool.{true, false}
 use mathlib.Core.List.{List, [], ◌∷◌, ◌++◌}
-use mathlib.Core.Logic.{◌⊎◌, inl, inr}
-use mathlib.Core.Path.{◌≡◌, refl, sym, ap, subst, ◌∙◌}
+use mathlib.Core.Path.{◌≡◌, refl, sym, ap, ◌∙◌}
 use Prim.Native.Nat.{ℕ, zero, suc, ◌+◌, ◌-◌, ◌*◌, ◌≤◌, ◌<◌}
 use native.Mathlib.Omega.{arith}
 use lib.IntN.{ℤ, pos}
@@ -10,7 +9,6 @@ use lib.ListN.{length, get_or, replicate, length-append}
 use lib.Seq.{ext_get_or}
 use Rattle.laws.specs.Lists.{any}
 use Rattle.laws.specs.Tab.{tab}
-use Rattle.laws.proofs.TestLaws.{true-neq-false}
 use Rattle.laws.proofs.TabLaws.{length-tab, get_d-tab}
 use Rattle.geometry.specs.declared.Point.{Point}
 use Rattle.coordinate.specs.declared.Coordinate.{Coordinate}
@@ -22,7 +20,7 @@ use Rattle.corners.specs.Corners.{Corner}
 use Rattle.corners.specs.Numbers.{flat}
 use Rattle.plane.specs.Corners.{corner_at, corners_in}
 use Rattle.boundary.specs.Boundary.{Points, no_points, points, numbers_in}
-use Rattle.boundary.specs.Exact.{value_of, is_unfit, unfit_in, number_at, filled}
+use Rattle.boundary.specs.Exact.{value_of, unfit_in, number_at, filled}
 
 -- ---- a number
 

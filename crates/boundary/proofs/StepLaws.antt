@@ -1,18 +1,16 @@
 -- A turn of the walk, in the form of the code's needs: an RS ends it, and a piece carries it on. Assumes nothing.
-use mathlib.Core.Bool.{Bool, true, false, not, ◌&&◌, ◌||◌}
-use mathlib.Core.List.{List, [], ◌∷◌, ◌++◌}
+use mathlib.Core.Bool.{Bool, true, false, not, ◌||◌}
+use mathlib.Core.List.{List}
 use mathlib.Core.Path.{◌≡◌, refl, sym, ap, subst, ◌∙◌}
-use Prim.Native.Nat.{ℕ, ◌+◌, ◌≤◌, ◌<◌}
+use Prim.Native.Nat.{ℕ, ◌+◌, ◌<◌}
 use native.Mathlib.Omega.{arith}
-use lib.Dec.{T, eqb}
+use lib.Dec.{eqb}
 use lib.IntN.{ℤ}
 use lib.ListN.{length, get_or}
 use borrow.Author.Tests.{eqb-true}
 use Rattle.laws.proofs.TestLaws.{true-neq-false}
 use Rattle.json_text.specs.Tree.{Json}
 use Rattle.table.specs.Table.{Table}
-use Rattle.book.specs.Examples.{book_b}
-use Rattle.load.specs.Loads.{book_table}
 use Rattle.verdict.specs.declared.Verdict.{Verdict}
 use Rattle.verdict.specs.declared.Verdict.TheVariants as Is
 use Rattle.verdict.specs.Verdict.{Judged}

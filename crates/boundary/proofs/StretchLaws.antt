@@ -1,12 +1,11 @@
 -- A stretch of bytes that pass a test, found byte by byte. Assumes nothing.
-use mathlib.Core.Bool.{Bool, true, false, ◌&&◌}
+use mathlib.Core.Bool.{Bool, true, false}
 use mathlib.Core.List.{List, [], ◌∷◌, ◌++◌}
 use mathlib.Core.Path.{◌≡◌, refl, sym, ap, ◌∙◌}
-use Prim.Native.Nat.{ℕ, zero, suc, ◌+◌, ◌-◌, ◌≤◌, ◌<◌}
-use native.Mathlib.Numerals.{add-one}
+use Prim.Native.Nat.{ℕ, suc, ◌+◌, ◌-◌, ◌≤◌, ◌<◌}
 use native.Mathlib.Omega.{arith}
 use lib.Dec.{T}
-use lib.ListN.{length, get_or, take, drop, length-drop, length-take}
+use lib.ListN.{length, get_or, drop, length-drop}
 use lib.Seq.{take-suc, get_or-drop}
 use Rattle.laws.specs.Lists.{all}
 use Rattle.laws.proofs.TestLaws.{T_and, T-and-left, T-and-right, T-of-true}

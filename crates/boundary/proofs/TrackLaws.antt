@@ -1,12 +1,11 @@
 -- The track of a part that is read in two pieces, and the machine's state of a track without a fault. Assumes nothing.
-use mathlib.Core.Bool.{Bool, true, false, cond}
 use mathlib.Core.List.{List, [], ◌∷◌, ◌++◌}
 use mathlib.Core.Path.{◌≡◌, refl, sym, ap, ◌∙◌}
 use Prim.Native.Nat.{ℕ, ◌+◌}
 use native.Mathlib.Omega.{arith}
-use lib.Dec.{ltb, eqb}
+use lib.Dec.{ltb}
 use Rattle.laws.proofs.TestLaws.{cond-elim}
-use Rattle.json_text.specs.Machine.{State, step, run, start, is_fault, depth_of}
+use Rattle.json_text.specs.Machine.{State, step, run, is_fault, depth_of}
 use Rattle.table.specs.Table.{Table}
 use Rattle.book.specs.Entry.{Entry}
 use Rattle.runs.specs.Walk.{judging}

@@ -1,17 +1,17 @@
 -- `Walked`, from the first byte to the last: one piece more, without a number at level 3 at its end and with one. Assumes nothing.
-use mathlib.Core.Bool.{Bool, true, false, cond, not, ◌&&◌, ◌||◌}
+use mathlib.Core.Bool.{Bool, true, false, cond, not, ◌||◌}
 use mathlib.Core.List.{List, [], ◌∷◌, ◌++◌, append-nil}
 use mathlib.Core.Path.{◌≡◌, refl, sym, ap, subst, ◌∙◌}
-use Prim.Native.Nat.{ℕ, zero, suc, ◌+◌, ◌-◌, ◌*◌, ◌≤◌, ◌<◌}
+use Prim.Native.Nat.{ℕ, zero, suc, ◌+◌, ◌-◌, ◌≤◌, ◌<◌}
 use native.Mathlib.Decide.{dec_lt}
 use native.Mathlib.Omega.{arith}
-use lib.Dec.{T, eqb, T_not, eqb→eq}
+use lib.Dec.{T, eqb}
 use lib.IntN.{ℤ}
 use lib.ListN.{length, get_or, take, drop, length-take, length-drop, length-append}
 use lib.Seq.{drop-cons}
 use borrow.Author.Tests.{ne_eqb}
 use Rattle.laws.specs.Lists.{all}
-use Rattle.laws.proofs.TestLaws.{T-and-left, T-and-right, T_and, true-of-T, T-of-true, true-neq-false}
+use Rattle.laws.proofs.TestLaws.{T-and-left, T-and-right, T_and, true-of-T, true-neq-false}
 use Rattle.json_text.specs.Machine.{State}
 use Rattle.json_text.specs.Bytes.{within}
 use Rattle.json_text.specs.Numbers.{is_digit, is_e}
@@ -27,17 +27,15 @@ use Rattle.reader.specs.declared.Reader.{Reader}
 use Rattle.reader.specs.declared.Answer.{Answer}
 use Rattle.reader.specs.Machine.{Outcome, memory_of, going, feed_of}
 use Rattle.demand.proofs.BookLaws.{carries-of-book, plain-of-book}
-use Rattle.coordinate.specs.declared.Coordinate.{Coordinate}
-use Rattle.coordinate.specs.declared.Coordinate.TheVariants as Read
 use Rattle.coordinate.specs.Exact.{coordinate_of}
 use Rattle.corners.specs.Numbers.{is_number_byte, numbers_of}
-use Rattle.boundary.specs.Exact.{entries, is_unfit, value_of, unfit_in, filled}
+use Rattle.boundary.specs.Exact.{entries, is_unfit, unfit_in, filled}
 use Rattle.boundary.specs.Walk.{is_gap_byte, part, Stretch, takes, Walked}
 use Rattle.boundary.proofs.BookLaws.{book-b, limits-b}
-use Rattle.boundary.proofs.TrackLaws.{track-append, sound-before, read_part-append, no_rs-append}
+use Rattle.boundary.proofs.TrackLaws.{sound-before, read_part-append, no_rs-append}
 use Rattle.boundary.proofs.MemoryLaws.{feed-all, within-after}
 use Rattle.boundary.proofs.FoundLaws.{numbers-of-piece}
-use Rattle.boundary.proofs.FilledLaws.{filled-unfit, filled_at, filled-past, unfit-last}
+use Rattle.boundary.proofs.FilledLaws.{unfit-last}
 
 -- ---- parts of a list
 

@@ -1,6 +1,6 @@
 -- What the calls of this crate give and leave in lent memory. Derived: `Exact` says what is computed, and the laws in proofs/ join that to
 -- `Boundary`. Assumes nothing.
-use Rattle.std.specs.Prelude.{Bool, cond, ◌||◌, List, ◌≡◌, ℕ, ◌/◌, ltb, ℤ, pos, replicate}
+use Rattle.std.specs.Prelude.{cond, ◌||◌, List, ◌≡◌, ℕ, ◌/◌, ltb, ℤ, pos, replicate}
 use Rattle.table.specs.Flat.{table_in}
 use Rattle.book.specs.Examples.{book_b}
 use Rattle.load.specs.Loads.{book_table, Blank}

@@ -1,6 +1,6 @@
 -- The same, computed: the verdict that three frames give, and the numbers at level 3 of the text. Derived: `read-refuses`, `read-bounds`,
 -- `leaves-left` and `answered-iff` in proofs/ join it to `Boundary`. Assumes nothing.
-use Rattle.std.specs.Prelude.{Bool, true, false, cond, ◌&&◌, ◌||◌, List, [], ◌∷◌, ◌≡◌, ℕ, ◌/◌, T, ltb, leb, ℤ, pos, nat_abs, length, get_or, set, replicate}
+use Rattle.std.specs.Prelude.{Bool, true, false, cond, ◌&&◌, ◌||◌, List, [], ℕ, ◌/◌, T, ltb, leb, ℤ, pos, nat_abs, length, get_or, set, replicate}
 use Rattle.laws.specs.Lists.{any}
 use Rattle.laws.specs.Tab.{tab}
 use Rattle.book.specs.Entry.{Entry}

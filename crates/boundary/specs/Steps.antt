@@ -5,7 +5,7 @@ use Rattle.reader.specs.declared.Reader.{Reader}
 use Rattle.coordinate.specs.declared.Coordinate.{Coordinate}
 use Rattle.reader.specs.declared.Answer.{Answer}
 use Rattle.reader.specs.declared.Answer.TheVariants as Says
-use Rattle.boundary.specs.Exact.{is_valid, is_unfit, put_at, valid_b, unfit_in, filled}
+use Rattle.boundary.specs.Exact.{is_valid, valid_b, unfit_in, filled}
 use Rattle.book.specs.Examples.{book_b}
 use Rattle.load.specs.Loads.{book_table}
 use Rattle.corners.specs.Numbers.{is_number_byte, numbers_of}

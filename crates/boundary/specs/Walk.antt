@@ -1,5 +1,5 @@
 -- How far a text is judged and its numbers are taken. Derived: the laws in proofs/ carry `Walked` over the text and end it in `Exact`. Assumes nothing.
-use Rattle.std.specs.Prelude.{Bool, true, false, not, ◌&&◌, List, ◌≡◌, ℕ, ◌-◌, ◌≤◌, ◌<◌, T, eqb, ℤ, length, get_or, take, drop}
+use Rattle.std.specs.Prelude.{Bool, false, not, ◌&&◌, List, ◌≡◌, ℕ, ◌-◌, ◌≤◌, ◌<◌, T, eqb, ℤ, length, get_or, take, drop}
 use Rattle.laws.specs.Lists.{all}
 use Rattle.json_text.specs.Machine.{State}
 use Rattle.table.specs.Table.{Table}

@@ -1,15 +1,14 @@
 -- The machine goes the same way whatever values mean: over two meanings it stands in the same mode, with as many values open. Assumes nothing.
 use mathlib.Core.Bool.{Bool, true, false}
 use mathlib.Core.List.{List, [], ◌∷◌}
-use mathlib.Core.Path.{◌≡◌, refl, sym, ap}
+use mathlib.Core.Path.{◌≡◌, refl, ap}
 use Prim.Native.Nat.{ℕ, suc}
 use Rattle.json_text.specs.Meaning.{Meaning}
 use Rattle.json_text.specs.Lexer.{step_of}
-use Rattle.json_text.specs.Machine.{Stack, bare, whole, in_array, in_object, top_of, depth, finish, close, name, Token, State, fault, at, number_ended, act, step, run, start, is_fault, gather, char_in}
+use Rattle.json_text.specs.Machine.{Stack, bare, whole, in_array, in_object, top_of, depth, finish, close, name, Token, State, fault, at, number_ended, act, step, run, start, gather, char_in}
 use Rattle.json_text.specs.declared.lexer.Mode.{Mode}
 use Rattle.json_text.specs.declared.lexer.Act.{Act}
 use Rattle.json_text.specs.declared.lexer.Act.TheVariants as A
-use Rattle.json_text.specs.declared.lexer.Top.{Top}
 use Rattle.json_text.specs.declared.lexer.Step.{Step}
 
 module _ (𝔸 𝔹 : Meaning) where

@@ -10,10 +10,9 @@ use Rattle.laws.specs.Ascii.{ascii}
 use Rattle.laws.specs.Lists.{same, all}
 use Rattle.laws.proofs.TestLaws.{T-and-left, T-and-right}
 use Rattle.laws.proofs.ListLaws.{eq-of-same, T-of-all}
-use Rattle.json_text.specs.Tree.{Json, Values, Pairs, word, string, number, array, object, no_values, values, no_pairs, pairs}
-use Rattle.json_text.specs.Meaning.{fold, meaning, elements, members}
+use Rattle.json_text.specs.Tree.{Json, Values, Pairs, string, number, array, object, no_values, values, no_pairs, pairs}
+use Rattle.json_text.specs.Meaning.{meaning, elements}
 use Rattle.json_text.proofs.MeaningLaws.{fold-snoc}
-use Rattle.table.specs.declared.kind.Scalar.{Scalar}
 use Rattle.table.specs.declared.kind.Scalar.TheVariants.{Null, True, False, Str, Num, Int}
 use Rattle.table.specs.declared.kind.ValueKind.{ValueKind}
 use Rattle.table.specs.declared.kind.ValueKind.TheVariants.{Plain, Rule}
@@ -21,9 +20,9 @@ use Rattle.book.specs.Entry.{Form, obj, arr, same_form, Entry, edge, end_state}
 use Rattle.book.specs.Load.{loads}
 use Rattle.book.specs.Examples.{book_b}
 use Rattle.book.proofs.Examples.{entries_b, loads-book_b}
-use Rattle.runs.specs.Runs.{◌∈◌, Fits, fits_null, fits_true, fits_false, fits_str, fits_num, fits_int, fits_array, fits_object, ArrayRun, array_end, array_edge, ObjectRun, object_end, object_edge, Insert, in_front, behind, Order, order_word, order_string, order_number, order_array, order_object, OrderValues, order_no_values, order_values, OrderPairs, order_no_pairs, order_pairs, Among, first, later, FitsInSomeOrder, in_order, Valid}
+use Rattle.runs.specs.Runs.{◌∈◌, Fits, fits_str, fits_int, fits_array, fits_object, ArrayRun, array_end, array_edge, ObjectRun, object_end, object_edge, Insert, in_front, behind, Order, order_word, order_string, order_number, order_array, order_object, OrderValues, order_no_values, order_values, OrderPairs, order_no_pairs, order_pairs, Among, first, later, FitsInSomeOrder, in_order, Valid}
 use Rattle.corners.specs.Corners.{Corner, CornersIn, no_corner, corner, CornersOf, under_corners}
-use Rattle.corners.specs.Numbers.{ByLevel, no_numbers, alone, both, deeper, numbering, flat}
+use Rattle.corners.specs.Numbers.{ByLevel, no_numbers, both, numbering, flat}
 
 -- ---- what an entry of book B can be
 

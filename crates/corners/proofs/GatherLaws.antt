@@ -2,7 +2,6 @@
 -- after them. `soFar-of-piece` says both of bytes that no number has, followed by bytes of numbers. Assumes nothing.
 use mathlib.Core.Bool.{Bool, true, false, not, cond, ◌&&◌}
 use mathlib.Core.List.{List, [], ◌∷◌, ◌++◌, append_assoc, append-nil}
-use mathlib.Core.Logic.{inl, inr}
 use mathlib.Core.Path.{◌≡◌, refl, sym, ap, subst, ◌∙◌}
 use Prim.Native.Nat.{ℕ, suc, ◌-◌, ◌≤◌, ◌<◌}
 use native.Mathlib.Decide.{dec_lt, dec_le}
@@ -10,13 +9,13 @@ use native.Mathlib.Omega.{arith}
 use lib.Dec.{T, eqb, leb, T_not}
 use borrow.Author.Tests.{le-leb, lt-leb, eq-eqb, ne_eqb}
 use Rattle.laws.specs.Lists.{all}
-use Rattle.laws.proofs.TestLaws.{T-and-left, T-and-right, true-of-T, true-neq-false}
+use Rattle.laws.proofs.TestLaws.{T-and-left, T-and-right, true-neq-false}
 use Rattle.json_text.specs.Machine.{Stack, bare, whole, in_array, in_object, depth, finish, close, name, Token, State, fault, at, step, run}
 use Rattle.json_text.specs.declared.lexer.Mode.{Mode}
 use Rattle.json_text.specs.declared.lexer.Mode.TheVariants as M
 use Rattle.corners.specs.Numbers.{is_number_byte, in_number, ByLevel, no_numbers, alone, both, deeper, numbering, share, gathered, reading, so_far}
 use Rattle.corners.proofs.ByteLaws.{Plain}
-use Rattle.corners.proofs.TookLaws.{awaits, Unfinished, Settled, Rooted, Scalar, is_word, value_string, Took, wrong, kept, array-opened, object-opened, named, finished, closed, number-begun, number_read, number-ended, number-closed, took, RootedState, rooted-step, run-append, settled-finish}
+use Rattle.corners.proofs.TookLaws.{awaits, Unfinished, Settled, Scalar, is_word, value_string, Took, wrong, kept, array-opened, object-opened, named, finished, closed, number-begun, number_read, number-ended, number-closed, took, RootedState, rooted-step, run-append, settled-finish}
 
 -- ---- what a finished value adds
 

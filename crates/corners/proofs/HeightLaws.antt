@@ -1,14 +1,14 @@
 -- How many levels a text opens: as many as its tree is high. So a text valid under book B opens at most three. Assumes nothing.
-use mathlib.Core.List.{List, [], ◌∷◌, ◌++◌, append-nil}
-use mathlib.Core.Option.{Option, none, some}
+use mathlib.Core.List.{List, [], ◌∷◌, append-nil}
+use mathlib.Core.Option.{none, some}
 use mathlib.Core.Bool.{Bool, true, false, cond}
 use mathlib.Core.Path.{◌≡◌, refl, sym, ap, subst, ◌∙◌}
-use Prim.Native.Nat.{ℕ, suc, max, ◌+◌, ◌≤◌, ◌<◌}
+use Prim.Native.Nat.{ℕ, suc, max, ◌+◌, ◌≤◌}
 use native.Mathlib.Omega.{arith}
 use lib.Dec.{T}
-use lib.ListN.{length, take, drop, take-append-drop}
+use lib.ListN.{take, drop, take-append-drop}
 use Rattle.laws.proofs.TestLaws.{none-neq-some, true-neq-false}
-use Rattle.json_text.specs.Tree.{Word, Json, Values, Pairs, word, string, number, array, object, no_values, values, no_pairs, pairs}
+use Rattle.json_text.specs.Tree.{Word, Json, Values, array, object, no_pairs, pairs}
 use Rattle.json_text.specs.Meaning.{Meaning, meaning, elements}
 use Rattle.json_text.specs.Grammar.{Text, Begins}
 use Rattle.json_text.specs.Levels.{open_levels}
@@ -22,8 +22,8 @@ use Rattle.json_text.proofs.LevelLaws.{fault-stays, depth-of-run}
 use Rattle.json_text.proofs.Faults.{alive-of-begins, begins-of-longer}
 use Rattle.verdict.specs.Verdict.{too_long, malformed, too_deep, Faultless}
 use Rattle.corners.specs.Corners.{ValidB, Corner, CornersIn, no_corner, corner}
-use Rattle.corners.proofs.TookLaws.{Unfinished, Settled, Rooted, Took, wrong, kept, array-opened, object-opened, named, finished, closed, number-begun, number_read, number-ended, number-closed, took, RootedState, rooted-step, rooted-run, run-append, settled-finish}
-use Rattle.corners.proofs.FieldLaws.{IsField, corners-first, name-first, IsCorners, is-corners, IsString, value_string, corners_key, name_key, field-of-valid}
+use Rattle.corners.proofs.TookLaws.{Unfinished, Settled, Took, wrong, kept, array-opened, object-opened, named, finished, closed, number-begun, number_read, number-ended, number-closed, took, RootedState, rooted-step, rooted-run, run-append, settled-finish}
+use Rattle.corners.proofs.FieldLaws.{IsField, corners-first, name-first, is-corners, IsString, value_string, corners_key, name_key, field-of-valid}
 
 -- how high a value is: 0 for a scalar, one more than the highest of its values for an array or object
 abbrev heights : Meaning

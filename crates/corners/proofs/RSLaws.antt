@@ -1,17 +1,14 @@
 -- No text has an RS: wherever it stands, no text goes on with it. Assumes nothing.
 use mathlib.Core.Bool.{Bool, true, false, cond}
-use mathlib.Core.List.{List, [], ◌∷◌, ◌++◌}
-use mathlib.Core.Option.{none, some}
-use mathlib.Core.Path.{◌≡◌, refl, sym, ap, subst, ◌∙◌}
-use Prim.Native.Nat.{ℕ, zero, suc, ◌+◌, ◌<◌}
+use mathlib.Core.List.{List, ◌∷◌, ◌++◌}
+use mathlib.Core.Path.{◌≡◌, refl, sym, ap, ◌∙◌}
+use Prim.Native.Nat.{ℕ, zero, suc, ◌<◌}
 use lib.Dec.{eqb, ltb}
 use lib.ListN.{length, get_or, take, drop}
 use lib.Seq.{split_at}
-use Rattle.laws.proofs.TestLaws.{none-neq-some}
 use Rattle.json_text.specs.Bytes.{within, is_blank}
 use Rattle.json_text.specs.Numbers.{is_digit, is_digit_1_9, is_e}
 use Rattle.json_text.specs.Tree.{Json}
-use Rattle.json_text.specs.Meaning.{Meaning}
 use Rattle.json_text.specs.Classes.{is_break, is_structure, high_class, class_of}
 use Rattle.json_text.specs.Grammar.{Text, spelling}
 use Rattle.json_text.specs.Lexer.{unescape, escape_move, hex_of, any_hex, unit1, unit_d, low1, low2, only, ranged, string_move, or_exp, after_minus, after_zero, after_int, after_frac, after_e, after_exp, digit_only, word_of, letter_move, value_start, at_value, at_first_element, at_first_key, at_key, at_colon, after_root, after_element, after_pair, step_of}
@@ -29,7 +26,6 @@ use Rattle.json_text.specs.declared.lexer.Mode.TheVariants as M
 use Rattle.json_text.specs.declared.lexer.Top.{Top}
 use Rattle.json_text.specs.declared.lexer.Top.TheVariants as T
 use Rattle.json_text.specs.declared.lexer.Act.TheVariants as A
-use Rattle.json_text.specs.declared.lexer.Step.{Step}
 use Rattle.json_text.proofs.Accepted.{accepted-of-text, fault-accepts-none}
 use Rattle.corners.specs.Numbers.{numbering}
 use Rattle.corners.proofs.TookLaws.{run-append}

@@ -1,9 +1,9 @@
 -- A text valid under book B: three frames find it valid, it has one list of corners, and their numbers are those at level 3. Assumes nothing.
 use mathlib.Core.Bool.{Bool, true, false, cond}
-use mathlib.Core.List.{List, [], ◌∷◌, append-nil}
+use mathlib.Core.List.{List, [], append-nil}
 use mathlib.Core.Option.{none, some}
 use mathlib.Core.Path.{◌≡◌, refl, sym, ap, subst, ◌∙◌}
-use Prim.Native.Nat.{ℕ, ◌≤◌, ◌<◌}
+use Prim.Native.Nat.{ℕ, ◌≤◌}
 use native.Mathlib.Decide.{dec_le}
 use native.Mathlib.Omega.{arith}
 use lib.ListN.{length}
@@ -11,7 +11,7 @@ use Rattle.laws.proofs.TestLaws.{none-neq-some}
 use Rattle.json_text.specs.Tree.{Json}
 use Rattle.json_text.specs.Meaning.{meaning}
 use Rattle.json_text.specs.Lexer.{may_end}
-use Rattle.json_text.specs.Machine.{Stack, bare, whole, in_array, in_object, finish, State, fault, at, step, run, start, whole_of, result}
+use Rattle.json_text.specs.Machine.{bare, whole, in_array, in_object, finish, State, fault, at, run, start, whole_of, result}
 use Rattle.json_text.specs.declared.lexer.Awaited.TheVariants as P
 use Rattle.json_text.specs.declared.lexer.Mode.TheVariants as M
 use Rattle.json_text.proofs.Accepted.{accepted-of-text}

@@ -1,7 +1,6 @@
 -- What the program of points says of an answer: REQUIREMENT.md, section 9. Stated. Assumes nothing.
 use Rattle.boundary.specs.Boundary.{refusal_number}
 use Rattle.boundary.specs.declared.Answer.{Answer}
-use Rattle.boundary.specs.declared.Answer.TheVariants as Answer
 use Rattle.points.specs.declared.answer.Said.{Said}
 use Rattle.points.specs.declared.answer.Said.TheVariants.{Edge, Inside, Outside, Refused}
 

@@ -1,21 +1,32 @@
 // The program that answers points: reads the corners of the text in text.json, and prints a line for each point of standard input. The text is
 // judged and the point answered by crate boundary, and points are read and lines made by crate points; here bytes are only read and written.
+#![tactic(auto)]
+
 ghost use Rattle.std.specs.Prelude.{◌≡◌, ◌≤◌, length};
 ghost use Rattle.plane.specs.Corners.{Held};
 ghost use Rattle.field.specs.Said.{said_of};
 
 use boundary::{Answer, Boundary};
 use geometry::Point;
-use libc::{STDERR_FILENO, STDIN_FILENO, STDOUT_FILENO};
 use points::Line;
 use points::answer::Said;
+use std::fs::File;
+use std::io::Read;
+use std::rt::Files;
+use std::{io, str};
+
+// The bytes of one read, and of the answers that are printed at once.
+const BLOCK: usize = 65536;
+
+// The bytes that a line of the input may have.
+const LINE_SPACE: usize = 4096;
 
 // What text.json gave: its bytes, or that it has too many or cannot be read.
 #[derive(Clone, Copy)]
 enum Loaded {
     Bytes(usize),
     TooLong,
-    Failed,
+    Failed(io::Error),
 }
 
 // Lines answered, bytes of the line under way, bytes of the output that are not printed, and whether the program goes on.
@@ -38,32 +49,36 @@ fn read_more(read: usize, more: usize, len: usize) -> usize
     read + more
 }
 
-// What one read gave: how many bytes, 0 at the end, and whether it failed.
+// What one read gave: how many bytes, 0 at the end, and why it failed, where it did.
 #[derive(Clone, Copy)]
 struct Got {
     bytes: usize,
-    failed: bool,
+    failed: Option<io::Error>,
 }
 
 // Reads what has arrived of a file.
-fn read_some(fd: i32, space: &mut [u8]) -> Got
+fn read_some(file: &mut impl Read, space: &mut [u8]) -> Got
     ensures { result.bytes ≤ length space.new }
 {
-    let got = libc::read(fd, space);
-    let n = io::count(got, space);
-    Got {
-        bytes: n,
-        failed: got < 0,
+    match file.read(space) {
+        Ok(n) => Got {
+            bytes: n,
+            failed: None,
+        },
+        Err(e) => Got {
+            bytes: 0,
+            failed: Some(e),
+        },
     }
 }
 
 // Reads a file to its end. A file that fills the space has too many bytes.
-fn read_file(fd: i32, space: &mut [u8]) -> Loaded {
+fn read_file(file: &mut impl Read, space: &mut [u8]) -> Loaded {
     let mut n = 0;
     while n < space.len() {
-        let got = read_some(fd, &mut space[n..]);
-        if got.failed {
-            return Loaded::Failed;
+        let got = read_some(file, &mut space[n..]);
+        if let Some(e) = got.failed {
+            return Loaded::Failed(e);
         }
         let next = read_more(n, got.bytes, space.len());
         if next <= n {
@@ -75,22 +90,34 @@ fn read_file(fd: i32, space: &mut [u8]) -> Loaded {
 }
 
 // The bytes of text.json.
-fn read_text(space: &mut [u8]) -> Loaded {
-    let fd = os::open_read(b"text.json");
-    if fd < 0 {
-        return Loaded::Failed;
+fn read_text(rt: &impl Files, space: &mut [u8]) -> Loaded {
+    match File::open(rt, "text.json") {
+        Ok(mut file) => read_file(&mut file, space),
+        Err(e) => Loaded::Failed(e),
     }
-    let r = read_file(fd, space);
-    libc::close(fd);
-    r
 }
 
-// Writes the first bytes of a buffer.
-fn write(fd: i32, out: &[u8], used: usize) -> bool {
+// Prints the first bytes of a buffer.
+fn write(rt: &impl Print, out: &[u8], used: usize) -> bool {
     if out.len() < used {
         return false;
     }
-    io::write_all(fd, &out[..used])
+    rt.write_all(&out[..used]).is_ok()
+}
+
+// Writes the first bytes of a buffer to standard error, where they are text.
+fn write_error(rt: &impl Eprint, out: &[u8], used: usize) {
+    if out.len() < used {
+        return;
+    }
+    if let Ok(words) = str::from_utf8(&out[..used]) {
+        let _ = rt.eprint(words);
+    }
+}
+
+// Says on standard error that a file cannot be read, and why.
+fn fail(rt: &impl Eprint, path: &str, e: io::Error) {
+    let _ = eprintln!(rt; "{path}: {e}");
 }
 
 // What is said of an answer. Ruled out: a point inside that is said to be outside, and the number of another refusal.
@@ -106,11 +133,11 @@ fn said(a: Answer) -> Said
 }
 
 // Puts a line behind the output, which is printed first where it has no room for one.
-fn say(out: &mut [u8], used: usize, a: Said) -> usize {
+fn say(rt: &impl Print, out: &mut [u8], used: usize, a: Said) -> usize {
     if text::has_room(out.len(), used) {
         return points::answer::write_said(out, used, a);
     }
-    write(STDOUT_FILENO, out, used);
+    write(rt, out, used);
     points::answer::write_said(out, 0, a)
 }
 
@@ -123,11 +150,11 @@ fn one_more(n: usize) -> usize {
 }
 
 // Prints the output, and says that the line has no point.
-fn stop(out: &mut [u8], s: State) -> State {
-    write(STDOUT_FILENO, out, s.used);
+fn stop(rt: &(impl Print + Eprint), out: &mut [u8], s: State) -> State {
+    write(rt, out, s.used);
     let lines = one_more(s.lines);
     let n = points::answer::write_stop(out, 0, lines);
-    write(STDERR_FILENO, out, n);
+    write_error(rt, out, n);
     State {
         lines: lines,
         held: 0,
@@ -137,13 +164,20 @@ fn stop(out: &mut [u8], s: State) -> State {
 }
 
 // Answers the line.
-fn answer_line(line: &[u8], corners: &[i32; 2048], n: usize, out: &mut [u8], s: State) -> State
+fn answer_line(
+    rt: &(impl Print + Eprint),
+    line: &[u8],
+    corners: &[i32; 2048],
+    n: usize,
+    out: &mut [u8],
+    s: State,
+) -> State
     requires { Held corners.now n }
 {
     match points::point_in(line) {
         Line::At(x, y) => {
             let a = said(boundary::answer_at(corners, n, Point { x: x, y: y }));
-            let used = say(out, s.used, a);
+            let used = say(rt, out, s.used, a);
             State {
                 lines: one_more(s.lines),
                 held: 0,
@@ -151,31 +185,46 @@ fn answer_line(line: &[u8], corners: &[i32; 2048], n: usize, out: &mut [u8], s: 
                 going: true,
             }
         },
-        Line::Other => stop(out, s),
+        Line::Other => stop(rt, out, s),
     }
 }
 
 // Answers the line under way.
-fn answer_held(line: &[u8], corners: &[i32; 2048], n: usize, out: &mut [u8], s: State) -> State
+fn answer_held(
+    rt: &(impl Print + Eprint),
+    line: &[u8],
+    corners: &[i32; 2048],
+    n: usize,
+    out: &mut [u8],
+    s: State,
+) -> State
     requires { Held corners.now n }
 {
     let held = s.held;
     if line.len() < held {
-        return stop(out, s);
+        return stop(rt, out, s);
     }
-    answer_line(&line[..held], corners, n, out, s)
+    answer_line(rt, &line[..held], corners, n, out, s)
 }
 
 // Takes one byte: LF ends the line under way, and every other goes into it, where there is room.
-fn take(b: u8, line: &mut [u8], corners: &[i32; 2048], n: usize, out: &mut [u8], s: State) -> State
+fn take(
+    rt: &(impl Print + Eprint),
+    b: u8,
+    line: &mut [u8],
+    corners: &[i32; 2048],
+    n: usize,
+    out: &mut [u8],
+    s: State,
+) -> State
     requires { Held corners.now n }
 {
     if b == 10 {
-        return answer_held(line, corners, n, out, s);
+        return answer_held(rt, line, corners, n, out, s);
     }
     let held = s.held;
     if line.len() <= held {
-        return stop(out, s);
+        return stop(rt, out, s);
     }
     line[held] = b;
     State {
@@ -188,6 +237,7 @@ fn take(b: u8, line: &mut [u8], corners: &[i32; 2048], n: usize, out: &mut [u8],
 
 // Takes the bytes of a piece.
 fn take_piece(
+    rt: &(impl Print + Eprint),
     piece: &[u8],
     line: &mut [u8],
     corners: &[i32; 2048],
@@ -200,14 +250,21 @@ fn take_piece(
     let mut next = s;
     let mut i = 0;
     while i < piece.len() && next.going {
-        next = take(piece[i], line, corners, n, out, next);
+        next = take(rt, piece[i], line, corners, n, out, next);
         i += 1;
     }
     next
 }
 
 // The end of the input: the last line may lack its LF.
-fn take_end(line: &[u8], corners: &[i32; 2048], n: usize, out: &mut [u8], s: State) -> State
+fn take_end(
+    rt: &(impl Print + Eprint),
+    line: &[u8],
+    corners: &[i32; 2048],
+    n: usize,
+    out: &mut [u8],
+    s: State,
+) -> State
     requires { Held corners.now n }
 {
     if s.held == 0 {
@@ -218,7 +275,7 @@ fn take_end(line: &[u8], corners: &[i32; 2048], n: usize, out: &mut [u8], s: Sta
             going: false,
         };
     }
-    let t = answer_held(line, corners, n, out, s);
+    let t = answer_held(rt, line, corners, n, out, s);
     State {
         lines: t.lines,
         held: t.held,
@@ -228,17 +285,19 @@ fn take_end(line: &[u8], corners: &[i32; 2048], n: usize, out: &mut [u8], s: Sta
 }
 
 // Prints the output.
-fn printed(out: &[u8], s: State) -> State {
+fn printed(rt: &impl Print, out: &[u8], s: State) -> State {
     State {
         lines: s.lines,
         held: s.held,
         used: 0,
-        going: write(STDOUT_FILENO, out, s.used) && s.going,
+        going: write(rt, out, s.used) && s.going,
     }
 }
 
 // Reads what has arrived, and answers its lines.
 fn take_some(
+    rt: &(impl Print + Eprint),
+    input: &mut impl Read,
     space: &mut [u8],
     line: &mut [u8],
     corners: &[i32; 2048],
@@ -248,18 +307,25 @@ fn take_some(
 ) -> State
     requires { Held corners.now n }
 {
-    let got = libc::read(STDIN_FILENO, space);
-    let count = io::count(got, space);
+    let got = read_some(input, space);
+    let count = got.bytes;
     if count == 0 {
-        let t = take_end(line, corners, n, out, s);
-        return printed(out, t);
+        let t = take_end(rt, line, corners, n, out, s);
+        return printed(rt, out, t);
     }
-    let t = take_piece(&space[..count], line, corners, n, out, s);
-    printed(out, t)
+    let t = take_piece(rt, &space[..count], line, corners, n, out, s);
+    printed(rt, out, t)
 }
 
 // A proved loop has to end, and nothing says that the input does: the loop counts its turns down from a number that no run uses up.
-fn take_all(space: &mut [u8], line: &mut [u8], corners: &[i32; 2048], n: usize, out: &mut [u8])
+fn take_all(
+    rt: &(impl Input + Print + Eprint),
+    space: &mut [u8],
+    line: &mut [u8],
+    corners: &[i32; 2048],
+    n: usize,
+    out: &mut [u8],
+)
     requires { Held corners.now n }
 {
     let mut s = State {
@@ -268,53 +334,63 @@ fn take_all(space: &mut [u8], line: &mut [u8], corners: &[i32; 2048], n: usize, 
         used: 0,
         going: true,
     };
+    let mut input = rt.reader();
     let mut turns = u64::MAX;
     while turns > 0 && s.going {
-        s = take_some(space, line, corners, n, out, s);
+        s = take_some(rt, &mut input, space, line, corners, n, out, s);
         turns -= 1;
     }
 }
 
 // Prints the names of the columns, and answers the points of standard input.
-fn answer_points(corners: &[i32; 2048], n: usize, out: &mut [u8])
+fn answer_points(
+    rt: &(impl Input + Print + Eprint),
+    corners: &[i32; 2048],
+    n: usize,
+    out: &mut [u8],
+)
     requires { Held corners.now n }
 {
     let used = points::answer::write_names(out, 0);
-    write(STDOUT_FILENO, out, used);
-    let mut space = io::large_buffer();
-    let mut line = io::buffer();
-    take_all(&mut space, &mut line, corners, n, out);
+    write(rt, out, used);
+    let mut space = [0u8; BLOCK];
+    let mut line = [0u8; LINE_SPACE];
+    take_all(rt, &mut space, &mut line, corners, n, out);
 }
 
 // Judges the first n bytes of the space, and answers the points or the refusal.
-fn answer_text(space: &[u8], n: usize, out: &mut [u8]) {
+fn answer_text(rt: &(impl Input + Print + Eprint), space: &[u8], n: usize, out: &mut [u8]) {
     let mut table = [0u8; 7920];
     let mut corners = [0i32; 2048];
     if space.len() < n {
         return;
     }
     match boundary::read(&space[..n], &mut table, &mut corners) {
-        Boundary::Corners(k) => answer_points(&corners, k, out),
+        Boundary::Corners(k) => answer_points(rt, &corners, k, out),
         Boundary::Refused(r) => {
             let used = points::answer::write_said(out, 0, said(Answer::Refused(r)));
-            write(STDOUT_FILENO, out, used);
+            write(rt, out, used);
         },
     }
 }
 
 // Reads text.json, and answers it.
-fn answer_file(text: &mut [u8; 4194305], out: &mut [u8]) {
-    match read_text(text) {
-        Loaded::Bytes(n) => answer_text(text, n, out),
+fn answer_file(
+    rt: &(impl Files + Input + Print + Eprint),
+    text: &mut [u8; 4194305],
+    out: &mut [u8],
+) {
+    match read_text(rt, text) {
+        Loaded::Bytes(n) => answer_text(rt, text, n, out),
         Loaded::TooLong => {
-            io::write_all(STDERR_FILENO, b"the text has more than 4194304 bytes\n");
+            let _ = eprintln!(rt; "the text has more than 4194304 bytes");
         },
-        Loaded::Failed => os::fail(b"text.json"),
+        Loaded::Failed(e) => fail(rt, "text.json", e),
     }
 }
 
-fn main() {
+fn main(rt: HostRuntime) {
     let mut text = [0u8; 4194305];
-    let mut out = io::large_buffer();
-    answer_file(&mut text, &mut out);
+    let mut out = [0u8; BLOCK];
+    answer_file(&rt, &mut text, &mut out);
 }

@@ -5,7 +5,7 @@ use Prim.Native.Nat.{ℕ, ◌+◌, ◌<◌, ◌≤◌}
 use native.Mathlib.Nat.{zero-add}
 use native.Mathlib.Numerals.{add-one}
 use native.Mathlib.Omega.{arith}
-use lib.ListN.{length, get_or, set, take, drop, drop_of_length-le}
+use lib.ListN.{length, get_or, set, drop_of_length-le}
 use lib.Seq.{paste, paste-suc, take_all}
 
 -- a list copied over another, one more of its bytes

@@ -1,5 +1,5 @@
 -- Edges that loops skip: those whose kinds a mask does not have, and those of other keys. Assumes nothing.
-use mathlib.Core.Bool.{Bool, false, ◌&&◌}
+use mathlib.Core.Bool.{Bool, false}
 use mathlib.Core.List.{List}
 use mathlib.Core.Logic.{⊎_elim}
 use mathlib.Core.Path.{◌≡◌, sym, ap, subst, ◌∙◌}

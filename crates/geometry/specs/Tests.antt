@@ -1,6 +1,6 @@
 -- The same, as tests that compute, in the products that the code compares. Derived: `placed-iff` in proofs/ joins `located` to `Plane.Placed`,
 -- `on_segment-iff` and `crosses-iff` the tests of a side. Assumes nothing.
-use Rattle.std.specs.Prelude.{Bool, true, false, cond, ◌&&◌, ◌||◌, List, [], ◌∷◌, ℕ, zero, suc, ◌%◌, eqb, ℤ, pos, ◌+ℤ◌, ◌-ℤ◌, ◌*ℤ◌}
+use Rattle.std.specs.Prelude.{Bool, true, false, cond, ◌&&◌, ◌||◌, List, [], ◌∷◌, ℕ, suc, ℤ, pos, ◌-ℤ◌, ◌*ℤ◌}
 use Rattle.std.specs.Int.Signed.{le_z, lt_z}
 use Rattle.laws.specs.Lists.{any}
 use Rattle.geometry.specs.declared.Point.{Point}

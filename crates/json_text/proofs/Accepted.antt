@@ -10,7 +10,7 @@ use borrow.Author.Tests.{ne_eqb, eqb-true}
 use Rattle.laws.proofs.TestLaws.{cond_no, cond-elim, cond_byte, true-of-T, none-neq-some}
 use Rattle.json_text.specs.Bytes.{within, is_blank, Follow, follow_none, follow}
 use Rattle.json_text.specs.Numbers.{is_digit, is_digit_1_9, is_e}
-use Rattle.json_text.specs.Tree.{Word, null_word, true_word, false_word, Json, Values, Pairs, string, number}
+use Rattle.json_text.specs.Tree.{Word, null_word, true_word, false_word, Json, Values, Pairs}
 use Rattle.json_text.specs.Meaning.{Meaning, fold, meaning, elements, members}
 use Rattle.json_text.specs.Grammar.{spelling, Blanks, no_blanks, blanks, Value, is_word, value_string, is_number, value_empty_array, value_array, value_empty_object, value_object, Element, element, Elements, last_element, more_elements, Member, member, Members, last_member, more_members, Text}
 use Rattle.json_text.specs.Classes.{class_of, is_break, is_structure}

@@ -16,7 +16,7 @@ use Rattle.json_text.specs.Numbers.{is_digit_1_9}
 use Rattle.json_text.specs.Strings.{line_feed}
 use Rattle.json_text.specs.Tree.{null_word}
 use Rattle.json_text.specs.Meaning.{Meaning, fold}
-use Rattle.json_text.specs.Grammar.{spelling, Text, Begins, FaultAt}
+use Rattle.json_text.specs.Grammar.{spelling, Begins, FaultAt}
 use Rattle.json_text.specs.Lexer.{bits_after, high_after, hex_of, unescape, word_of, letter_move, value_start, at_value, at_first_element, at_first_key, at_key, at_colon, after_element, after_pair}
 use Rattle.json_text.specs.Machine.{later, Stack, bare, whole, in_array, in_object, finish, Token, State, fault, at, start, step, run, is_fault, Accepts, place_from}
 use Rattle.json_text.specs.declared.string.StringMode.{StringMode}

@@ -6,7 +6,7 @@ use Prim.Native.Nat.{ℕ}
 use lib.Dec.{T, eqb, eqb→eq}
 use Rattle.laws.proofs.TestLaws.{T-or-elim, cond-elim, cond_yes, cond_no, cond_byte}
 use Rattle.json_text.specs.Bytes.{within}
-use Rattle.json_text.specs.Numbers.{is_digit, is_digit_1_9, is_e, Digits, no_digits, digits, SomeDigits, some_digits, Minus, no_minus, minus, Int, zero, int, Frac, no_frac, frac, Sign, no_sign, minus_sign, plus_sign, Exp, no_exp, exp, Number, number}
+use Rattle.json_text.specs.Numbers.{is_digit, is_digit_1_9, is_e, Digits, no_digits, digits, SomeDigits, some_digits, Minus, no_minus, minus, zero, int, Frac, no_frac, frac, Sign, no_sign, minus_sign, plus_sign, Exp, no_exp, exp, Number, number}
 use Rattle.json_text.specs.Lexer.{or_exp, after_minus, after_zero, after_int, after_frac, after_e, after_exp, digit_only, number_move, may_end}
 use Rattle.json_text.specs.declared.number.NumberMode.{NumberMode}
 use Rattle.json_text.specs.declared.number.NumberMode.TheVariants as N

@@ -1,8 +1,7 @@
 -- Every step of the machine keeps what `Proper` says of its states. Assumes nothing.
-use mathlib.Core.Bool.{true}
 use mathlib.Core.List.{List}
 use Prim.Native.Nat.{ℕ, ◌+◌}
-use lib.Dec.{T, eqb, ltb}
+use lib.Dec.{eqb, ltb}
 use lib.ListN.{length, get_or}
 use Rattle.laws.proofs.TestLaws.{cond-elim}
 use Rattle.json_text.specs.Bytes.{is_blank}
@@ -19,10 +18,9 @@ use Rattle.json_text.specs.declared.word.Word.{Word}
 use Rattle.json_text.specs.declared.word.WordMove.{WordMove}
 use Rattle.json_text.specs.declared.lexer.Awaited.{Awaited}
 use Rattle.json_text.specs.declared.lexer.Awaited.TheVariants as P
-use Rattle.json_text.specs.declared.lexer.Mode.{Mode}
 use Rattle.json_text.specs.declared.lexer.Mode.TheVariants as M
 use Rattle.json_text.specs.declared.lexer.Step.{Step}
-use Rattle.json_text.specs.Proper.{InObject, Opened, Begun, ProperAt, Proper}
+use Rattle.json_text.specs.Proper.{InObject, Begun, ProperAt, Proper}
 use Rattle.json_text.proofs.Accepted.{ends-none, top_of-finish}
 
 module _ (𝕄 : Meaning) where

@@ -12,9 +12,9 @@ use lib.ListN.{length, get_or, drop}
 use lib.Seq.{drop-cons, drop-nil}
 use Rattle.laws.proofs.TestLaws.{cond-elim, cond_byte, none-neq-some}
 use Rattle.json_text.specs.Bytes.{is_blank, Follow, follow_none, follow}
-use Rattle.json_text.specs.Numbers.{is_digit_1_9, Number}
+use Rattle.json_text.specs.Numbers.{is_digit_1_9}
 use Rattle.json_text.specs.Strings.{Chars}
-use Rattle.json_text.specs.Tree.{Word, Json, Values, Pairs, string, number, pairs}
+use Rattle.json_text.specs.Tree.{Json, Values, Pairs, pairs}
 use Rattle.json_text.specs.Meaning.{Meaning, fold, meaning, elements, members}
 use Rattle.json_text.specs.Grammar.{spelling, Text}
 use Rattle.json_text.specs.Lexer.{may_end, letter_move, value_start, at_value, at_first_element, at_first_key, at_key, at_colon, after_root, after_element, after_pair, after_value, key_step, text_step, number_step, word_step, word_of}

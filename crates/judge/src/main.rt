@@ -1,10 +1,14 @@
 // The judging program: judges standard input by the rules of book.txt, and prints a line for each record. What it prints is made by crate report,
 // which is proved; here bytes are only read and written.
+#![tactic(auto)]
+
 ghost use Rattle.std.specs.Prelude.{◌≡◌, ◌≤◌, length};
 
-use libc::{STDIN_FILENO, STDOUT_FILENO};
 use reader::Reader;
 use report::Begun;
+use std::fs::File;
+use std::io::Read;
+use std::rt::Files;
 
 // A reader, and whether the program goes on.
 #[derive(Clone, Copy)]
@@ -29,6 +33,9 @@ fn work_space() -> [u8; WORK]
     [0; WORK]
 }
 
+// The bytes of one read, and of the lines that are printed at once.
+const BLOCK: usize = 65536;
+
 // How many bytes are read after a read of `more`; as many as before, where the space has fewer left.
 fn read_more(read: usize, more: usize, len: usize) -> usize
     requires { read ≤ len }
@@ -47,20 +54,27 @@ struct Got {
     failed: bool,
 }
 
-fn read_some(fd: i32, space: &mut [u8]) -> Got {
-    let got = libc::read(fd, space);
-    let n = io::count(got, space);
-    Got {
-        bytes: n,
-        failed: got < 0,
+// Reads what has arrived of a file.
+fn read_some(file: &mut impl Read, space: &mut [u8]) -> Got
+    ensures { result.bytes ≤ length space.new }
+{
+    match file.read(space) {
+        Ok(n) => Got {
+            bytes: n,
+            failed: false,
+        },
+        Err(_) => Got {
+            bytes: 0,
+            failed: true,
+        },
     }
 }
 
 // Reads a file to its end, or until the space is full, and gives the number of bytes. Where a read fails it is 0, whatever was read before.
-fn read_file(fd: i32, space: &mut [u8]) -> usize {
+fn read_file(file: &mut impl Read, space: &mut [u8]) -> usize {
     let mut n = 0;
     while n < space.len() {
-        let got = read_some(fd, &mut space[n..]);
+        let got = read_some(file, &mut space[n..]);
         if got.failed {
             return 0;
         }
@@ -74,14 +88,11 @@ fn read_file(fd: i32, space: &mut [u8]) -> usize {
 }
 
 // The bytes of book.txt; none where it cannot be read to its end.
-fn read_book(space: &mut [u8]) -> usize {
-    let fd = os::open_read(b"book.txt");
-    if fd < 0 {
-        return 0;
+fn read_book(rt: &impl Files, space: &mut [u8]) -> usize {
+    match File::open(rt, "book.txt") {
+        Ok(mut file) => read_file(&mut file, space),
+        Err(_) => 0,
     }
-    let n = read_file(fd, space);
-    libc::close(fd);
-    n
 }
 
 // Begins with the first n bytes of the space.
@@ -93,11 +104,11 @@ fn begin(space: &[u8], n: usize, table: &mut [u8; 7920], out: &mut [u8]) -> Begu
 }
 
 // Prints the first bytes of the output.
-fn print(out: &[u8], used: usize) -> bool {
+fn print(rt: &impl Print, out: &[u8], used: usize) -> bool {
     if out.len() < used {
         return false;
     }
-    io::write_all(STDOUT_FILENO, &out[..used])
+    rt.write_all(&out[..used]).is_ok()
 }
 
 fn stopped(r: Reader) -> State {
@@ -116,6 +127,7 @@ struct Part {
 
 // Reports what is unread of a piece, and prints its lines. Where they cannot be printed, no more counts as read.
 fn judge_next<'a>(
+    rt: &impl Print,
     r: Reader,
     table: &'a [u8; 7920],
     work: &mut [u8],
@@ -130,7 +142,7 @@ fn judge_next<'a>(
     let used = x.used;
     let next = x.reader;
     let behind = read_more(read, x.read, piece.len());
-    if print(out, used) {
+    if print(rt, out, used) {
         return Part {
             reader: next,
             read: behind,
@@ -144,6 +156,7 @@ fn judge_next<'a>(
 
 // Reports a piece, and prints its lines as they come. A turn that reads nothing is a call refused, a slip or a failed print, and the last.
 fn judge_piece<'a>(
+    rt: &impl Print,
     r: Reader,
     table: &'a [u8; 7920],
     work: &mut [u8],
@@ -153,7 +166,7 @@ fn judge_piece<'a>(
     let mut next = r;
     let mut read = 0;
     while read < piece.len() {
-        let x = judge_next(next, table, work, piece, out, read);
+        let x = judge_next(rt, next, table, work, piece, out, read);
         let behind = x.read;
         next = x.reader;
         if behind <= read {
@@ -169,22 +182,25 @@ fn judge_piece<'a>(
 
 // Reads what has arrived, and judges it.
 fn judge_some(
+    rt: &impl Print,
+    input: &mut impl Read,
     r: Reader,
     table: &[u8; 7920],
     work: &mut [u8],
     space: &mut [u8],
     out: &mut [u8],
 ) -> State {
-    let got = libc::read(STDIN_FILENO, space);
-    let n = io::count(got, space);
+    let got = read_some(input, space);
+    let n = got.bytes;
     if n == 0 {
         return stopped(r);
     }
-    judge_piece(r, table, work, &space[..n], out)
+    judge_piece(rt, r, table, work, &space[..n], out)
 }
 
 // A proved loop has to end, and nothing says that the input does: the loop counts its turns down from a number that no run uses up.
 fn judge_all(
+    rt: &(impl Input + Print),
     r: Reader,
     table: &[u8; 7920],
     work: &mut [u8],
@@ -195,31 +211,32 @@ fn judge_all(
         reader: r,
         going: true,
     };
+    let mut input = rt.reader();
     let mut turns = u64::MAX;
     while turns > 0 && s.going {
         let next = s.reader;
-        s = judge_some(next, table, work, space, out);
+        s = judge_some(rt, &mut input, next, table, work, space, out);
         turns -= 1;
     }
     s.reader
 }
 
-fn main() {
+fn main(rt: HostRuntime) {
     let mut book = book_space();
-    let mut out = io::large_buffer();
-    let n = read_book(&mut book);
+    let mut out = [0u8; BLOCK];
+    let n = read_book(&rt, &mut book);
     let mut table = [0u8; 7920];
     let begun = begin(&book, n, &mut table, &mut out);
     let used = begun.used;
-    print(&out, used);
+    print(&rt, &out, used);
     if begun.accepted {
         let mut work = work_space();
-        let mut space = io::large_buffer();
+        let mut space = [0u8; BLOCK];
         let started = Reader::start(&table, &work);
         let first = started.reader;
-        let last = judge_all(first, &table, &mut work, &mut space, &mut out);
+        let last = judge_all(&rt, first, &table, &mut work, &mut space, &mut out);
         let x = report::finish(last, &table, &work, &mut out);
         let end = x.used;
-        print(&out, end);
+        print(&rt, &out, end);
     }
 }

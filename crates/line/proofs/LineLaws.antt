@@ -12,7 +12,6 @@ use Rattle.laws.specs.Lists.{same}
 use Rattle.table.specs.declared.kind.ValueKind.{ValueKind}
 use Rattle.table.specs.declared.kind.ValueKind.TheVariants.{Plain, Rule}
 use Rattle.book.specs.Text.{is_number, number}
-use Rattle.book.specs.Entry.{obj}
 use Rattle.book.specs.Line.{is_form, form_of, is_key, key_of, is_kind, kind_in, small_kind, formed, small, entry_of, Said, say_fields, say_line, word_obj, word_end, dash}
 use Rattle.scan.specs.Scan.{capped, capped_kind}
 use Rattle.line.specs.declared.Sort.TheVariants.{Edge}

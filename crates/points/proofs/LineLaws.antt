@@ -9,7 +9,6 @@ use lib.ListN.{length, get_or, take, drop, length-drop, drop_of_length-le}
 use lib.Seq.{drop-cons, take_all}
 use borrow.Author.Tests.{eq-eqb, ne_eqb, not-true, not-false}
 use Rattle.points.specs.declared.Line.{Line}
-use Rattle.points.specs.declared.Line.TheVariants as Line
 use Rattle.points.specs.Points.{is_of, run, after_blanks, word, after_word, without_cr, number_of, both, ended, point_from}
 use Rattle.points.specs.declared.number.Number.{Number}
 

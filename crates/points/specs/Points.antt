@@ -4,7 +4,6 @@ use Rattle.laws.specs.Lists.{all}
 use Rattle.json_text.specs.Numbers.{is_digit}
 use Rattle.coordinate.specs.Coordinate.{value_from}
 use Rattle.points.specs.declared.Line.{Line}
-use Rattle.points.specs.declared.Line.TheVariants as Line
 use Rattle.points.specs.declared.number.Number.{Number}
 use Rattle.points.specs.declared.number.Number.TheVariants.{Is, Other}
 

@@ -3,7 +3,6 @@
 use Rattle.std.specs.Prelude.{Bool, true, false, cond, ◌&&◌, List, [], ◌∷◌, ℕ, ◌+◌, ◌-◌, eqb, ltb}
 use Rattle.json_text.specs.Lexer.{step_of}
 use Rattle.json_text.specs.declared.lexer.Top.{Top}
-use Rattle.json_text.specs.declared.lexer.Top.TheVariants as Top
 use Rattle.table.specs.Table.{Table}
 use Rattle.table.specs.declared.kind.Finished.{Finished}
 use Rattle.table.specs.declared.kind.Finished.TheVariants as Done

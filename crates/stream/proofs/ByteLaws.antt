@@ -10,7 +10,6 @@ use Rattle.json_text.specs.Lexer.{step_of}
 use Rattle.json_text.specs.declared.lexer.Mode.{Mode}
 use Rattle.json_text.specs.declared.lexer.Mode.TheVariants as M
 use Rattle.json_text.specs.declared.lexer.Act.{Act}
-use Rattle.json_text.specs.declared.lexer.Act.TheVariants as A
 use Rattle.json_text.specs.declared.lexer.Step.{Step}
 use Rattle.whole.specs.declared.Decimal.{Decimal}
 use Rattle.whole.specs.Limits.{CountsWithin}

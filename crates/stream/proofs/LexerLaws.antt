@@ -26,7 +26,6 @@ use Rattle.json_text.specs.declared.lexer.Awaited.TheVariants as P
 use Rattle.json_text.specs.declared.lexer.Mode.{Mode}
 use Rattle.json_text.specs.declared.lexer.Mode.TheVariants as M
 use Rattle.json_text.specs.declared.lexer.Top.{Top}
-use Rattle.json_text.specs.declared.lexer.Top.TheVariants as Top
 use Rattle.json_text.specs.declared.lexer.Act.{Act}
 use Rattle.json_text.specs.declared.lexer.Act.TheVariants as A
 use Rattle.json_text.specs.declared.lexer.Step.{Step}

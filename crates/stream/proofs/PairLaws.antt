@@ -33,7 +33,7 @@ use Rattle.reader.specs.declared.Answer.TheVariants as Says
 use Rattle.reader.specs.declared.Gate.TheVariants as Is
 use Rattle.reader.specs.Machine.{Outcome, feed_of}
 use Rattle.stream.specs.Lent.{level_of, mode_of, faulty_in, byte_fed, then_fed}
-use Rattle.stream.specs.Pairs.{AwaitsChar, of_string, of_key, InString, GoesOn, Pairs}
+use Rattle.stream.specs.Pairs.{AwaitsChar, of_string, of_key, GoesOn, Pairs}
 use Rattle.stream.proofs.ByteLaws.{bump-pos}
 use Rattle.stream.proofs.FedLaws.{gate_of, step_at, progress-of-other, quiet-of-other, moves-of-other, open-of-other, judged-of-RS, fed-in-two}
 use Rattle.stream.proofs.ValueLaws.{open-of-quiet}

@@ -1,8 +1,8 @@
 -- What stands in the parts of a table's bytes. Assumes nothing.
-use mathlib.Core.List.{List, [], ◌∷◌}
+use mathlib.Core.List.{List}
 use mathlib.Core.Path.{◌≡◌, sym, ◌∙◌}
-use Prim.Native.Nat.{ℕ, zero, suc, ◌+◌, ◌<◌}
-use lib.ListN.{get_or, take, drop}
+use Prim.Native.Nat.{ℕ, ◌+◌, ◌<◌}
+use lib.ListN.{get_or, drop}
 use lib.Seq.{get_or-drop, get_or-take}
 use Rattle.table.specs.Flat.{part}
 

@@ -1,6 +1,13 @@
 // Makes the calls of data/calls, one after the other, and writes what each answers: CALLS.md says how a call is written.
-use libc::STDOUT_FILENO;
+#![tactic(auto)]
+
+ghost use Rattle.std.specs.Prelude.{◌≤◌, IfOk, length};
+
 use reader::{Answer, Reader, Refusal};
+use std::fs::File;
+use std::io;
+use std::io::Read;
+use std::rt::Files;
 use verdict::Verdict;
 
 // What the calls share.
@@ -11,76 +18,77 @@ struct State {
     size: usize,
 }
 
-fn space_and(n: usize) {
-    io::write_all(STDOUT_FILENO, b" ");
-    io::print_decimal(STDOUT_FILENO, n as u64);
+fn space_and(rt: &impl Print, n: usize) {
+    let _ = print!(rt; " {n}");
 }
 
 // The count of bytes read, and a verdict or refusal with number and place.
-fn say(count: usize, word: &[u8], number: usize, place: usize) {
-    io::print_decimal(STDOUT_FILENO, count as u64);
-    io::write_all(STDOUT_FILENO, b" ");
-    io::write_all(STDOUT_FILENO, word);
-    space_and(number);
-    space_and(place);
-    io::write_all(STDOUT_FILENO, b"\n");
+fn say(rt: &impl Print, count: usize, word: &str, number: usize, place: usize) {
+    let _ = print!(rt; "{count} {word}");
+    space_and(rt, number);
+    space_and(rt, place);
+    let _ = println!(rt);
 }
 
 // The first n bytes, where there are so many.
-fn write_first(bytes: &[u8], n: usize) {
+fn write_first(rt: &impl Print, bytes: &[u8], n: usize) {
     if n <= bytes.len() {
-        io::write_all(STDOUT_FILENO, &bytes[..n]);
+        let _ = rt.write_all(&bytes[..n]);
     }
 }
 
 // The count, and the line that the judging program writes for a verdict.
-fn say_verdict(count: usize, v: Verdict) {
+fn say_verdict(rt: &impl Print, count: usize, v: Verdict) {
     let mut line = [0u8; 64];
     let n = text::write_verdict(&mut line, 0, v);
-    io::print_decimal(STDOUT_FILENO, count as u64);
-    io::write_all(STDOUT_FILENO, b" ");
-    write_first(&line, n);
+    let _ = print!(rt; "{count} ");
+    write_first(rt, &line, n);
 }
 
-fn say_refusal(count: usize, r: Refusal) {
-    say(count, b"call", reader::refusal_number(r) as usize, 0)
+fn say_refusal(rt: &impl Print, count: usize, r: Refusal) {
+    say(rt, count, "call", reader::refusal_number(r) as usize, 0)
 }
 
-fn say_answer(count: usize, a: Answer) {
+fn say_answer(rt: &impl Print, count: usize, a: Answer) {
     match a {
-        Answer::Quiet => say(count, b"none", 0, 0),
-        Answer::Judged(v) => say_verdict(count, v),
-        Answer::Refused(r) => say_refusal(count, r),
+        Answer::Quiet => say(rt, count, "none", 0, 0),
+        Answer::Judged(v) => say_verdict(rt, count, v),
+        Answer::Refused(r) => say_refusal(rt, count, r),
     }
 }
 
 // The reader's tally, on a line.
-fn say_tally(r: Reader) {
+fn say_tally(rt: &impl Print, r: Reader) {
     let y = r.tally;
-    io::write_all(STDOUT_FILENO, b"tally");
-    space_and(y.valid as usize);
-    space_and(y.invalid as usize);
-    space_and(y.refused as usize);
-    io::write_all(STDOUT_FILENO, b"\n");
+    let _ = print!(rt; "tally");
+    space_and(rt, y.valid as usize);
+    space_and(rt, y.invalid as usize);
+    space_and(rt, y.refused as usize);
+    let _ = println!(rt);
 }
 
 // Each byte of the buffer becomes b.
 fn fill(work: &mut [u8], b: u8) {
-    let mut i = 0;
-    while i < work.len() {
-        work[i] = b;
-        i += 1;
+    for x in work.iter_mut() {
+        *x = b;
     }
 }
 
 // Calls on the first bytes of the buffer.
-fn on_buffer<'a>(s: State, op: u8, t: &'a [u8; 7920], work: &mut [u8], piece: &'a [u8]) -> State {
+fn on_buffer<'a>(
+    rt: &impl Print,
+    s: State,
+    op: u8,
+    t: &'a [u8; 7920],
+    work: &mut [u8],
+    piece: &'a [u8],
+) -> State {
     let r = s.reader;
     if op == 115 {
         let x = Reader::start(t, work);
         let a = x.answer;
         let next = x.reader;
-        say_answer(0, a);
+        say_answer(rt, 0, a);
         return State {
             reader: next,
             size: s.size,
@@ -90,7 +98,7 @@ fn on_buffer<'a>(s: State, op: u8, t: &'a [u8; 7920], work: &mut [u8], piece: &'
         let x = reader::feed(r, t, work, piece);
         let a = x.answer;
         let next = x.reader;
-        say_answer(x.count, a);
+        say_answer(rt, x.count, a);
         return State {
             reader: next,
             size: s.size,
@@ -99,8 +107,8 @@ fn on_buffer<'a>(s: State, op: u8, t: &'a [u8; 7920], work: &mut [u8], piece: &'
     let x = reader::close(r, t, work);
     let a = x.answer;
     let next = x.reader;
-    say_answer(0, a);
-    say_tally(next);
+    say_answer(rt, 0, a);
+    say_tally(rt, next);
     State {
         reader: next,
         size: s.size,
@@ -109,7 +117,15 @@ fn on_buffer<'a>(s: State, op: u8, t: &'a [u8; 7920], work: &mut [u8], piece: &'
 
 // One call: s start, f feed, c close; b loads a book, e gives its table a count of edges, n gives the buffer's size, w fills the
 // buffer with a byte.
-fn call(s: State, op: u8, n: usize, t: &mut [u8; 7920], work: &mut [u8], piece: &[u8]) -> State {
+fn call(
+    rt: &impl Print,
+    s: State,
+    op: u8,
+    n: usize,
+    t: &mut [u8; 7920],
+    work: &mut [u8],
+    piece: &[u8],
+) -> State {
     let size = s.size;
     if op == 98 {
         load::load(piece, t);
@@ -129,7 +145,7 @@ fn call(s: State, op: u8, n: usize, t: &mut [u8; 7920], work: &mut [u8], piece: 
         return s;
     }
     if size <= work.len() {
-        return on_buffer(s, op, t, &mut work[..size], piece);
+        return on_buffer(rt, s, op, t, &mut work[..size], piece);
     }
     s
 }
@@ -150,7 +166,7 @@ fn pair(calls: &[u8], i: usize) -> usize {
 }
 
 // The calls, each after five bytes: which, a number, and the length of its bytes.
-fn run(calls: &[u8], work: &mut [u8]) {
+fn run(rt: &impl Print, calls: &[u8], work: &mut [u8]) {
     let n = calls.len();
     let mut table = [0u8; 7920];
     let began = Reader::start(&table, work);
@@ -166,20 +182,45 @@ fn run(calls: &[u8], work: &mut [u8]) {
             return;
         }
         let end = i + m;
-        s = call(s, op, k, &mut table, work, &calls[i..end]);
+        s = call(rt, s, op, k, &mut table, work, &calls[i..end]);
         i = end;
     }
 }
 
-fn main() {
-    let mut space = io::large_buffer();
-    let fd = os::open_read(b"calls");
-    if fd < 0 {
-        os::fail(b"calls");
-        return;
+// Reads until the space is full, the file ends or a read fails, and gives the number of bytes.
+fn read_full(file: &mut impl Read, space: &mut [u8]) -> usize
+    ensures { result ≤ length space.new }
+{
+    let mut n = 0;
+    while n < space.len() {
+        match file.read(&mut space[n..]) {
+            Ok(more) if more > 0 => n += more,
+            _ => return n,
+        }
     }
-    let n = io::read_full(fd, &mut space);
-    libc::close(fd);
-    let mut work = [0u8; 6240];
-    run(&space[..n], &mut work);
+    n
+}
+
+// The content of a file, as far as there is space.
+fn content(rt: &impl Files, path: &str, space: &mut [u8]) -> io::Result<usize>
+    ensures { IfOk result (λ n. n ≤ length space.new) }
+{
+    let mut file = File::open(rt, path)?;
+    Ok(read_full(&mut file, space))
+}
+
+// Says on standard error that a file cannot be opened, and why.
+fn fail(rt: &impl Eprint, path: &str, e: io::Error) {
+    let _ = eprintln!(rt; "{path}: {e}");
+}
+
+fn main(rt: HostRuntime) {
+    let mut space = [0u8; 65536];
+    match content(&rt, "calls", &mut space) {
+        Ok(n) => {
+            let mut work = [0u8; 6240];
+            run(&rt, &space[..n], &mut work);
+        }
+        Err(e) => fail(&rt, "calls", e),
+    }
 }

@@ -19,49 +19,50 @@ fn object_book(t: &mut [u8; 7920]) {
 }
 
 // Records that are JSON as long as they are not too long.
-fn sound_ones(t: &[u8; 7920]) {
-    long::run_three(t, b"string", b"\x1e[\"a\"]", 3, 4);
-    long::run_two(t, b"blanks-before", b"\x1e []", 1, 2);
-    long::run_two(t, b"blanks-behind", b"\x1e[]\n", 3, 4);
-    long::run_two(t, b"number", b"\x1e1", 1, 2);
-    long::run_three(t, b"array", b"\x1e[1,1]", 2, 4);
+fn sound_ones(rt: &impl Print, t: &[u8; 7920]) {
+    long::run_three(rt, t, b"string", b"\x1e[\"a\"]", 3, 4);
+    long::run_two(rt, t, b"blanks-before", b"\x1e []", 1, 2);
+    long::run_two(rt, t, b"blanks-behind", b"\x1e[]\n", 3, 4);
+    long::run_two(rt, t, b"number", b"\x1e1", 1, 2);
+    long::run_three(rt, t, b"array", b"\x1e[1,1]", 2, 4);
 }
 
 // Records whose last byte is a fault, that are lost from the first bytes on, or that break off.
-fn broken_ones(t: &[u8; 7920]) {
-    long::run_two(t, b"malformed-last", b"\x1e[ x", 2, 3);
-    long::run_two(t, b"malformed-first", b"\x1ex ", 2, 3);
+fn broken_ones(rt: &impl Print, t: &[u8; 7920]) {
+    long::run_two(rt, t, b"malformed-last", b"\x1e[ x", 2, 3);
+    long::run_two(rt, t, b"malformed-first", b"\x1ex ", 2, 3);
     long::run_two(
+        rt,
         t,
         b"too-deep-last",
         b"\x1e[[[[[[[[[[[[[[[[[[[[[[[[[[[[[[[[[[[[[[[[[[[[[[[[[[[[[[[[[[[[[[[[ [",
         65,
         66,
     );
-    long::run_two(t, b"too-deep-first", b"\x1e[", 1, 2);
-    long::run_two(t, b"broken-off", b"\x1e[\"a", 3, 4);
+    long::run_two(rt, t, b"too-deep-first", b"\x1e[", 1, 2);
+    long::run_two(rt, t, b"broken-off", b"\x1e[\"a", 3, 4);
 }
 
 // Buffers of k frames to the byte, with all but a byte of one more, and beyond 64 frames.
-fn buffers(t: &[u8; 7920], u: &[u8; 7920]) {
-    nest::run_two(t, u, 96, 191, 1);
-    nest::run_two(t, u, 192, 287, 1);
-    nest::run_two(t, u, 5952, 6047, 61);
-    nest::run_two(t, u, 6048, 6143, 62);
-    nest::run_two(t, u, 6144, 6239, 63);
-    nest::run_two(t, u, 6240, 12288, 63);
+fn buffers(rt: &impl Print, t: &[u8; 7920], u: &[u8; 7920]) {
+    nest::run_two(rt, t, u, 96, 191, 1);
+    nest::run_two(rt, t, u, 192, 287, 1);
+    nest::run_two(rt, t, u, 5952, 6047, 61);
+    nest::run_two(rt, t, u, 6048, 6143, 62);
+    nest::run_two(rt, t, u, 6144, 6239, 63);
+    nest::run_two(rt, t, u, 6240, 12288, 63);
 }
 
 // All of them.
-pub fn run() {
+pub fn run(rt: &impl Print) {
     let mut t = [0u8; 7920];
     array_book(&mut t);
     let mut u = [0u8; 7920];
     object_book(&mut u);
-    buffers(&t, &u);
-    nest::run_texts(&t);
-    nest::pairs(&t);
-    sound_ones(&t);
-    broken_ones(&t);
-    long::pairs(&t);
+    buffers(rt, &t, &u);
+    nest::run_texts(rt, &t);
+    nest::pairs(rt, &t);
+    sound_ones(rt, &t);
+    broken_ones(rt, &t);
+    long::pairs(rt, &t);
 }

@@ -4,7 +4,6 @@ ghost use Rattle.std.specs.Prelude.{◌≤◌};
 use crate::say::OUT;
 use crate::{WORK, say};
 use entries::entry;
-use libc::STDOUT_FILENO;
 use reader::{Answer, Reader};
 
 const BLOCK: usize = 65536;
@@ -133,6 +132,7 @@ fn fill(block: &mut [u8; BLOCK], unit: &[u8]) {
 
 // A stream with 64 frames: the text, with n bytes of a unit over and over in place of the unit, which stands from the index at to the index end.
 fn run_stream<'a>(
+    rt: &impl Print,
     t: &'a [u8; 7920],
     label: &[u8],
     text: &'a [u8],
@@ -147,7 +147,7 @@ fn run_stream<'a>(
             let mut work = [0u8; WORK];
             let mut out = [0u8; OUT];
             let made = judge(t, &mut work, &mut out, &text[..at], &block, n, &text[end..]);
-            say::say_all(label, &out, made);
+            say::say_all(rt, label, &out, made);
         }
     }
 }
@@ -161,29 +161,51 @@ fn minus(a: usize, b: usize) -> usize {
 }
 
 // A record of so many bytes alone in its stream. The text begins with its RS.
-fn run<'a>(t: &'a [u8; 7920], label: &[u8], bytes: u32, text: &'a [u8], at: usize, end: usize) {
-    io::write_all(STDOUT_FILENO, label);
-    io::write_all(STDOUT_FILENO, b"-");
-    io::print_decimal(STDOUT_FILENO, bytes as u64);
+fn run<'a>(
+    rt: &impl Print,
+    t: &'a [u8; 7920],
+    label: &[u8],
+    bytes: u32,
+    text: &'a [u8],
+    at: usize,
+    end: usize,
+) {
+    say::write(rt, label);
+    let _ = print!(rt; "-{bytes}");
     let n = minus(minus(bytes as usize + 1, at), minus(text.len(), end));
-    run_stream(t, b"", text, at, end, n);
+    run_stream(rt, t, b"", text, at, end, n);
 }
 
 // A record of as many bytes as a record can have, and one of a byte more.
-pub fn run_two<'a>(t: &'a [u8; 7920], label: &[u8], text: &'a [u8], at: usize, end: usize) {
-    run(t, label, 16777216, text, at, end);
-    run(t, label, 16777217, text, at, end);
+pub fn run_two<'a>(
+    rt: &impl Print,
+    t: &'a [u8; 7920],
+    label: &[u8],
+    text: &'a [u8],
+    at: usize,
+    end: usize,
+) {
+    run(rt, t, label, 16777216, text, at, end);
+    run(rt, t, label, 16777217, text, at, end);
 }
 
 // The same, with one of a byte less before them.
-pub fn run_three<'a>(t: &'a [u8; 7920], label: &[u8], text: &'a [u8], at: usize, end: usize) {
-    run(t, label, 16777215, text, at, end);
-    run_two(t, label, text, at, end);
+pub fn run_three<'a>(
+    rt: &impl Print,
+    t: &'a [u8; 7920],
+    label: &[u8],
+    text: &'a [u8],
+    at: usize,
+    end: usize,
+) {
+    run(rt, t, label, 16777215, text, at, end);
+    run_two(rt, t, label, text, at, end);
 }
 
 // A record that is too long, and a head that would be too long for a record, each with a record after it.
-pub fn pairs(t: &[u8; 7920]) {
+pub fn pairs(rt: &impl Print, t: &[u8; 7920]) {
     run_stream(
+        rt,
         t,
         b"too-long-then-sound",
         b"\x1e[[\"a\",1],\x1e[\"a\",1]",
@@ -192,6 +214,7 @@ pub fn pairs(t: &[u8; 7920]) {
         16777216,
     );
     run_stream(
+        rt,
         t,
         b"long-head-then-sound",
         b" \x1e[\"a\",1]",

@@ -2,7 +2,6 @@
 use crate::say::OUT;
 use crate::{WORK, say};
 use entries::feeds;
-use libc::STDOUT_FILENO;
 use reader::Reader;
 
 // More bytes than any stream here has.
@@ -78,109 +77,130 @@ fn close_levels(text: &mut [u8; TEXT], at: usize, shape: Shape, levels: usize) -
 }
 
 // Judges the first n bytes of the text as a stream, and says its entries after a label.
-fn judge<'a>(t: &'a [u8; 7920], work: &mut [u8], text: &'a [u8; TEXT], n: usize, label: &[u8]) {
+fn judge<'a>(
+    rt: &impl Print,
+    t: &'a [u8; 7920],
+    work: &mut [u8],
+    text: &'a [u8; TEXT],
+    n: usize,
+    label: &[u8],
+) {
     let all: &[u8] = text;
     if n <= all.len() {
         let mut out = [0u8; OUT];
         let made = feeds::judge(t, &all[..n], 0, work, &mut out);
-        say::say_all(label, &out, made);
+        say::say_all(rt, label, &out, made);
     }
 }
 
-fn say_shape(shape: Shape) {
+fn say_shape(rt: &impl Print, shape: Shape) {
     match shape {
-        Shape::Arrays => io::write_all(STDOUT_FILENO, b"arrays-"),
-        Shape::Objects => io::write_all(STDOUT_FILENO, b"objects-"),
-        Shape::InTurn => io::write_all(STDOUT_FILENO, b"in-turn-"),
-    };
+        Shape::Arrays => say::write(rt, b"arrays-"),
+        Shape::Objects => say::write(rt, b"objects-"),
+        Shape::InTurn => say::write(rt, b"in-turn-"),
+    }
 }
 
 // The first n bytes of the text as a stream, after its label.
 fn run_end<'a>(
+    rt: &impl Print,
     t: &'a [u8; 7920],
     work: &mut [u8],
     text: &'a [u8; TEXT],
     n: usize,
     shape: Shape,
     levels: usize,
-    end: &[u8],
+    end: &str,
 ) {
-    say_shape(shape);
-    io::print_decimal(STDOUT_FILENO, levels as u64);
-    io::write_all(STDOUT_FILENO, end);
-    io::print_decimal(STDOUT_FILENO, work.len() as u64);
-    judge(t, work, text, n, b"");
+    say_shape(rt, shape);
+    let size = work.len();
+    let _ = print!(rt; "{levels}{end}{size}");
+    judge(rt, t, work, text, n, b"");
 }
 
 // A record of so many levels, alone in its stream: left open, and closed.
-fn run_shape(t: &[u8; 7920], work: &mut [u8], shape: Shape, levels: usize) {
+fn run_shape(rt: &impl Print, t: &[u8; 7920], work: &mut [u8], shape: Shape, levels: usize) {
     let mut text = [0u8; TEXT];
     let open = open_levels(&mut text, 0, shape, levels);
-    run_end(t, work, &text, open, shape, levels, b"-open-");
+    run_end(rt, t, work, &text, open, shape, levels, "-open-");
     let closed = close_levels(&mut text, open, shape, levels);
-    run_end(t, work, &text, closed, shape, levels, b"-closed-");
+    run_end(rt, t, work, &text, closed, shape, levels, "-closed-");
 }
 
 // Records of each number of levels from the least to below the other.
-fn run_levels(t: &[u8; 7920], u: &[u8; 7920], work: &mut [u8], least: usize, other: usize) {
+fn run_levels(
+    rt: &impl Print,
+    t: &[u8; 7920],
+    u: &[u8; 7920],
+    work: &mut [u8],
+    least: usize,
+    other: usize,
+) {
     let mut levels = least;
     while levels < other {
-        run_shape(t, work, Shape::Arrays, levels);
-        run_shape(u, work, Shape::Objects, levels);
-        run_shape(t, work, Shape::InTurn, levels);
+        run_shape(rt, t, work, Shape::Arrays, levels);
+        run_shape(rt, u, work, Shape::Objects, levels);
+        run_shape(rt, t, work, Shape::InTurn, levels);
         levels += 1;
     }
 }
 
 // Four numbers of levels on a buffer of so many bytes.
-fn run(t: &[u8; 7920], u: &[u8; 7920], size: usize, least: u8) {
+fn run(rt: &impl Print, t: &[u8; 7920], u: &[u8; 7920], size: usize, least: u8) {
     let mut work = [0u8; 2 * WORK];
     let levels = least as usize;
     if size <= 2 * WORK {
-        run_levels(t, u, &mut work[..size], levels, levels + 4);
+        run_levels(rt, t, u, &mut work[..size], levels, levels + 4);
     }
 }
 
 // The same on buffers of two sizes.
-pub fn run_two(t: &[u8; 7920], u: &[u8; 7920], size: usize, larger: usize, least: u8) {
-    run(t, u, size, least);
-    run(t, u, larger, least);
+pub fn run_two(
+    rt: &impl Print,
+    t: &[u8; 7920],
+    u: &[u8; 7920],
+    size: usize,
+    larger: usize,
+    least: u8,
+) {
+    run(rt, t, u, size, least);
+    run(rt, t, u, larger, least);
 }
 
 // A record on one frame, which is its own label.
-fn run_text(t: &[u8; 7920], record: &[u8]) {
+fn run_text(rt: &impl Print, t: &[u8; 7920], record: &[u8]) {
     let mut work = [0u8; Reader::FRAME];
     let mut text = [0u8; TEXT];
     let first = put(&mut text, 0, b"\x1e");
     let n = put(&mut text, first, record);
-    judge(t, &mut work, &text, n, record);
+    judge(rt, t, &mut work, &text, n, record);
 }
 
 // Second openings on one frame: too deep where a value can stand, malformed where none can.
-pub fn run_texts(t: &[u8; 7920]) {
-    run_text(t, b"[[");
-    run_text(t, b"[{");
-    run_text(t, b"{[");
-    run_text(t, b"{\"a\"[");
-    run_text(t, b"{\"a\":[");
-    run_text(t, b"[1[");
-    run_text(t, b"[]{");
+pub fn run_texts(rt: &impl Print, t: &[u8; 7920]) {
+    run_text(rt, t, b"[[");
+    run_text(rt, t, b"[{");
+    run_text(rt, t, b"{[");
+    run_text(rt, t, b"{\"a\"[");
+    run_text(rt, t, b"{\"a\":[");
+    run_text(rt, t, b"[1[");
+    run_text(rt, t, b"[]{");
 }
 
 // Arrays left open, and after them 64 that are closed.
-fn pair(t: &[u8; 7920], label: &[u8], levels: usize) {
+fn pair(rt: &impl Print, t: &[u8; 7920], label: &[u8], levels: usize) {
     let mut work = [0u8; 2 * WORK];
     let mut text = [0u8; TEXT];
     let open = open_levels(&mut text, 0, Shape::Arrays, levels);
     let inside = open_levels(&mut text, open, Shape::Arrays, 64);
     let n = close_levels(&mut text, inside, Shape::Arrays, 64);
-    judge(t, &mut work, &text, n, label);
+    judge(rt, t, &mut work, &text, n, label);
 }
 
 // A record that fails, and one after it: the second is judged as it is alone.
-pub fn pairs(t: &[u8; 7920]) {
-    pair(t, b"alone", 0);
-    pair(t, b"broken-off-then-sound", 64);
-    pair(t, b"too-deep-then-sound", 65);
-    pair(t, b"far-too-deep-then-sound", 1000);
+pub fn pairs(rt: &impl Print, t: &[u8; 7920]) {
+    pair(rt, t, b"alone", 0);
+    pair(rt, t, b"broken-off-then-sound", 64);
+    pair(rt, t, b"too-deep-then-sound", 65);
+    pair(rt, t, b"far-too-deep-then-sound", 1000);
 }

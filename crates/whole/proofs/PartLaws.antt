@@ -11,7 +11,7 @@ use Rattle.laws.proofs.TestLaws.{cond_yes}
 use Rattle.json_text.specs.Bytes.{within}
 use Rattle.json_text.specs.Meaning.{fold}
 use Rattle.json_text.specs.Numbers.{is_digit, is_digit_1_9, is_e, Digits, no_digits, digits, some_digits, Minus, no_minus, minus, Int, zero, int, Frac}
-use Rattle.json_text.specs.Numbers.{no_frac, frac, Sign, no_sign, minus_sign, plus_sign, Exp, no_exp, exp}
+use Rattle.json_text.specs.Numbers.{no_frac, frac, no_sign, minus_sign, plus_sign, Exp, no_exp, exp}
 use Rattle.json_text.specs.Lexer.{may_end}
 use Rattle.json_text.specs.declared.number.NumberMode.{NumberMode}
 use Rattle.json_text.specs.declared.number.NumberMode.TheVariants as N

@@ -1,5 +1,4 @@
 -- `answer_by` meets its contract, case by case. Assumes nothing.
-use borrow.Author.Rules.{rules}
 use Rattle.boundary.proofs.answer_by.Goals as goal
 
 pub answer_at-requires : goal.answer_at-requires

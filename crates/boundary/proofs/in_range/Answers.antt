@@ -1,7 +1,6 @@
 -- `in_range` meets its contract. Assumes nothing.
 use mir.Facts.{to_z-of_z}
 use Rattle.boundary.proofs.CallLaws.{range-test}
-use borrow.Author.Rules.{rules}
 use Rattle.boundary.proofs.in_range.Goals as goal
 
 pub returns : goal.returns

@@ -1,7 +1,6 @@
 -- `close_level` meets its contract: without a frame no rule fits, and the frame that is lent is that of the level. Assumes nothing.
 use Rattle.frame.proofs.CloseLaws.{closed-nil}
 use Rattle.frame.proofs.LevelLaws.{fits-of-place, none-of-place, frame_at-none, frame_at-of-lent}
-use borrow.Author.Rules.{rules}
 use native.Mathlib.Omega.{arith}
 use Rattle.frame.proofs.close_level.Goals as goal
 

@@ -1,7 +1,6 @@
 -- `key_level` meets its contract: without a frame nothing is written, and the frame that is lent comes back as the operation made it. Assumes nothing.
 use Rattle.frame.proofs.LevelLaws.{fits-of-place, none-of-place, put_frame-none, put_frame-of-lent}
 use Rattle.frame.specs.Ops.{keyed}
-use borrow.Author.Rules.{rules}
 use native.Mathlib.Omega.{arith}
 use Rattle.frame.proofs.key_level.Goals as goal
 

@@ -1,7 +1,6 @@
 -- `kind_at` meets its contract: the byte read is the first of the frame, and without a frame the kind is that of no bytes. Assumes nothing.
 use Rattle.frame.proofs.LevelLaws.{none-of-place, frame_at-none, kind_number-of-place}
 use Rattle.frame.specs.Frame.{is_object, kind_number}
-use borrow.Author.Rules.{rules}
 use borrow.Author.Tests.{eq-eqb, ne_eqb}
 use Rattle.frame.proofs.kind_at.Goals as goal
 

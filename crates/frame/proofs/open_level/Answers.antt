@@ -2,7 +2,6 @@
 use Rattle.frame.proofs.LevelLaws.{fits-of-place, none-of-place, put_frame-none, put_frame-of-lent}
 use Rattle.frame.specs.Ops.{opened}
 use Rattle.table.specs.Flat.{table_in}
-use borrow.Author.Rules.{rules}
 use native.Mathlib.Omega.{arith}
 use Rattle.frame.proofs.open_level.Goals as goal
 

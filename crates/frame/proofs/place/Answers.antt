@@ -2,7 +2,6 @@
 use Rattle.frame.specs.Frame.{frame_count, has_frame}
 use Rattle.frame.specs.Place.{frame_place}
 use Rattle.laws.proofs.Tests.{tests}
-use borrow.Author.Rules.{rules}
 use borrow.Author.Tests.{lt-ltb, le-leb, lt-leb}
 use native.Mathlib.Omega.{arith}
 use Rattle.frame.proofs.place.Goals as goal

@@ -4,7 +4,6 @@ use Rattle.frame.proofs.LevelLaws.{fits-of-place, none-of-place, put_frame-none,
 use Rattle.frame.specs.Edges.{edges_in}
 use Rattle.frame.specs.Ops.{valued}
 use Rattle.table.specs.Flat.{table_in}
-use borrow.Author.Rules.{rules}
 use native.Mathlib.Omega.{arith}
 use Rattle.frame.proofs.value_level.Goals as goal
 

@@ -1,6 +1,5 @@
 -- `judge` meets its contract: six parts are judged as fields, any other number of them is malformed. Assumes nothing.
 use Rattle.line.proofs.LineLaws.{line-none, line-six}
-use borrow.Author.Rules.{rules}
 use Rattle.line.proofs.judge.Goals as goal
 
 pub judge_six-requires : goal.judge_six-requires

@@ -1,6 +1,5 @@
 -- `bits_over` meets its contract. Assumes nothing.
 use Rattle.pass.specs.Pass.{bits_over}
-use borrow.Author.Rules.{rules}
 use Rattle.pass.proofs.bits_over.Goals as goal
 
 pub returns-then-some : goal.returns-then-some

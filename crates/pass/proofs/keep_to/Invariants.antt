@@ -1,9 +1,6 @@
 -- `keep_to` meets its contract. The loop's invariant: the bytes before its place were kept. Assumes nothing.
 use Prim.Native.Nat.{◌+◌, ◌-◌, ◌≤◌}
-use borrow.Author.Rules.{rules}
 use Rattle.pass.specs.Pass.{with_bits, placed, KeptTo}
-use Rattle.pass.proofs.ByteLaws.{count_fits}
-use Rattle.pass.proofs.KeepLaws.{kept-start, kept_at, kept_on}
 use Rattle.pass.proofs.keep_to.Given as goal
 
 abbrev pub invariant-loop-i : goal.invariant-loop-i

@@ -1,7 +1,6 @@
 -- `keeps_chars` meets its contract. Assumes nothing.
-use mathlib.Core.Path.{◌≡◌, refl, sym, ◌∙◌}
+use mathlib.Core.Path.{sym, ◌∙◌}
 use Rattle.pass.specs.Pass.{keeps_chars}
-use borrow.Author.Rules.{rules}
 use Rattle.pass.proofs.keeps_chars.Goals as goal
 
 pub returns-then-awaits_char : goal.returns-then-awaits_char

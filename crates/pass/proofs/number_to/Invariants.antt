@@ -1,10 +1,7 @@
 -- `number_to` meets its contract. The loop's invariant: the bytes before its place were passed over. Assumes nothing.
 use Prim.Native.Nat.{◌-◌}
-use borrow.Author.Rules.{rules}
 use Rattle.json_text.specs.declared.lexer.Mode.TheVariants as M
 use Rattle.pass.specs.Pass.{registers, Stands}
-use Rattle.pass.proofs.ByteLaws.{count_fits}
-use Rattle.pass.proofs.PassLaws.{number-out, number-at-byte, number-goes}
 use Rattle.pass.proofs.number_to.Given as goal
 
 abbrev pub invariant-loop-top : goal.invariant-loop-top

@@ -1,5 +1,4 @@
 -- `part_of` meets its contract. Assumes nothing.
-use borrow.Author.Rules.{rules}
 use Rattle.pass.proofs.part_of.Goals as goal
 
 pub returns-in-Number : goal.returns-in-Number

@@ -1,9 +1,6 @@
 -- `pass_to` meets its contract. The loop's invariant: the bytes before its place were passed over. Assumes nothing.
 use Prim.Native.Nat.{◌-◌}
-use borrow.Author.Rules.{rules}
 use Rattle.pass.specs.Pass.{Stands}
-use Rattle.pass.proofs.ByteLaws.{count_fits}
-use Rattle.pass.proofs.PassLaws.{stands-first, stands-in, passed_on, out-stayed, out-at-byte}
 use Rattle.pass.proofs.pass_to.Given as goal
 
 abbrev pub invariant-loop-n : goal.invariant-loop-n

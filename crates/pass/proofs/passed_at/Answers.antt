@@ -1,5 +1,4 @@
 -- `passed_at` meets its contract. Assumes nothing.
-use borrow.Author.Rules.{rules}
 use Rattle.pass.proofs.passed_at.Goals as goal
 
 pub returns : goal.returns

@@ -1,7 +1,6 @@
 -- `passes` meets its contract. Assumes nothing.
-use borrow.Author.Tests.{lt-ltb, le-ltb, eq-eqb, ne_eqb}
+use borrow.Author.Tests.{eq-eqb, ne_eqb}
 use Rattle.pass.specs.Pass.{passes}
-use borrow.Author.Rules.{rules}
 use Rattle.pass.proofs.passes.Goals as goal
 
 pub returns-then-ends : goal.returns-then-ends

@@ -1,6 +1,5 @@
 -- `reads_on` meets its contract. Assumes nothing.
 use Rattle.pass.specs.Pass.{is_reading}
-use borrow.Author.Rules.{rules}
 use Rattle.pass.proofs.reads_on.Goals as goal
 
 pub returns-then-x : goal.returns-then-x

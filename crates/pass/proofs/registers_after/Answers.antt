@@ -1,5 +1,4 @@
 -- `registers_after` meets its contract. Assumes nothing.
-use borrow.Author.Rules.{rules}
 use Rattle.pass.specs.Pass.{registers_after}
 use Rattle.pass.proofs.registers_after.Goals as goal
 

@@ -1,5 +1,4 @@
 -- `registers_over` meets its contract. Assumes nothing.
-use borrow.Author.Rules.{rules}
 use Rattle.pass.specs.Pass.{registers_over}
 use Rattle.pass.proofs.registers_over.Goals as goal
 

@@ -1,7 +1,5 @@
 -- `pick` meets its contract: what is left of the slice gives what the whole gives. Assumes nothing.
-use Prim.Native.Nat.{◌-◌}
-use lib.ListN.{length}
-use Rattle.pick.proofs.ScanLaws.{Scanned, scan-start, scan-found, scan-more, scan-last, scan-none}
+use Rattle.pick.proofs.ScanLaws.{scan-start, scan-found, scan-more, scan-last, scan-none}
 use borrow.Author.Rules.{rules}
 use Rattle.pick.proofs.pick.Goals as goal
 

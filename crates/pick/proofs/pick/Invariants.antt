@@ -1,8 +1,7 @@
 -- `pick` meets its contract: what is left of the slice gives what the whole gives. Assumes nothing.
 use Prim.Native.Nat.{◌-◌}
 use lib.ListN.{length}
-use Rattle.pick.proofs.ScanLaws.{Scanned, scan-start, scan-found, scan-more, scan-last, scan-none}
-use borrow.Author.Rules.{rules}
+use Rattle.pick.proofs.ScanLaws.{Scanned}
 use Rattle.pick.proofs.pick.Given as goal
 
 abbrev pub invariant-loop-i : goal.invariant-loop-i

@@ -1,5 +1,4 @@
 -- `after_blanks` meets its contract: what follows the blanks starts where the run ends. Assumes nothing.
-use borrow.Author.Rules.{rules}
 use Rattle.points.specs.Points.{after_blanks}
 use Rattle.points.proofs.LineLaws.{part-from}
 use Rattle.points.proofs.after_blanks.Goals as goal

@@ -1,5 +1,4 @@
 -- `after_word` meets its contract: what follows the word starts where the run ends. Assumes nothing.
-use borrow.Author.Rules.{rules}
 use Rattle.points.specs.Points.{after_word}
 use Rattle.points.proofs.LineLaws.{part-from}
 use Rattle.points.proofs.after_word.Goals as goal

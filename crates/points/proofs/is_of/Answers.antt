@@ -1,5 +1,4 @@
 -- `is_of` meets its contract. Assumes nothing.
-use borrow.Author.Rules.{rules}
 use Rattle.points.specs.Points.{is_of}
 use Rattle.points.proofs.is_of.Goals as goal
 

@@ -1,6 +1,5 @@
 -- `point_from` meets its contract: a number, blanks, a number, blanks, and the end. Assumes nothing.
 use mathlib.Core.Path.{sym}
-use borrow.Author.Rules.{rules}
 use Rattle.points.proofs.LineLaws.{point_from-more, point_from-end}
 use Rattle.points.proofs.point_from.Goals as goal
 

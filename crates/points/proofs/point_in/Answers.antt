@@ -1,5 +1,4 @@
 -- `point_in` meets its contract. Assumes nothing.
-use borrow.Author.Rules.{rules}
 use Rattle.points.specs.Points.{point_of}
 use Rattle.points.proofs.point_in.Goals as goal
 

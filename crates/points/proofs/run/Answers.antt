@@ -1,10 +1,6 @@
 -- `run` meets its contract: what is left of the run ends where the whole ends. Assumes nothing.
-use mathlib.Core.Path.{◌≡◌}
-use Prim.Native.Nat.{◌+◌, ◌-◌, ◌≤◌}
 use native.Mathlib.Omega.{arith}
-use lib.ListN.{length, drop}
 use borrow.Author.Rules.{rules}
-use Rattle.points.specs.Points.{run}
 use Rattle.points.proofs.LineLaws.{run-stop, run_more, run_end}
 use Rattle.points.proofs.run.Goals as goal
 

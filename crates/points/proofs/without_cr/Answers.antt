@@ -2,7 +2,6 @@
 use mathlib.Core.Path.{sym}
 use native.Mathlib.Omega.{arith}
 use lib.ListN.{length-take}
-use borrow.Author.Rules.{rules}
 use Rattle.points.proofs.LineLaws.{without_cr-none, without_cr-other, without_cr-cr}
 use Rattle.points.proofs.without_cr.Goals as goal
 

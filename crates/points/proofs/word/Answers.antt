@@ -1,7 +1,6 @@
 -- `word` meets its contract: it ends where the run ends. Assumes nothing.
 use native.Mathlib.Omega.{arith}
 use lib.ListN.{length-take}
-use borrow.Author.Rules.{rules}
 use Rattle.points.specs.Points.{word}
 use Rattle.points.proofs.word.Goals as goal
 

@@ -1,7 +1,6 @@
 -- `advance` meets its contract. Assumes nothing.
 use borrow.Author.Tests.{eq-eqb, ne_eqb}
 use Rattle.progress.specs.Progress.{advanced}
-use borrow.Author.Rules.{rules}
 use Rattle.progress.proofs.advance.Goals as goal
 
 pub returns-then-b-eq30 : goal.returns-then-b-eq30

@@ -1,5 +1,4 @@
 -- `faulted` meets its contract. Assumes nothing.
-use borrow.Author.Rules.{rules}
 use Rattle.progress.proofs.faulted.Goals as goal
 
 pub returns : goal.returns

@@ -1,5 +1,4 @@
 -- `fresh` meets its contract. Assumes nothing.
-use borrow.Author.Rules.{rules}
 use Rattle.progress.proofs.fresh.Goals as goal
 
 pub returns : goal.returns

@@ -1,6 +1,5 @@
 -- `judge` meets its contract. Assumes nothing.
 use Rattle.progress.specs.Progress.{judged}
-use borrow.Author.Rules.{rules}
 use Rattle.progress.proofs.judge.Goals as goal
 
 pub returns-then-x : goal.returns-then-x

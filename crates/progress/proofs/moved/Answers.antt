@@ -1,5 +1,4 @@
 -- `moved` meets its contract. Assumes nothing.
-use borrow.Author.Rules.{rules}
 use Rattle.progress.proofs.moved.Goals as goal
 
 pub returns : goal.returns

@@ -1,7 +1,6 @@
 -- `sound` meets its contract. Assumes nothing.
 use borrow.Author.Tests.{le-ltb, lt-ltb}
 use Rattle.progress.specs.Progress.{sound}
-use borrow.Author.Rules.{rules}
 use Rattle.progress.proofs.sound.Goals as goal
 
 pub returns-then-x-lt16777216 : goal.returns-then-x-lt16777216

@@ -1,5 +1,4 @@
 -- `count_invalid` meets its contract. Assumes nothing.
-use borrow.Author.Rules.{rules}
 use Rattle.reader.proofs.count_invalid.Goals as goal
 
 pub returns : goal.returns

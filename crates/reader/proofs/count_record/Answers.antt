@@ -1,5 +1,4 @@
 -- `count_record` meets its contract. Assumes nothing.
-use borrow.Author.Rules.{rules}
 use Rattle.reader.proofs.count_record.Goals as goal
 
 pub returns-in-Valid : goal.returns-in-Valid

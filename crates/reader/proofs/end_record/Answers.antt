@@ -1,5 +1,4 @@
 -- `end_record` meets its contract. Assumes nothing.
-use borrow.Author.Rules.{rules}
 use Rattle.reader.proofs.end_record.Goals as goal
 
 pub returns : goal.returns

@@ -1,10 +1,6 @@
 -- `read_piece` meets its contract. The loop's invariant: what is left of the piece gives what the whole gives. The measure is what is left of its
 -- length. Assumes nothing.
-use Prim.Native.Nat.{◌-◌}
-use lib.ListN.{length}
-use Rattle.table.specs.Flat.{table_in}
-use Rattle.progress.specs.Memory.{mem}
-use Rattle.reader.proofs.RunLaws.{Left, left-start, left-on, piece-ended, piece-read}
+use Rattle.reader.proofs.RunLaws.{left-start, left-on, piece-ended, piece-read}
 use borrow.Author.Rules.{rules}
 use Rattle.reader.proofs.read_piece.Goals as goal
 

@@ -4,8 +4,7 @@ use Prim.Native.Nat.{◌-◌}
 use lib.ListN.{length}
 use Rattle.table.specs.Flat.{table_in}
 use Rattle.progress.specs.Memory.{mem}
-use Rattle.reader.proofs.RunLaws.{Left, left-start, left-on, piece-ended, piece-read}
-use borrow.Author.Rules.{rules}
+use Rattle.reader.proofs.RunLaws.{Left}
 use Rattle.reader.proofs.read_piece.Given as goal
 
 abbrev pub invariant-loop-i : goal.invariant-loop-i

@@ -1,7 +1,6 @@
 -- `answer_each` meets its contract. Assumes nothing.
-use Rattle.std.proofs.Common.{◌≡◌, ◌∙◌, ℕ, ◌≤◌, ◌<◌, length, arith, refl, sym, ap, rules}
-use Rattle.replot.specs.Exact.{end_of, answered_by, track_by}
-use Rattle.replot.proofs.PartlyLaws.{partly, partly_none, partly-next, length-partly}
+use Rattle.std.proofs.Common.{◌≡◌, ◌∙◌, ◌<◌, length, arith, sym}
+use Rattle.replot.proofs.PartlyLaws.{partly_none, partly-next}
 use Rattle.replot.proofs.TrackLaws.{end_of-le, partly-end_of}
 use Rattle.replot.proofs.answer_each.Goals as goal
 

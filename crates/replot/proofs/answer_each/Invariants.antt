@@ -1,6 +1,6 @@
 -- `answer_each` meets its contract: the entries below i have their answers. Assumes nothing.
 use Rattle.std.proofs.Common.{◌-◌, ◌≡◌, ◌≤◌, length}
-use Rattle.replot.specs.Exact.{end_of, answered_by}
+use Rattle.replot.specs.Exact.{answered_by}
 use Rattle.replot.proofs.PartlyLaws.{partly}
 use Rattle.replot.proofs.answer_each.Given as goal
 

@@ -1,5 +1,4 @@
 -- `answered` meets its contract: the nearest corner of an answer fits in its room. Assumes nothing.
-use borrow.Author.Rules.{rules}
 use Rattle.replot.specs.Exact.{answered_by}
 use Rattle.replot.proofs.NearestLaws.{nearest-fits}
 use Rattle.replot.proofs.answered.Goals as goal

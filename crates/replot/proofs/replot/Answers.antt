@@ -1,5 +1,4 @@
 -- `replot` meets its contract. Assumes nothing.
-use Rattle.std.proofs.Common.{rules}
 use Rattle.replot.proofs.TrackLaws.{replot-of-read}
 use Rattle.replot.proofs.replot.Goals as goal
 

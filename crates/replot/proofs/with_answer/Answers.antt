@@ -1,5 +1,4 @@
 -- `with_answer` meets its contract. Assumes nothing.
-use borrow.Author.Rules.{rules}
 use Rattle.replot.proofs.NearestLaws.{with-answer-is}
 use Rattle.replot.proofs.with_answer.Goals as goal
 

@@ -1,9 +1,6 @@
 -- `report` meets its contract: the feeds still to come give what all give. Assumes nothing.
-use mathlib.Core.Path.{◌≡◌, refl}
-use Prim.Native.Nat.{◌-◌, ◌/◌}
-use lib.ListN.{length}
-use Rattle.table.specs.Flat.{table_in}
-use Rattle.report.proofs.ReportLaws.{Going, going_start, going-full, going-last, going-line}
+use mathlib.Core.Path.{refl}
+use Rattle.report.proofs.ReportLaws.{going_start, going-full, going-last, going-line}
 use borrow.Author.Rules.{rules}
 use Rattle.report.proofs.report.Goals as goal
 

@@ -1,10 +1,9 @@
 -- `report` meets its contract: the feeds still to come give what all give. Assumes nothing.
-use mathlib.Core.Path.{◌≡◌, refl}
+use mathlib.Core.Path.{◌≡◌}
 use Prim.Native.Nat.{◌-◌, ◌/◌}
 use lib.ListN.{length}
 use Rattle.table.specs.Flat.{table_in}
-use Rattle.report.proofs.ReportLaws.{Going, going_start, going-full, going-last, going-line}
-use borrow.Author.Rules.{rules}
+use Rattle.report.proofs.ReportLaws.{Going}
 use Rattle.report.proofs.report.Given as goal
 
 abbrev pub invariant-loop-i : goal.invariant-loop-i

@@ -1,5 +1,4 @@
 -- `write_answer` meets its contract, answer by answer. Assumes nothing.
-use borrow.Author.Rules.{rules}
 use Rattle.report.proofs.write_answer.Goals as goal
 
 pub returns-in-Quiet : goal.returns-in-Quiet

@@ -1,9 +1,5 @@
 -- `all_between` meets its contract: what is left passes as the whole. Assumes nothing.
-use mathlib.Core.Path.{◌≡◌, refl}
-use Prim.Native.Nat.{◌-◌}
-use lib.ListN.{length, drop}
-use Rattle.laws.specs.Lists.{all}
-use Rattle.book.specs.Text.{between}
+use mathlib.Core.Path.{refl}
 use Rattle.scan.proofs.ScanLaws.{all-stop, all_more, all_end}
 use borrow.Author.Rules.{rules}
 use Rattle.scan.proofs.all_between.Goals as goal

@@ -1,11 +1,9 @@
 -- `all_between` meets its contract: what is left passes as the whole. Assumes nothing.
-use mathlib.Core.Path.{◌≡◌, refl}
+use mathlib.Core.Path.{◌≡◌}
 use Prim.Native.Nat.{◌-◌}
 use lib.ListN.{length, drop}
 use Rattle.laws.specs.Lists.{all}
 use Rattle.book.specs.Text.{between}
-use Rattle.scan.proofs.ScanLaws.{all-stop, all_more, all_end}
-use borrow.Author.Rules.{rules}
 use Rattle.scan.proofs.all_between.Given as goal
 
 abbrev pub invariant-loop-i : goal.invariant-loop-i

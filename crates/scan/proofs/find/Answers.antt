@@ -1,8 +1,4 @@
 -- `find` meets its contract: from each place on the first c is where it is from the start on. Assumes nothing.
-use mathlib.Core.Path.{◌≡◌}
-use Prim.Native.Nat.{◌+◌, ◌-◌}
-use lib.ListN.{length, drop}
-use Rattle.scan.specs.Scan.{until}
 use Rattle.scan.proofs.ScanLaws.{until-hit, until-miss, until_end}
 use borrow.Author.Rules.{rules}
 use Rattle.scan.proofs.find.Goals as goal

@@ -3,8 +3,6 @@ use mathlib.Core.Path.{◌≡◌}
 use Prim.Native.Nat.{◌+◌, ◌-◌}
 use lib.ListN.{length, drop}
 use Rattle.scan.specs.Scan.{until}
-use Rattle.scan.proofs.ScanLaws.{until-hit, until-miss, until_end}
-use borrow.Author.Rules.{rules}
 use Rattle.scan.proofs.find.Given as goal
 
 abbrev pub invariant-loop-i : goal.invariant-loop-i

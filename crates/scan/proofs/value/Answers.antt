@@ -1,9 +1,6 @@
 -- `value` meets its contract: the digits that are left, after what the others mean, come to the whole number under the limit. Assumes nothing.
-use mathlib.Core.Path.{◌≡◌, refl}
-use Prim.Native.Nat.{◌-◌}
-use lib.ListN.{length, drop}
-use Rattle.book.specs.Text.{number_from, number}
-use Rattle.scan.specs.Scan.{capped}
+use mathlib.Core.Path.{refl}
+use Rattle.book.specs.Text.{number}
 use Rattle.scan.proofs.ScanLaws.{value-more, value-small, value-big}
 use borrow.Author.Rules.{rules}
 use Rattle.scan.proofs.value.Goals as goal

@@ -1,11 +1,9 @@
 -- `value` meets its contract: the digits that are left, after what the others mean, come to the whole number under the limit. Assumes nothing.
-use mathlib.Core.Path.{◌≡◌, refl}
+use mathlib.Core.Path.{◌≡◌}
 use Prim.Native.Nat.{◌-◌}
 use lib.ListN.{length, drop}
 use Rattle.book.specs.Text.{number_from, number}
 use Rattle.scan.specs.Scan.{capped}
-use Rattle.scan.proofs.ScanLaws.{value-more, value-small, value-big}
-use borrow.Author.Rules.{rules}
 use Rattle.scan.proofs.value.Given as goal
 
 abbrev pub invariant-loop-i : goal.invariant-loop-i

@@ -1,7 +1,6 @@
 -- `clear` meets its contract. Assumes nothing.
 use Rattle.store.proofs.PlaceLaws.{empty-in-place}
 use mathlib.Core.Path.{refl}
-use borrow.Author.Rules.{rules}
 use Rattle.store.proofs.clear.Goals as goal
 
 pub returns : goal.returns

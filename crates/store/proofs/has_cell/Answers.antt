@@ -1,9 +1,7 @@
 -- `has_cell` meets its contract: what is left holds a match as the whole. Assumes nothing.
-use mathlib.Core.Path.{◌≡◌, ap, ◌∙◌}
-use Prim.Native.Nat.{◌≤◌, ◌-◌}
-use Rattle.store.specs.Store.{some, same_at, has_cell}
+use mathlib.Core.Path.{ap, ◌∙◌}
+use Rattle.store.specs.Store.{some, has_cell}
 use Rattle.store.proofs.LoopLaws.{some-hit, some_more, some_end, some-start}
-use Rattle.table.specs.Flat.{table_in}
 use borrow.Author.Rules.{rules}
 use Rattle.store.proofs.has_cell.Goals as goal
 

@@ -1,10 +1,8 @@
 -- `has_cell` meets its contract: what is left holds a match as the whole. Assumes nothing.
-use mathlib.Core.Path.{◌≡◌, ap, ◌∙◌}
+use mathlib.Core.Path.{◌≡◌}
 use Prim.Native.Nat.{◌≤◌, ◌-◌}
 use Rattle.store.specs.Store.{some, same_at, has_cell}
-use Rattle.store.proofs.LoopLaws.{some-hit, some_more, some_end, some-start}
 use Rattle.table.specs.Flat.{table_in}
-use borrow.Author.Rules.{rules}
 use Rattle.store.proofs.has_cell.Given as goal
 
 abbrev pub invariant-loop-e : goal.invariant-loop-e

@@ -1,5 +1,5 @@
 -- `take_entry` meets its contract: an entry within the limits of its fields is what its parts take. Assumes nothing.
-use Rattle.store.proofs.StoreLaws.{take_entry-form, take_entry-edge, take_entry-end, proper-rule, proper-state, proper-len, proper-code}
+use Rattle.store.proofs.StoreLaws.{take_entry-form, take_entry-edge, take_entry-end, proper-rule, proper-state, proper-len}
 use borrow.Author.Rules.{rules}
 use Rattle.store.proofs.take_entry.Goals as goal
 
@@ -11,10 +11,6 @@ returns-then-form_changes c = search (rules, take_entry-form)
 
 pub take_end-requires : goal.take_end-requires
 take_end-requires c = (search (rules, proper-rule), search (rules, proper-state))
-
--- TODO no new goal for overflow-cast-t19
--- cast-t19 : tie.Need-overflow-cast-t19
--- cast-t19 c = search (rules, proper-code)
 
 pub take_edge-requires : goal.take_edge-requires
 take_edge-requires c = (search rules, search (rules, proper-rule), search (rules, proper-len))

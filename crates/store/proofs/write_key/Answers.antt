@@ -1,8 +1,4 @@
 -- `write_key` meets its contract: what is left to write gives the whole. Assumes nothing.
-use mathlib.Core.Path.{◌≡◌}
-use Prim.Native.Nat.{◌≤◌, ◌+◌, ◌-◌}
-use lib.ListN.{length, drop}
-use Rattle.store.specs.Store.{written}
 use Rattle.store.proofs.LoopLaws.{written-more, written-end, written_start}
 use borrow.Author.Rules.{rules}
 use Rattle.store.proofs.write_key.Goals as goal

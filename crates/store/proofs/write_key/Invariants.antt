@@ -3,8 +3,6 @@ use mathlib.Core.Path.{◌≡◌}
 use Prim.Native.Nat.{◌≤◌, ◌+◌, ◌-◌}
 use lib.ListN.{length, drop}
 use Rattle.store.specs.Store.{written}
-use Rattle.store.proofs.LoopLaws.{written-more, written-end, written_start}
-use borrow.Author.Rules.{rules}
 use Rattle.store.proofs.write_key.Given as goal
 
 abbrev pub invariant-loop-i : goal.invariant-loop-i

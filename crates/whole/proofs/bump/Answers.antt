@@ -1,6 +1,5 @@
 -- `bump` meets its contract. Assumes nothing.
 use Rattle.laws.proofs.Tests.{tests}
-use borrow.Author.Rules.{rules}
 use Rattle.laws.specs.Count.{bump}
 use Rattle.whole.proofs.bump.Goals as goal
 

@@ -1,5 +1,4 @@
 -- `counted` meets its contract. Assumes nothing.
-use borrow.Author.Rules.{rules}
 use Rattle.whole.proofs.counted.Goals as goal
 
 pub returns-in-Zero : goal.returns-in-Zero

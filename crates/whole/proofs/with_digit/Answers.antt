@@ -1,5 +1,4 @@
 -- `with_digit` meets its contract. Assumes nothing.
-use borrow.Author.Rules.{rules}
 use borrow.Author.Tests.{eq-eqb, ne_eqb}
 use Rattle.whole.specs.Count.{with_digit}
 use Rattle.whole.proofs.with_digit.Goals as goal

@@ -1,5 +1,4 @@
 -- `with_exponent` meets its contract. Assumes nothing.
-use borrow.Author.Rules.{rules}
 use Rattle.whole.proofs.with_exponent.Goals as goal
 
 pub returns : goal.returns

@@ -1,6 +1,5 @@
 -- `walk::behind_rs` meets its contract. Assumes nothing.
 use Rattle.boundary.proofs.EndLaws.{behind-of-feed}
-use borrow.Author.Rules.{rules}
 use Rattle.boundary.proofs.walk.behind_rs.Goals as goal
 
 pub returns : goal.returns

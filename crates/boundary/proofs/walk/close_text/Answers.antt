@@ -1,6 +1,5 @@
 -- `walk::close_text` meets its contract. Assumes nothing.
 use Rattle.boundary.proofs.EndLaws.{closed-text}
-use borrow.Author.Rules.{rules}
 use Rattle.boundary.proofs.walk.close_text.Goals as goal
 
 pub returns : goal.returns

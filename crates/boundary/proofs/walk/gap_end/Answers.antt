@@ -1,8 +1,5 @@
 -- `walk::gap_end` meets its contract: a stretch of bytes between numbers grows byte by byte. Assumes nothing.
-use Prim.Native.Nat.{◌-◌}
-use lib.ListN.{length}
-use Rattle.boundary.specs.Walk.{is_gap_byte}
-use Rattle.boundary.proofs.StretchLaws.{Stretching, stretch-start, stretch-on, stretch-stop, stretch-end}
+use Rattle.boundary.proofs.StretchLaws.{stretch-start, stretch-on, stretch-stop, stretch-end}
 use borrow.Author.Rules.{rules}
 use Rattle.boundary.proofs.walk.gap_end.Goals as goal
 

@@ -1,5 +1,4 @@
 -- `walk::is_gap_byte` meets its contract. Assumes nothing.
-use borrow.Author.Rules.{rules}
 use Rattle.boundary.specs.Walk.{is_gap_byte}
 use Rattle.boundary.proofs.walk.is_gap_byte.Goals as goal
 

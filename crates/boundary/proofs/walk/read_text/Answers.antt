@@ -2,7 +2,6 @@
 use mathlib.Core.Path.{sym, ap, ◌∙◌}
 use lib.ListN.{length}
 use Rattle.boundary.proofs.EndLaws.{walked_start, reads_on, reads-off}
-use borrow.Author.Rules.{rules}
 use Rattle.boundary.proofs.walk.read_text.Goals as goal
 
 pub walk_all-w-requires : goal.walk_all-w-requires

@@ -1,8 +1,5 @@
 -- `walk::run_end` meets its contract: a stretch of bytes of numbers grows byte by byte. Assumes nothing.
-use Prim.Native.Nat.{◌-◌}
-use lib.ListN.{length}
-use Rattle.corners.specs.Numbers.{is_number_byte}
-use Rattle.boundary.proofs.StretchLaws.{Stretching, stretch-start, stretch-on, stretch-stop, stretch-end}
+use Rattle.boundary.proofs.StretchLaws.{stretch-start, stretch-on, stretch-stop, stretch-end}
 use borrow.Author.Rules.{rules}
 use Rattle.boundary.proofs.walk.run_end.Goals as goal
 

@@ -2,8 +2,7 @@
 use Prim.Native.Nat.{◌-◌}
 use lib.ListN.{length}
 use Rattle.corners.specs.Numbers.{is_number_byte}
-use Rattle.boundary.proofs.StretchLaws.{Stretching, stretch-start, stretch-on, stretch-stop, stretch-end}
-use borrow.Author.Rules.{rules}
+use Rattle.boundary.proofs.StretchLaws.{Stretching}
 use Rattle.boundary.proofs.walk.run_end.Given as goal
 
 abbrev pub invariant-loop-i : goal.invariant-loop-i

@@ -1,5 +1,4 @@
 -- `walk::store` meets its contract. Assumes nothing.
-use borrow.Author.Rules.{rules}
 use borrow.Author.Tests.{lt-ltb, le-ltb}
 use mir.Facts.{to_z-of_z}
 use Rattle.boundary.proofs.walk.store.Goals as goal

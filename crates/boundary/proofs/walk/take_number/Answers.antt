@@ -1,6 +1,5 @@
 -- `walk::take_number` meets its contract. Assumes nothing.
 use Rattle.boundary.proofs.FilledLaws.{tells}
-use borrow.Author.Rules.{rules}
 use Rattle.boundary.proofs.walk.take_number.Goals as goal
 
 pub returns : goal.returns

@@ -1,5 +1,4 @@
 -- `walk::takes` meets its contract. Assumes nothing.
-use borrow.Author.Rules.{rules}
 use Rattle.boundary.specs.Walk.{takes}
 use Rattle.boundary.proofs.walk.takes.Goals as goal
 

@@ -1,13 +1,7 @@
 -- `walk::walk_all` meets its contract: the walk goes on from turn to turn. Assumes nothing.
-use mathlib.Core.Bool.{true}
-use mathlib.Core.Path.{◌≡◌, refl}
-use Prim.Native.Nat.{◌-◌}
-use lib.ListN.{length}
-use Rattle.table.specs.Flat.{table_in}
-use Rattle.boundary.specs.Walk.{Walked}
+use mathlib.Core.Path.{refl}
 use Rattle.boundary.proofs.EndLaws.{turn_on, turn-less, all-off, all-on}
 use borrow.Author.Rules.{rules}
-use native.Mathlib.Omega.{arith}
 use Rattle.boundary.proofs.walk.walk_all.Goals as goal
 
 pub loop-w-init : goal.loop-w-init

@@ -1,13 +1,10 @@
 -- `walk::walk_all` meets its contract: the walk goes on from turn to turn. Assumes nothing.
 use mathlib.Core.Bool.{true}
-use mathlib.Core.Path.{◌≡◌, refl}
+use mathlib.Core.Path.{◌≡◌}
 use Prim.Native.Nat.{◌-◌}
 use lib.ListN.{length}
 use Rattle.table.specs.Flat.{table_in}
 use Rattle.boundary.specs.Walk.{Walked}
-use Rattle.boundary.proofs.EndLaws.{turn_on, turn-less, all-off, all-on}
-use borrow.Author.Rules.{rules}
-use native.Mathlib.Omega.{arith}
 use Rattle.boundary.proofs.walk.walk_all.Given as goal
 
 abbrev pub invariant-loop-w : goal.invariant-loop-w

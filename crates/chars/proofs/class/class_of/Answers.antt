@@ -1,6 +1,5 @@
 -- `class::class_of` meets its contract: a class is the one with its number. Assumes nothing.
 use Rattle.chars.proofs.TableLaws.{class_for-class_number}
-use borrow.Author.Rules.{rules}
 use Rattle.chars.proofs.class.class_of.Goals as goal
 
 pub returns : goal.returns

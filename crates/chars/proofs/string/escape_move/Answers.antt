@@ -1,7 +1,6 @@
 -- `string::escape_move` meets its contract: its tests are the definition's, in the same order. Assumes nothing.
 use Rattle.json_text.specs.Lexer.{escape_move}
 use Rattle.laws.proofs.Tests.{tests}
-use borrow.Author.Rules.{rules}
 use Rattle.chars.proofs.string.escape_move.Goals as goal
 
 pub returns-then-b-eq117 : goal.returns-then-b-eq117

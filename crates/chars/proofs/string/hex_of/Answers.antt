@@ -1,7 +1,6 @@
 -- `string::hex_of` meets its contract: its tests are the definition's, in the same order. Assumes nothing.
 use Rattle.json_text.specs.Lexer.{hex_of}
 use Rattle.laws.proofs.Tests.{tests}
-use borrow.Author.Rules.{rules}
 use Rattle.chars.proofs.string.hex_of.Goals as goal
 
 pub returns-then-b-lt48 : goal.returns-then-b-lt48

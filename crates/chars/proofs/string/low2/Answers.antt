@@ -1,7 +1,6 @@
 -- `string::low2` meets its contract: its tests are the definition's, in the same order. Assumes nothing.
 use Rattle.json_text.specs.Lexer.{low2}
 use Rattle.laws.proofs.Tests.{tests}
-use borrow.Author.Rules.{rules}
 use Rattle.chars.proofs.string.low2.Goals as goal
 
 pub returns-then-h-lt12 : goal.returns-then-h-lt12

@@ -1,6 +1,5 @@
 -- `entry::put_answer` meets its contract, answer by answer. Assumes nothing.
 use Rattle.entries.proofs.AnswerLaws.{answer-quiet, answer-verdict, answer-refusal}
-use borrow.Author.Rules.{rules}
 use Rattle.entries.proofs.entry.put_answer.Goals as goal
 
 pub returns-in-Quiet : goal.returns-in-Quiet

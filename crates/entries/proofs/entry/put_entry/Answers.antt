@@ -1,6 +1,6 @@
 -- `entry::put_entry` meets its contract: four bytes, then two numbers. Assumes nothing.
 use lib.ListN.{length-set}
-use Rattle.entries.proofs.EntryLaws.{room_mid, length_last, entry-put, entry-none}
+use Rattle.entries.proofs.EntryLaws.{room_mid, entry-put, entry-none}
 use borrow.Author.Rules.{rules}
 use Rattle.entries.proofs.entry.put_entry.Goals as goal
 
@@ -20,10 +20,6 @@ pub put_little-requires-then-i-out : goal.put_little-requires-then-i-out
 put_little-requires-then-i-out c =
     let a = c.args in
     room_mid a.out.now a.i a.word a.number _ _ _ _ c.put_little.ensures c.if-i-out.true
-
--- TODO no new goal for same-length
--- same_length : tie.Need-same-length
--- same_length c = search (rules, length_last)
 
 pub returns-then-i-out : goal.returns-then-i-out
 returns-then-i-out c = search (rules, entry-put)

@@ -1,10 +1,5 @@
 -- `entry::put_little` meets its contract: the bytes still to come give what all give. Assumes nothing.
-use mathlib.Core.Path.{◌≡◌, refl}
-use Prim.Native.Nat.{◌+◌, ◌-◌, ◌≤◌}
-use native.Mathlib.Omega.{arith}
-use lib.ListN.{length}
-use Rattle.text.proofs.PutLaws.{Rest}
-use Rattle.entries.specs.Entries.{little}
+use mathlib.Core.Path.{refl}
 use Rattle.entries.proofs.EntryLaws.{little-start, little-more, little-done}
 use borrow.Author.Rules.{rules}
 use Rattle.entries.proofs.entry.put_little.Goals as goal

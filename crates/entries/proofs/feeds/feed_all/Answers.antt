@@ -1,9 +1,6 @@
 -- `feeds::feed_all` meets its contract: what is unread gives what the whole gives. Assumes nothing.
-use mathlib.Core.Path.{◌≡◌, refl}
-use Prim.Native.Nat.{◌-◌, ◌<◌}
-use lib.ListN.{length}
-use Rattle.table.specs.Flat.{table_in}
-use Rattle.entries.proofs.FeedLaws.{Going, going_start, going_done, going-refused, going_more, less-unread, made-refused}
+use mathlib.Core.Path.{refl}
+use Rattle.entries.proofs.FeedLaws.{going_start, going_done, going-refused, going_more, less-unread, made-refused}
 use borrow.Author.Rules.{rules}
 use Rattle.entries.proofs.feeds.feed_all.Goals as goal
 

@@ -1,10 +1,9 @@
 -- `feeds::feed_all` meets its contract: what is unread gives what the whole gives. Assumes nothing.
-use mathlib.Core.Path.{◌≡◌, refl}
+use mathlib.Core.Path.{◌≡◌}
 use Prim.Native.Nat.{◌-◌, ◌<◌}
 use lib.ListN.{length}
 use Rattle.table.specs.Flat.{table_in}
-use Rattle.entries.proofs.FeedLaws.{Going, going_start, going_done, going-refused, going_more, less-unread, made-refused}
-use borrow.Author.Rules.{rules}
+use Rattle.entries.proofs.FeedLaws.{Going}
 use Rattle.entries.proofs.feeds.feed_all.Given as goal
 
 abbrev pub invariant-loop-f : goal.invariant-loop-f

@@ -1,6 +1,5 @@
 -- `feeds::feed_close` meets its contract: the feeds, then the close. Assumes nothing.
 use Rattle.entries.proofs.FeedLaws.{streamed-of}
-use borrow.Author.Rules.{rules}
 use Rattle.entries.proofs.feeds.feed_close.Goals as goal
 
 pub returns : goal.returns

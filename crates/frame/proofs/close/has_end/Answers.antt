@@ -1,7 +1,6 @@
 -- `close::has_end` meets its contract: the rule is its two bytes of states. Assumes nothing.
 use Prim.Native.Nat.{◌+◌, ◌*◌}
 use Rattle.frame.proofs.ReadLaws.{has_end-low, has_end-high}
-use borrow.Author.Rules.{rules}
 use native.Mathlib.Omega.{arith}
 use Rattle.frame.proofs.close.has_end.Goals as goal
 

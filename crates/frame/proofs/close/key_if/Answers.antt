@@ -1,5 +1,4 @@
 -- `close::key_if` meets its contract: each branch is an arm of the choice. Assumes nothing.
-use borrow.Author.Rules.{rules}
 use Rattle.frame.proofs.close.key_if.Goals as goal
 
 pub returns-then-on : goal.returns-then-on

@@ -1,15 +1,10 @@
 -- `close::key_states` meets its contract. The loop has set the states of the edges below e. Assumes nothing.
 use Prim.Native.Nat.{◌-◌, ◌≤◌}
-use Rattle.frame.specs.Edges.{edge_count}
-use Rattle.frame.specs.Ops.{key_states}
 use Rattle.frame.specs.InTable.{leads_to, walking_in}
-use Rattle.laws.proofs.BitLaws.{set_all-more}
 use Rattle.laws.specs.Bits.{set_all}
 use Rattle.table.specs.Flat.{table_in}
-use borrow.Author.Rules.{rules}
 use lib.ListN.{length, replicate}
 use mathlib.Core.Path.{◌≡◌}
-use native.Mathlib.Omega.{arith}
 use Rattle.frame.proofs.close.key_states.Given as goal
 
 abbrev pub invariant-loop-e : goal.invariant-loop-e

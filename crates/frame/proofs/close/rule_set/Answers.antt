@@ -1,11 +1,8 @@
 -- `close::rule_set` meets its contract. The loop has the set of the rules below r. Assumes nothing.
-use Prim.Native.Nat.{◌-◌, ◌%◌, ◌≤◌}
 use Rattle.frame.proofs.QuietLaws.{rule_set-quiet}
 use Rattle.frame.specs.Ops.{rule_set}
-use Rattle.frame.specs.InTable.{accepting_in}
 use Rattle.table.specs.Flat.{table_in}
 use borrow.Author.Rules.{rules}
-use mathlib.Core.Logic.{⊎_elim}
 use mathlib.Core.Path.{◌≡◌, sym, ◌∙◌}
 use native.Mathlib.Omega.{arith}
 use Rattle.frame.proofs.close.rule_set.Goals as goal
@@ -22,8 +19,9 @@ loop-r-preserved c =
       search rules,
       search rules,
       elim c.if-quiet.branch [
-        then-quiet w ↦ w.set-is ∙ l.invariant.2 ∙ sym (rule_set-quiet (table_in g.table.now).forms (table_in g.table.now).ends g.form g.states.now l.r (c.quiet.ensures w.if-quiet.true))
-      | else-quiet w ↦ w.set-is ∙ w.with_four-t.ensures ],
+        | then-quiet w ↦ w.set-is ∙ l.invariant.2 ∙ sym (rule_set-quiet (table_in g.table.now).forms (table_in g.table.now).ends g.form g.states.now l.r (c.quiet.ensures w.if-quiet.true))
+        | else-quiet w ↦ w.set-is ∙ w.with_four-t.ensures
+      ],
     )
 
 pub returns : goal.returns

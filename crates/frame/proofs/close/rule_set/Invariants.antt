@@ -1,13 +1,9 @@
 -- `close::rule_set` meets its contract. The loop has the set of the rules below r. Assumes nothing.
 use Prim.Native.Nat.{◌-◌, ◌%◌, ◌≤◌}
-use Rattle.frame.proofs.QuietLaws.{rule_set-quiet}
 use Rattle.frame.specs.Ops.{rule_set}
 use Rattle.frame.specs.InTable.{accepting_in}
 use Rattle.table.specs.Flat.{table_in}
-use borrow.Author.Rules.{rules}
-use mathlib.Core.Logic.{⊎_elim}
-use mathlib.Core.Path.{◌≡◌, sym, ◌∙◌}
-use native.Mathlib.Omega.{arith}
+use mathlib.Core.Path.{◌≡◌}
 use Rattle.frame.proofs.close.rule_set.Given as goal
 
 abbrev pub invariant-loop-r : goal.invariant-loop-r

@@ -1,9 +1,7 @@
 -- `close::walk` meets its contract. The loop has walked the keys of the bytes below i. Assumes nothing.
-use Prim.Native.Nat.{◌-◌, ◌*◌, ◌≤◌}
+use Prim.Native.Nat.{◌*◌}
 use Rattle.frame.proofs.WalkLaws.{walked-next-byte}
-use Rattle.frame.specs.Edges.{edges_in}
 use Rattle.frame.specs.Ops.{start_states, walked}
-use Rattle.table.specs.Flat.{table_in}
 use borrow.Author.Rules.{rules}
 use mathlib.Core.Path.{◌≡◌, ap, ◌∙◌}
 use native.Mathlib.Omega.{arith}

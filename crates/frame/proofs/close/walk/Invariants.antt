@@ -1,12 +1,9 @@
 -- `close::walk` meets its contract. The loop has walked the keys of the bytes below i. Assumes nothing.
 use Prim.Native.Nat.{◌-◌, ◌*◌, ◌≤◌}
-use Rattle.frame.proofs.WalkLaws.{walked-next-byte}
 use Rattle.frame.specs.Edges.{edges_in}
 use Rattle.frame.specs.Ops.{start_states, walked}
 use Rattle.table.specs.Flat.{table_in}
-use borrow.Author.Rules.{rules}
-use mathlib.Core.Path.{◌≡◌, ap, ◌∙◌}
-use native.Mathlib.Omega.{arith}
+use mathlib.Core.Path.{◌≡◌}
 use Rattle.frame.proofs.close.walk.Given as goal
 
 abbrev pub invariant-loop-i : goal.invariant-loop-i

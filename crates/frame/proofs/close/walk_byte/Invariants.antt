@@ -1,14 +1,9 @@
 -- `close::walk_byte` meets its contract. The loop has walked the keys of the byte below j. Assumes nothing.
 use Prim.Native.Nat.{◌-◌, ◌*◌, ◌≤◌}
-use Rattle.frame.proofs.WalkLaws.{walked-byte-zero}
 use Rattle.frame.specs.Edges.{edges_in}
-use Rattle.frame.specs.Frame.{seen_in}
 use Rattle.frame.specs.Ops.{walked}
 use Rattle.table.specs.Flat.{table_in}
-use borrow.Author.Rules.{rules}
 use mathlib.Core.Path.{◌≡◌}
-use native.Mathlib.Numerals.{add-one}
-use native.Mathlib.Omega.{arith}
 use Rattle.frame.proofs.close.walk_byte.Given as goal
 
 abbrev pub invariant-loop-j : goal.invariant-loop-j

@@ -1,9 +1,7 @@
 -- `close::with_four` meets its contract. The loop has the set of the rules below r. Assumes nothing.
-use Prim.Native.Nat.{◌+◌, ◌-◌, ◌≤◌}
+use Prim.Native.Nat.{◌+◌}
 use Rattle.frame.proofs.RuleLaws.{rule_set-lt}
 use Rattle.frame.specs.Ops.{rule_set}
-use Rattle.frame.specs.InTable.{accepting_in}
-use Rattle.table.specs.Flat.{table_in}
 use borrow.Author.Rules.{rules}
 use mathlib.Core.Path.{◌≡◌}
 use native.Mathlib.Numerals.{add-one}

@@ -1,12 +1,9 @@
 -- `edge::next_of` meets its contract. No edge before e is one of the key. Assumes nothing.
 use Prim.Native.Nat.{◌-◌, ◌≤◌}
 use Rattle.frame.proofs.SkipLaws.{NoneOf}
-use Rattle.frame.proofs.ReadLaws.{keys-more-read}
 use Rattle.table.specs.Flat.{table_in}
-use borrow.Author.Rules.{rules}
 use lib.Dec.{eqb}
 use lib.ListN.{get_or}
-use native.Mathlib.Omega.{arith}
 use Rattle.frame.proofs.edge.next_of.Given as goal
 
 abbrev pub invariant-loop-e : goal.invariant-loop-e

@@ -1,17 +1,11 @@
 -- `key::key_frame` meets its contract: a law for each of the three cases. Assumes nothing.
 use Rattle.frame.proofs.KeyLaws.{keyed-unknown, keyed-again, keyed-new}
-use borrow.Author.Rules.{rules}
-use lib.ListN.{length-set}
 use mathlib.Core.Path.{sym, ◌∙◌}
 use native.Mathlib.Omega.{arith}
 use Rattle.frame.proofs.key.key_frame.Goals as goal
 
 pub returns-then-get_bit : goal.returns-then-get_bit
 returns-then-get_bit c = keyed-again _ _ (omega arith) (sym c.get_bit.ensures ∙ c.if-get_bit.true)
-
--- TODO no new goal for same-length-2
--- same-length-2 : tie.Need-same-length-2
--- same-length-2 c = let a = c.before.before.before.before.before.before.before.before.before.args in omega (arith, length-set a.frame.now 1 a.key)
 
 pub returns-else-get_bit : goal.returns-else-get_bit
 returns-else-get_bit c =

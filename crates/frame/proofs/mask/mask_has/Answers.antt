@@ -1,7 +1,6 @@
 -- `mask::mask_has` meets its contract: below 64 it is the shifted bit. Assumes nothing.
 use Rattle.frame.specs.Mask.{mask_has}
 use Rattle.laws.proofs.Tests.{tests}
-use borrow.Author.Rules.{rules}
 use Rattle.frame.proofs.mask.mask_has.Goals as goal
 
 pub returns-then-code-lt64 : goal.returns-then-code-lt64

@@ -1,11 +1,6 @@
 -- `mask::skip` meets its contract. The mask has none of the kinds before i. Assumes nothing.
-use Prim.Native.Nat.{◌-◌, ◌≤◌}
-use Rattle.frame.proofs.SkipLaws.{NoneOf}
 use Rattle.frame.proofs.ReadLaws.{kinds-more-read}
-use Rattle.frame.specs.Mask.{mask_has}
-use Rattle.table.specs.Flat.{table_in}
 use borrow.Author.Rules.{rules}
-use lib.ListN.{get_or}
 use native.Mathlib.Omega.{arith}
 use Rattle.frame.proofs.mask.skip.Goals as goal
 

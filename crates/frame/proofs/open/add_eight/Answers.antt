@@ -1,15 +1,10 @@
 -- `open::add_eight` meets its contract. The loop has set the bits of the rules below r. Assumes nothing.
-use Prim.Native.Nat.{ℕ, ◌+◌, ◌-◌, ◌*◌, ◌≤◌}
+use Prim.Native.Nat.{◌+◌}
 use Rattle.frame.proofs.ReadLaws.{has_form-read}
 use Rattle.frame.proofs.QuietLaws.{first-state}
-use Rattle.frame.specs.Edges.{has_form}
 use Rattle.laws.proofs.BitLaws.{set_all-more}
-use Rattle.laws.specs.Bits.{set_all}
-use Rattle.table.specs.Flat.{table_in}
 use borrow.Author.Rules.{rules}
 use lib.Dec.{eqb}
-use lib.ListN.{length}
-use mathlib.Core.List.{List}
 use mathlib.Core.Path.{◌≡◌, refl}
 use native.Mathlib.Omega.{arith}
 use Rattle.frame.proofs.open.add_eight.Goals as goal

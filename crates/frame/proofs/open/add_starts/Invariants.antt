@@ -1,15 +1,10 @@
 -- `open::add_starts` meets its contract. The loop has set the bits of the rules below r. Assumes nothing.
-use Prim.Native.Nat.{◌+◌, ◌-◌, ◌*◌, ◌%◌, ◌≤◌}
-use Rattle.frame.proofs.QuietLaws.{set_all-quiet}
+use Prim.Native.Nat.{◌-◌, ◌*◌, ◌%◌, ◌≤◌}
 use Rattle.frame.specs.Edges.{has_form}
-use Rattle.laws.proofs.BitLaws.{length-set_all}
 use Rattle.laws.specs.Bits.{set_all}
 use Rattle.table.specs.Flat.{table_in}
-use borrow.Author.Rules.{rules}
 use lib.ListN.{length}
-use mathlib.Core.Logic.{⊎_elim}
-use mathlib.Core.Path.{◌≡◌, sym, ap, ◌∙◌}
-use native.Mathlib.Omega.{arith}
+use mathlib.Core.Path.{◌≡◌}
 use Rattle.frame.proofs.open.add_starts.Given as goal
 
 abbrev pub invariant-loop-r : goal.invariant-loop-r

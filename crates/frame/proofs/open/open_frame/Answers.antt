@@ -1,7 +1,6 @@
 -- `open::open_frame` meets its contract: the cleared frame with its first bytes and its start states. Assumes nothing.
 use Prim.Native.Nat.{ℕ}
 use Rattle.frame.specs.Ops.{start_states, opened}
-use borrow.Author.Rules.{rules}
 use lib.ListN.{replicate, length-set}
 use mathlib.Core.List.{List, ◌∷◌, ◌++◌, append-nil}
 use mathlib.Core.Path.{◌≡◌, ap, ◌∙◌}
@@ -16,10 +15,6 @@ returns-then-object c =
 
 pub slice_bounds-add_starts-end : goal.slice_bounds-add_starts-end
 slice_bounds-add_starts-end c = simp length-set (omega arith)
-
--- TODO no new goal for same-length-2
--- same-length-2 : tie.Need-same-length-2
--- same-length-2 c = let a = c.before.before.before.before.before.before.before in omega (arith, length-set a.clear.new.0 0 2)
 
 pub returns : goal.returns
 unfolding opened start_states

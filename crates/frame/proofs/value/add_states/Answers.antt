@@ -1,13 +1,10 @@
 -- `value::add_states` meets its contract. The loop has set the states of the edges below e. Assumes nothing.
-use Prim.Native.Nat.{◌-◌, ◌≤◌}
 use Rattle.frame.proofs.SkipLaws.{stepping-skipped}
-use Rattle.frame.specs.Edges.{edge_count, stepping}
-use Rattle.frame.specs.InTable.{leads_to, stepping_in}
+use Rattle.frame.specs.Edges.{edge_count}
 use Rattle.laws.proofs.BitLaws.{set_all-more}
 use Rattle.laws.specs.Bits.{set_all}
 use Rattle.table.specs.Flat.{table_in}
 use borrow.Author.Rules.{rules}
-use lib.ListN.{length}
 use mathlib.Core.Path.{◌≡◌, refl}
 use native.Mathlib.Omega.{arith}
 use Rattle.frame.proofs.value.add_states.Goals as goal

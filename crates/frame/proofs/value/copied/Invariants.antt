@@ -1,11 +1,8 @@
 -- `value::copied` meets its contract. The loop has copied the bytes below i. Assumes nothing.
 use Prim.Native.Nat.{◌-◌, ◌≤◌}
-use Rattle.frame.proofs.ListLaws.{copy_more, copy-all}
-use borrow.Author.Rules.{rules}
 use lib.ListN.{length, replicate}
-use lib.Seq.{paste, paste-zero}
-use mathlib.Core.Path.{◌≡◌, ◌∙◌}
-use native.Mathlib.Omega.{arith}
+use lib.Seq.{paste}
+use mathlib.Core.Path.{◌≡◌}
 use Rattle.frame.proofs.value.copied.Given as goal
 
 abbrev pub invariant-loop-i : goal.invariant-loop-i

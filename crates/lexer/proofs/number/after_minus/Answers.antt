@@ -2,7 +2,6 @@
 use Rattle.json_text.specs.Lexer.{after_minus}
 use Rattle.laws.proofs.Tests.{tests}
 use Rattle.lexer.proofs.ChoiceLaws.{choices}
-use borrow.Author.Rules.{rules}
 use Rattle.lexer.proofs.number.after_minus.Goals as goal
 
 pub returns-then-is_digit_1_9 : goal.returns-then-is_digit_1_9

@@ -1,6 +1,5 @@
 -- `number::number_move` meets its contract: each arm is the definition's case. Assumes nothing.
 use Rattle.json_text.specs.Lexer.{after_int, after_frac, after_exp, digit_only}
-use borrow.Author.Rules.{rules}
 use Rattle.lexer.proofs.number.number_move.Goals as goal
 
 pub returns-in-Minus : goal.returns-in-Minus

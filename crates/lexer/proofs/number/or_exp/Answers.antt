@@ -2,7 +2,6 @@
 use Rattle.json_text.specs.Lexer.{or_exp}
 use Rattle.laws.proofs.Tests.{tests}
 use Rattle.lexer.proofs.ChoiceLaws.{choices}
-use borrow.Author.Rules.{rules}
 use Rattle.lexer.proofs.number.or_exp.Goals as goal
 
 pub returns-then-is_e : goal.returns-then-is_e

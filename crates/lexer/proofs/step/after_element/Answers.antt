@@ -2,7 +2,6 @@
 use Rattle.json_text.specs.Lexer.{after_element}
 use Rattle.laws.proofs.Tests.{tests}
 use Rattle.lexer.proofs.ChoiceLaws.{choices}
-use borrow.Author.Rules.{rules}
 use Rattle.lexer.proofs.step.after_element.Goals as goal
 
 pub returns-then-is_blank : goal.returns-then-is_blank

@@ -1,5 +1,4 @@
 -- `step::at_first` meets its contract: each arm is the definition's case. Assumes nothing.
-use borrow.Author.Rules.{rules}
 use Rattle.lexer.proofs.step.at_first.Goals as goal
 
 pub returns-in-Bare : goal.returns-in-Bare

@@ -1,5 +1,4 @@
 -- `step::key_step` meets its contract: each arm is the definition's case. Assumes nothing.
-use borrow.Author.Rules.{rules}
 use Rattle.lexer.proofs.step.key_step.Goals as goal
 
 pub returns-in-Go : goal.returns-in-Go

@@ -1,5 +1,4 @@
 -- `step::number_step` meets its contract: each arm is the definition's case. Assumes nothing.
-use borrow.Author.Rules.{rules}
 use Rattle.lexer.proofs.step.number_step.Goals as goal
 
 pub returns-in-Fault : goal.returns-in-Fault

@@ -1,5 +1,4 @@
 -- `step::place_step` meets its contract: each arm is the definition's case. Assumes nothing.
-use borrow.Author.Rules.{rules}
 use Rattle.lexer.proofs.step.place_step.Goals as goal
 
 pub returns-in-Value : goal.returns-in-Value

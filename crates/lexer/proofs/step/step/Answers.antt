@@ -1,5 +1,4 @@
 -- `step::step` meets its contract: each arm is the definition's case. Assumes nothing.
-use borrow.Author.Rules.{rules}
 use Rattle.lexer.proofs.step.step.Goals as goal
 
 pub returns-in-At : goal.returns-in-At

@@ -1,7 +1,6 @@
 -- `step::value_start` meets its contract: its tests are the definition's, in the same order. Assumes nothing.
 use Rattle.json_text.specs.Lexer.{value_start}
 use Rattle.laws.proofs.Tests.{tests}
-use borrow.Author.Rules.{rules}
 use Rattle.lexer.proofs.step.value_start.Goals as goal
 
 pub returns-then-b-eq34 : goal.returns-then-b-eq34

@@ -1,6 +1,5 @@
 -- `step::word_step` meets its contract: each arm is the definition's case. Assumes nothing.
 use Rattle.lexer.proofs.WordLaws.{word-lt-of-go}
-use borrow.Author.Rules.{rules}
 use mathlib.Core.Path.{sym, ◌∙◌}
 use native.Mathlib.Omega.{arith}
 use Rattle.lexer.proofs.step.word_step.Goals as goal

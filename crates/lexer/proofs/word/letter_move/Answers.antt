@@ -1,7 +1,6 @@
 -- `word::letter_move` meets its contract: its tests are the definition's, in the same order. Assumes nothing.
 use Rattle.json_text.specs.Lexer.{letter_move}
 use Rattle.laws.proofs.Tests.{tests}
-use borrow.Author.Rules.{rules}
 use Rattle.lexer.proofs.word.letter_move.Goals as goal
 
 pub returns-then-at-s-2 : goal.returns-then-at-s-2

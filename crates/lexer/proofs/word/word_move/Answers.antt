@@ -1,6 +1,5 @@
 -- `word::word_move` meets its contract: each arm is the definition's case. Assumes nothing.
 use Rattle.json_text.specs.Grammar.{spelling}
-use borrow.Author.Rules.{rules}
 use Rattle.lexer.proofs.word.word_move.Goals as goal
 
 pub returns-in-Null : goal.returns-in-Null

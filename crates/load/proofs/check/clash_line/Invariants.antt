@@ -3,10 +3,7 @@ use mathlib.Core.Path.{◌≡◌}
 use Prim.Native.Nat.{◌≤◌, ◌-◌}
 use Rattle.store.specs.Store.{first_at}
 use Rattle.load.specs.Check.{late_at, line_at, clash_line}
-use Rattle.store.proofs.LoopLaws.{first_at-hit, first_at-more, first_at-end}
-use Rattle.load.proofs.CheckLaws.{clash_line-start}
 use Rattle.table.specs.Flat.{table_in}
-use borrow.Author.Rules.{rules}
 use Rattle.load.proofs.check.clash_line.Given as goal
 
 abbrev pub invariant-loop-b : goal.invariant-loop-b

@@ -1,11 +1,6 @@
 -- `check::dangling_line` meets its contract: what is left gives the line that all give. Assumes nothing.
-use mathlib.Core.Path.{◌≡◌}
-use Prim.Native.Nat.{◌≤◌, ◌-◌}
-use Rattle.store.specs.Store.{first_at}
-use Rattle.load.specs.Check.{dangles_at, line_at, dangling_line}
 use Rattle.store.proofs.LoopLaws.{first_at-hit, first_at-more, first_at-end}
 use Rattle.load.proofs.CheckLaws.{dangles_at-kind, dangling_line-start}
-use Rattle.table.specs.Flat.{table_in}
 use borrow.Author.Rules.{rules}
 use Rattle.load.proofs.check.dangling_line.Goals as goal
 

@@ -1,11 +1,6 @@
 -- `check::late_at` meets its contract: what is left holds a clash as the whole. Assumes nothing.
-use mathlib.Core.Path.{◌≡◌}
-use Prim.Native.Nat.{◌≤◌, ◌+◌, ◌-◌}
-use Rattle.store.specs.Store.{some}
-use Rattle.load.specs.Check.{clashes_at, late_at}
 use Rattle.store.proofs.LoopLaws.{some-hit, some_more, some_end}
 use Rattle.load.proofs.CheckLaws.{late_at-start}
-use Rattle.table.specs.Flat.{table_in}
 use borrow.Author.Rules.{rules}
 use Rattle.load.proofs.check.late_at.Goals as goal
 

@@ -3,10 +3,7 @@ use mathlib.Core.Path.{◌≡◌}
 use Prim.Native.Nat.{◌≤◌, ◌+◌, ◌-◌}
 use Rattle.store.specs.Store.{some}
 use Rattle.load.specs.Check.{clashes_at, late_at}
-use Rattle.store.proofs.LoopLaws.{some-hit, some_more, some_end}
-use Rattle.load.proofs.CheckLaws.{late_at-start}
 use Rattle.table.specs.Flat.{table_in}
-use borrow.Author.Rules.{rules}
 use Rattle.load.proofs.check.late_at.Given as goal
 
 abbrev pub invariant-loop-a : goal.invariant-loop-a

@@ -1,5 +1,4 @@
 -- `read::refusal` meets its contract. Assumes nothing.
-use borrow.Author.Rules.{rules}
 use Rattle.load.proofs.read.refusal.Goals as goal
 
 pub returns : goal.returns

@@ -1,14 +1,7 @@
 -- `read::take_lines` meets its contract: the lines that are left, into the table so far, give what all give. Each line has at least its LF, so that
 -- its number stays below its place. Assumes nothing.
-use mathlib.Core.Path.{◌≡◌}
-use Prim.Native.Nat.{◌≤◌, ◌+◌, ◌-◌}
-use lib.ListN.{length, drop}
-use Rattle.book.specs.Text.{split}
-use Rattle.load.specs.Ranges.{Ranges}
-use Rattle.load.specs.Step.{take_lines}
 use Rattle.load.proofs.ReadLaws.{lines_end, lines-open, lines-bad, lines_more}
 use Rattle.load.proofs.RangeLaws.{ranges-line, ranges-empty}
-use Rattle.table.specs.Flat.{table_in, empty_table}
 use borrow.Author.Rules.{rules}
 use Rattle.load.proofs.read.take_lines.Goals as goal
 

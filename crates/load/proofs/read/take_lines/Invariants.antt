@@ -6,10 +6,7 @@ use lib.ListN.{length, drop}
 use Rattle.book.specs.Text.{split}
 use Rattle.load.specs.Ranges.{Ranges}
 use Rattle.load.specs.Step.{take_lines}
-use Rattle.load.proofs.ReadLaws.{lines_end, lines-open, lines-bad, lines_more}
-use Rattle.load.proofs.RangeLaws.{ranges-line, ranges-empty}
 use Rattle.table.specs.Flat.{table_in, empty_table}
-use borrow.Author.Rules.{rules}
 use Rattle.load.proofs.read.take_lines.Given as goal
 
 abbrev pub invariant-loop-i : goal.invariant-loop-i

@@ -1,5 +1,4 @@
 -- `stay::awaits_char` meets its contract. Assumes nothing.
-use borrow.Author.Rules.{rules}
 use Rattle.pass.proofs.stay.awaits_char.Goals as goal
 
 pub returns-in-Char : goal.returns-in-Char

@@ -1,8 +1,5 @@
 -- `stay::digits_end` meets its contract. The loop's invariant: the bytes before its place leave the mode as it is. Assumes nothing.
-use Prim.Native.Nat.{◌-◌}
 use borrow.Author.Rules.{rules}
-use Rattle.json_text.specs.declared.lexer.Mode.TheVariants as M
-use Rattle.pass.specs.Pass.{StayedTo}
 use Rattle.pass.proofs.StayLaws.{stayed-none, stayed-digit}
 use Rattle.pass.proofs.stay.digits_end.Goals as goal
 

@@ -1,5 +1,4 @@
 -- `stay::plain_class` meets its contract. Assumes nothing.
-use borrow.Author.Rules.{rules}
 use Rattle.pass.proofs.stay.plain_class.Goals as goal
 
 pub returns-in-Control : goal.returns-in-Control

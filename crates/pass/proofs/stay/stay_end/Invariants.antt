@@ -1,8 +1,6 @@
 -- `stay::stay_end` meets its contract. The loop's invariant: the bytes before its place leave the mode as it is. Assumes nothing.
 use Prim.Native.Nat.{◌-◌}
-use borrow.Author.Rules.{rules}
 use Rattle.pass.specs.Pass.{StayedTo}
-use Rattle.pass.proofs.StayLaws.{stayed-none, stayed-more}
 use Rattle.pass.proofs.stay.stay_end.Given as goal
 
 abbrev pub invariant-loop-i : goal.invariant-loop-i

@@ -1,5 +1,4 @@
 -- `stay::stays` meets its contract. Assumes nothing.
-use borrow.Author.Rules.{rules}
 use Rattle.pass.proofs.stay.stays.Goals as goal
 
 pub returns-in-At : goal.returns-in-At

@@ -1,6 +1,5 @@
 -- `stay::stays_char` meets its contract. Assumes nothing.
-use mathlib.Core.Path.{◌≡◌, refl, sym, ◌∙◌}
-use borrow.Author.Rules.{rules}
+use mathlib.Core.Path.{sym, ◌∙◌}
 use Rattle.pass.proofs.stay.stays_char.Goals as goal
 
 pub returns-then-awaits_char : goal.returns-then-awaits_char

@@ -1,6 +1,5 @@
 -- `stay::stays_digit` meets its contract. Assumes nothing.
-use mathlib.Core.Path.{◌≡◌, refl, sym, ◌∙◌}
-use borrow.Author.Rules.{rules}
+use mathlib.Core.Path.{sym, ◌∙◌}
 use Rattle.pass.proofs.stay.stays_digit.Goals as goal
 
 pub returns-then-in_digits : goal.returns-then-in_digits

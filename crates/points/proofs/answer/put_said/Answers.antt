@@ -1,5 +1,4 @@
 -- `answer::put_said` meets its contract, word by word. Assumes nothing.
-use borrow.Author.Rules.{rules}
 use Rattle.points.specs.Answers.{said_line}
 use Rattle.points.proofs.answer.put_said.Goals as goal
 

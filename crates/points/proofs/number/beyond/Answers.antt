@@ -1,6 +1,5 @@
 -- `number::beyond` meets its contract: the bytes are digits beyond the range, or no number. Assumes nothing.
 use mathlib.Core.Path.{sym}
-use borrow.Author.Rules.{rules}
 use Rattle.points.proofs.NumberLaws.{number-of-none, number-minus, number_digits}
 use Rattle.points.proofs.number.beyond.Goals as goal
 

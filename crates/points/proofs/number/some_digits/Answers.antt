@@ -1,11 +1,6 @@
 -- `number::some_digits` meets its contract: what is left passes as the whole. Assumes nothing.
-use mathlib.Core.Path.{◌≡◌, sym}
-use Prim.Native.Nat.{◌-◌}
-use lib.ListN.{length, drop}
-use Rattle.laws.specs.Lists.{all}
-use Rattle.json_text.specs.Numbers.{is_digit}
+use mathlib.Core.Path.{sym}
 use borrow.Author.Rules.{rules}
-use Rattle.points.specs.Points.{has_some_digits}
 use Rattle.scan.proofs.ScanLaws.{all-stop, all_more, all_end}
 use Rattle.points.proofs.NumberLaws.{some_digits-none, some_digits-some}
 use Rattle.points.proofs.number.some_digits.Goals as goal

@@ -1,5 +1,4 @@
 -- `act::closing` meets its contract. Assumes nothing.
-use borrow.Author.Rules.{rules}
 use Rattle.progress.proofs.act.closing.Goals as goal
 
 pub returns-then-ends : goal.returns-then-ends

@@ -1,5 +1,4 @@
 -- `act::first_fault` meets its contract. Assumes nothing.
-use borrow.Author.Rules.{rules}
 use Rattle.progress.proofs.act.first_fault.Goals as goal
 
 pub returns-in-OpenArray : goal.returns-in-OpenArray

@@ -4,7 +4,6 @@ use Rattle.progress.specs.Act.{key_task}
 use mathlib.Core.Path.{◌≡◌}
 use Prim.Native.Nat.{◌%◌}
 use native.Mathlib.Omega.{arith}
-use borrow.Author.Rules.{rules}
 use Rattle.progress.proofs.act.key_task.Goals as goal
 
 pub returns-then-c-lt128 : goal.returns-then-c-lt128

@@ -1,5 +1,4 @@
 -- `act::len_after` meets its contract. Assumes nothing.
-use borrow.Author.Rules.{rules}
 use Rattle.progress.proofs.act.len_after.Goals as goal
 
 pub returns-in-KeyChar : goal.returns-in-KeyChar

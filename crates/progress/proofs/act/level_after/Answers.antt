@@ -1,5 +1,4 @@
 -- `act::level_after` meets its contract. Assumes nothing.
-use borrow.Author.Rules.{rules}
 use Rattle.progress.proofs.act.level_after.Goals as goal
 
 pub returns-in-OpenArray : goal.returns-in-OpenArray

@@ -1,5 +1,4 @@
 -- `act::number_task` meets its contract. Assumes nothing.
-use borrow.Author.Rules.{rules}
 use Rattle.progress.proofs.act.number_task.Goals as goal
 
 pub returns-then-ends : goal.returns-then-ends

@@ -1,7 +1,6 @@
 -- `act::open_level` meets its contract. Assumes nothing.
 use borrow.Author.Tests.{le-ltb, lt-ltb}
 use Rattle.progress.specs.Act.{open_level}
-use borrow.Author.Rules.{rules}
 use Rattle.progress.proofs.act.open_level.Goals as goal
 
 pub returns-then-level-frames : goal.returns-then-level-frames

@@ -1,5 +1,4 @@
 -- `act::task_of` meets its contract. Assumes nothing.
-use borrow.Author.Rules.{rules}
 use Rattle.progress.proofs.act.task_of.Goals as goal
 
 pub returns-in-Pass : goal.returns-in-Pass

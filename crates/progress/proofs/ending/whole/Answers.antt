@@ -1,7 +1,6 @@
 -- `ending::whole` meets its contract. Assumes nothing.
 use borrow.Author.Tests.{eq-eqb, ne_eqb}
 use Rattle.progress.specs.Progress.{whole}
-use borrow.Author.Rules.{rules}
 use Rattle.progress.proofs.ending.whole.Goals as goal
 
 pub returns-then-x-eq0 : goal.returns-then-x-eq0

@@ -1,5 +1,4 @@
 -- `ending::whole_at` meets its contract. Assumes nothing.
-use borrow.Author.Rules.{rules}
 use Rattle.progress.proofs.ending.whole_at.Goals as goal
 
 pub returns-then-root : goal.returns-then-root

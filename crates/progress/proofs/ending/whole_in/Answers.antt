@@ -1,5 +1,4 @@
 -- `ending::whole_in` meets its contract. Assumes nothing.
-use borrow.Author.Rules.{rules}
 use Rattle.progress.proofs.ending.whole_in.Goals as goal
 
 pub returns-in-At : goal.returns-in-At

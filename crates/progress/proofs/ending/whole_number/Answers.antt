@@ -1,7 +1,6 @@
 -- `ending::whole_number` meets its contract. Assumes nothing.
 use Rattle.progress.specs.Progress.{whole_number}
 use mathlib.Core.Path.{sym, ◌∙◌}
-use borrow.Author.Rules.{rules}
 use Rattle.progress.proofs.ending.whole_number.Goals as goal
 
 pub returns-then-may_end : goal.returns-then-may_end

@@ -1,7 +1,6 @@
 -- `key::key_len` meets its contract. Assumes nothing.
 use borrow.Author.Tests.{le-ltb, lt-ltb}
 use Rattle.progress.specs.Act.{kept_key_len}
-use borrow.Author.Rules.{rules}
 use Rattle.progress.proofs.key.key_len.Goals as goal
 
 pub returns-then-c-lt128 : goal.returns-then-c-lt128

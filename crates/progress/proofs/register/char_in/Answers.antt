@@ -1,5 +1,4 @@
 -- `register::char_in` meets its contract. Assumes nothing.
-use borrow.Author.Rules.{rules}
 use Rattle.progress.proofs.register.char_in.Goals as goal
 
 pub returns-in-Key : goal.returns-in-Key

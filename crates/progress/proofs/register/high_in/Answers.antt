@@ -1,5 +1,4 @@
 -- `register::high_in` meets its contract. Assumes nothing.
-use borrow.Author.Rules.{rules}
 use Rattle.progress.proofs.register.high_in.Goals as goal
 
 pub returns-in-Key : goal.returns-in-Key

@@ -1,5 +1,4 @@
 -- `register::number_before` meets its contract. Assumes nothing.
-use borrow.Author.Rules.{rules}
 use Rattle.progress.proofs.register.number_before.Goals as goal
 
 pub returns-in-Number : goal.returns-in-Number

@@ -1,5 +1,4 @@
 -- `register::number_to` meets its contract. Assumes nothing.
-use borrow.Author.Rules.{rules}
 use Rattle.progress.proofs.register.number_to.Goals as goal
 
 pub returns-in-Number : goal.returns-in-Number

@@ -1,6 +1,5 @@
 -- `bits::quiet` meets its contract: bytes whose bits together are 0 are 0 each. Assumes nothing.
 use Rattle.table.proofs.ByteLaws.{quiet-eight}
-use borrow.Author.Rules.{rules}
 use borrow.Author.Tests.{eqb-true}
 use Rattle.table.proofs.bits.quiet.Goals as goal
 

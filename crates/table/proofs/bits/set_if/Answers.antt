@@ -2,7 +2,6 @@
 use Prim.Native.Nat.{◌%◌}
 use Rattle.laws.proofs.BitLaws.{one_shl, set_bit-out}
 use Rattle.laws.specs.Bits.{set_bit}
-use borrow.Author.Rules.{rules}
 use mathlib.Core.Path.{sym}
 use native.Mathlib.Omega.{arith}
 use Rattle.table.proofs.bits.set_if.Goals as goal

@@ -1,12 +1,8 @@
 -- `bytes::clear` meets its contract. The loop has filled the bytes below i. Assumes nothing.
 use Prim.Native.Nat.{◌-◌, ◌≤◌}
-use Rattle.table.proofs.ByteLaws.{fill-all}
-use borrow.Author.Fill.{fill_more}
-use borrow.Author.Rules.{rules}
 use lib.ListN.{length, drop, replicate}
 use mathlib.Core.List.{◌++◌}
-use mathlib.Core.Path.{◌≡◌, ◌∙◌}
-use native.Mathlib.Omega.{arith}
+use mathlib.Core.Path.{◌≡◌}
 use Rattle.table.proofs.bytes.clear.Given as goal
 
 abbrev pub invariant-loop-i : goal.invariant-loop-i

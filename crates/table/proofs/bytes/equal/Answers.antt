@@ -1,8 +1,5 @@
 -- `bytes::equal` meets its contract: what is left compares as the whole. Assumes nothing.
-use mathlib.Core.Path.{◌≡◌, refl}
-use Prim.Native.Nat.{◌≤◌, ◌-◌}
-use lib.ListN.{length, drop}
-use Rattle.laws.specs.Lists.{same}
+use mathlib.Core.Path.{refl}
 use Rattle.table.proofs.ByteLaws.{same-differ, same-short, same_more, same_end}
 use borrow.Author.Rules.{rules}
 use Rattle.table.proofs.bytes.equal.Goals as goal

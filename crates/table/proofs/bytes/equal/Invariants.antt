@@ -1,10 +1,8 @@
 -- `bytes::equal` meets its contract: what is left compares as the whole. Assumes nothing.
-use mathlib.Core.Path.{◌≡◌, refl}
+use mathlib.Core.Path.{◌≡◌}
 use Prim.Native.Nat.{◌≤◌, ◌-◌}
 use lib.ListN.{length, drop}
 use Rattle.laws.specs.Lists.{same}
-use Rattle.table.proofs.ByteLaws.{same-differ, same-short, same_more, same_end}
-use borrow.Author.Rules.{rules}
 use Rattle.table.proofs.bytes.equal.Given as goal
 
 abbrev pub invariant-loop-i : goal.invariant-loop-i

@@ -1,9 +1,4 @@
 -- `keys::find` meets its contract: the key has its number among the keys that are left. Assumes nothing.
-use mathlib.Core.Path.{◌≡◌}
-use Prim.Native.Nat.{◌≤◌, ◌+◌, ◌-◌}
-use Rattle.laws.specs.Tab.{tab}
-use Rattle.table.specs.Flat.{table_in}
-use Rattle.table.specs.Keys.{key_at, table_keys, number_of}
 use Rattle.table.proofs.KeyLaws.{number-hit, number_more, number-end, number_start}
 use borrow.Author.Rules.{rules}
 use Rattle.table.proofs.keys.find.Goals as goal

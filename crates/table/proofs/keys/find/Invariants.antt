@@ -4,8 +4,6 @@ use Prim.Native.Nat.{◌≤◌, ◌+◌, ◌-◌}
 use Rattle.laws.specs.Tab.{tab}
 use Rattle.table.specs.Flat.{table_in}
 use Rattle.table.specs.Keys.{key_at, table_keys, number_of}
-use Rattle.table.proofs.KeyLaws.{number-hit, number_more, number-end, number_start}
-use borrow.Author.Rules.{rules}
 use Rattle.table.proofs.keys.find.Given as goal
 
 abbrev pub invariant-loop-i : goal.invariant-loop-i

@@ -1,6 +1,5 @@
 -- `kind::code` meets its contract: each arm is the definition's case. Assumes nothing.
 use Rattle.table.specs.Kind.{code_of}
-use borrow.Author.Rules.{rules}
 use Rattle.table.proofs.kind.code.Goals as goal
 
 pub returns-in-Plain : goal.returns-in-Plain

@@ -1,5 +1,4 @@
 -- `kind::fits` meets its contract: each arm is the definition's case. Assumes nothing.
-use borrow.Author.Rules.{rules}
 use Rattle.table.proofs.kind.fits.Goals as goal
 
 pub returns-in-Scalar : goal.returns-in-Scalar

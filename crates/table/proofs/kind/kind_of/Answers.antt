@@ -1,7 +1,6 @@
 -- `kind::kind_of` meets its contract: the tests of the code lead to the arm of the definition. Assumes nothing.
 use Rattle.laws.proofs.Tests.{tests}
 use Rattle.table.specs.Kind.{kind_of}
-use borrow.Author.Rules.{rules}
 use Rattle.table.proofs.kind.kind_of.Goals as goal
 
 pub returns-then-code-eq0 : goal.returns-then-code-eq0

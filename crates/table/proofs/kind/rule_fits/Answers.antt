@@ -1,7 +1,6 @@
 -- `kind::rule_fits` meets its contract: below 32 the shifted bit is the bit of the definition. Assumes nothing.
 use Rattle.laws.proofs.Tests.{tests}
 use Rattle.table.specs.Kind.{rule_fits}
-use borrow.Author.Rules.{rules}
 use Rattle.table.proofs.kind.rule_fits.Goals as goal
 
 pub returns-then-n-lt32 : goal.returns-then-n-lt32

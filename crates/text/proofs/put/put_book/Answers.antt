@@ -1,6 +1,5 @@
 -- `put::put_book` meets its contract: five parts one after the other. Assumes nothing.
 use Rattle.text.proofs.PutLaws.{book-put}
-use borrow.Author.Rules.{rules}
 use Rattle.text.proofs.put.put_book.Goals as goal
 
 pub returns : goal.returns

@@ -1,8 +1,6 @@
 -- `put::put_bytes` meets its contract: what is left to put gives what the whole gives. Assumes nothing.
-use mathlib.Core.Path.{◌≡◌, refl}
-use Prim.Native.Nat.{◌+◌, ◌-◌, ◌≤◌}
-use lib.ListN.{length, drop}
-use Rattle.text.proofs.PutLaws.{Rest, bytes-start, bytes-more, bytes-done}
+use mathlib.Core.Path.{refl}
+use Rattle.text.proofs.PutLaws.{bytes-start, bytes-more, bytes-done}
 use borrow.Author.Rules.{rules}
 use Rattle.text.proofs.put.put_bytes.Goals as goal
 

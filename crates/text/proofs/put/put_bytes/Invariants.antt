@@ -1,9 +1,8 @@
 -- `put::put_bytes` meets its contract: what is left to put gives what the whole gives. Assumes nothing.
-use mathlib.Core.Path.{◌≡◌, refl}
+use mathlib.Core.Path.{◌≡◌}
 use Prim.Native.Nat.{◌+◌, ◌-◌, ◌≤◌}
 use lib.ListN.{length, drop}
-use Rattle.text.proofs.PutLaws.{Rest, bytes-start, bytes-more, bytes-done}
-use borrow.Author.Rules.{rules}
+use Rattle.text.proofs.PutLaws.{Rest}
 use Rattle.text.proofs.put.put_bytes.Given as goal
 
 abbrev pub invariant-loop-i : goal.invariant-loop-i

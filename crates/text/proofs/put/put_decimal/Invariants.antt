@@ -1,10 +1,9 @@
 -- `put::put_decimal` meets its contract: the digits of the powers still to come give what all give. Assumes nothing.
-use mathlib.Core.Path.{◌≡◌, refl}
+use mathlib.Core.Path.{◌≡◌}
 use Prim.Native.Nat.{◌+◌, ◌-◌, ◌≤◌}
 use lib.ListN.{length, drop}
 use Rattle.text.specs.Text.{powers, digits, decimal}
-use Rattle.text.proofs.PutLaws.{Rest, digits-start, digits_more, digits_last, power-positive}
-use borrow.Author.Rules.{rules}
+use Rattle.text.proofs.PutLaws.{Rest}
 use Rattle.text.proofs.put.put_decimal.Given as goal
 
 abbrev pub invariant-loop-i : goal.invariant-loop-i

@@ -1,6 +1,5 @@
 -- `put::put_line` meets its contract: six parts one after the other. Assumes nothing.
 use Rattle.text.proofs.PutLaws.{line-put}
-use borrow.Author.Rules.{rules}
 use Rattle.text.proofs.put.put_line.Goals as goal
 
 pub returns : goal.returns

@@ -1,9 +1,7 @@
 -- `run::longer_by` meets its contract. The loop's invariant: the digits that are left make of the exponent what all made of the first. Assumes nothing.
 use mathlib.Core.Path.{◌≡◌}
 use Prim.Native.Nat.{◌-◌, ◌≤◌}
-use borrow.Author.Rules.{rules}
 use Rattle.whole.specs.Run.{longer_by}
-use Rattle.whole.proofs.RunLaws.{longer-more, longer-end}
 use Rattle.whole.proofs.run.longer_by.Given as goal
 
 abbrev pub invariant-loop-i : goal.invariant-loop-i

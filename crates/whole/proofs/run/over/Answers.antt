@@ -1,5 +1,4 @@
 -- `run::over` meets its contract. Assumes nothing.
-use borrow.Author.Rules.{rules}
 use Rattle.whole.proofs.RunLaws.{minus-counted, zero-counted, dot-counted, e-counted}
 use Rattle.whole.proofs.run.over.Goals as goal
 

@@ -1,5 +1,4 @@
 -- `run::with_places` meets its contract. Assumes nothing.
-use borrow.Author.Rules.{rules}
 use Rattle.whole.proofs.run.with_places.Goals as goal
 
 pub returns : goal.returns

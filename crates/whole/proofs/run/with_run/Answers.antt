@@ -1,5 +1,4 @@
 -- `run::with_run` meets its contract. Assumes nothing.
-use borrow.Author.Rules.{rules}
 use borrow.Author.Tests.{eq-eqb, ne_eqb}
 use Rattle.whole.specs.Run.{with_run}
 use Rattle.whole.proofs.run.with_run.Goals as goal

@@ -1,16 +1,10 @@
 -- `run::zeros_from` meets its contract. The loop's invariant: only zeros stand from its place on. Assumes nothing.
-use Prim.Native.Nat.{◌-◌}
 use borrow.Author.Rules.{rules}
-use Rattle.whole.specs.Run.{ZerosTo}
 use Rattle.whole.proofs.RunLaws.{zeros-none, zeros-more, zeros-stop, zeros-all}
 use Rattle.whole.proofs.run.zeros_from.Goals as goal
 
 pub loop-at-init : goal.loop-at-init
 loop-at-init c = search (rules, zeros-none)
-
--- TODO no new goal for overflow-sub-if1
--- sub-if1 : tie.Need-overflow-sub-if1 invariant-loop decreases-loop
--- sub-if1 c = search rules
 
 pub returns-else-s-at-eq48 : goal.returns-else-s-at-eq48
 returns-else-s-at-eq48 c = search (rules, zeros-stop)

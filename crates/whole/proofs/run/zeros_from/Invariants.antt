@@ -1,8 +1,6 @@
 -- `run::zeros_from` meets its contract. The loop's invariant: only zeros stand from its place on. Assumes nothing.
 use Prim.Native.Nat.{◌-◌}
-use borrow.Author.Rules.{rules}
 use Rattle.whole.specs.Run.{ZerosTo}
-use Rattle.whole.proofs.RunLaws.{zeros-none, zeros-more, zeros-stop, zeros-all}
 use Rattle.whole.proofs.run.zeros_from.Given as goal
 
 abbrev pub invariant-loop-at : goal.invariant-loop-at

@@ -105,16 +105,6 @@ fn write(rt: &impl Print, out: &[u8], used: usize) -> bool {
     rt.write_all(&out[..used]).is_ok()
 }
 
-// Writes the first bytes of a buffer to standard error, where they are text.
-fn write_error(rt: &impl Eprint, out: &[u8], used: usize) {
-    if out.len() < used {
-        return;
-    }
-    if let Ok(words) = str::from_utf8(&out[..used]) {
-        let _ = rt.eprint(words);
-    }
-}
-
 // Says on standard error that a file cannot be read, and why.
 fn fail(rt: &impl Eprint, path: &str, e: io::Error) {
     let _ = eprintln!(rt; "{path}: {e}");
@@ -150,11 +140,11 @@ fn one_more(n: usize) -> usize {
 }
 
 // Prints the output, and says that the line has no point.
-fn stop(rt: &(impl Print + Eprint), out: &mut [u8], s: State) -> State {
+fn stop(rt: &impl Print, err: &impl Print, out: &mut [u8], s: State) -> State {
     write(rt, out, s.used);
     let lines = one_more(s.lines);
     let n = points::answer::write_stop(out, 0, lines);
-    write_error(rt, out, n);
+    write(err, out, n);
     State {
         lines: lines,
         held: 0,
@@ -165,7 +155,8 @@ fn stop(rt: &(impl Print + Eprint), out: &mut [u8], s: State) -> State {
 
 // Answers the line.
 fn answer_line(
-    rt: &(impl Print + Eprint),
+    rt: &impl Print,
+    err: &impl Print,
     line: &[u8],
     corners: &[i32; 2048],
     n: usize,
@@ -185,13 +176,14 @@ fn answer_line(
                 going: true,
             }
         },
-        Line::Other => stop(rt, out, s),
+        Line::Other => stop(rt, err, out, s),
     }
 }
 
 // Answers the line under way.
 fn answer_held(
-    rt: &(impl Print + Eprint),
+    rt: &impl Print,
+    err: &impl Print,
     line: &[u8],
     corners: &[i32; 2048],
     n: usize,
@@ -202,14 +194,15 @@ fn answer_held(
 {
     let held = s.held;
     if line.len() < held {
-        return stop(rt, out, s);
+        return stop(rt, err, out, s);
     }
-    answer_line(rt, &line[..held], corners, n, out, s)
+    answer_line(rt, err, &line[..held], corners, n, out, s)
 }
 
 // Takes one byte: LF ends the line under way, and every other goes into it, where there is room.
 fn take(
-    rt: &(impl Print + Eprint),
+    rt: &impl Print,
+    err: &impl Print,
     b: u8,
     line: &mut [u8],
     corners: &[i32; 2048],
@@ -220,11 +213,11 @@ fn take(
     requires { Held corners.now n }
 {
     if b == 10 {
-        return answer_held(rt, line, corners, n, out, s);
+        return answer_held(rt, err, line, corners, n, out, s);
     }
     let held = s.held;
     if line.len() <= held {
-        return stop(rt, out, s);
+        return stop(rt, err, out, s);
     }
     line[held] = b;
     State {
@@ -237,7 +230,8 @@ fn take(
 
 // Takes the bytes of a piece.
 fn take_piece(
-    rt: &(impl Print + Eprint),
+    rt: &impl Print,
+    err: &impl Print,
     piece: &[u8],
     line: &mut [u8],
     corners: &[i32; 2048],
@@ -250,7 +244,7 @@ fn take_piece(
     let mut next = s;
     let mut i = 0;
     while i < piece.len() && next.going {
-        next = take(rt, piece[i], line, corners, n, out, next);
+        next = take(rt, err, piece[i], line, corners, n, out, next);
         i += 1;
     }
     next
@@ -258,7 +252,8 @@ fn take_piece(
 
 // The end of the input: the last line may lack its LF.
 fn take_end(
-    rt: &(impl Print + Eprint),
+    rt: &impl Print,
+    err: &impl Print,
     line: &[u8],
     corners: &[i32; 2048],
     n: usize,
@@ -275,7 +270,7 @@ fn take_end(
             going: false,
         };
     }
-    let t = answer_held(rt, line, corners, n, out, s);
+    let t = answer_held(rt, err, line, corners, n, out, s);
     State {
         lines: t.lines,
         held: t.held,
@@ -296,7 +291,8 @@ fn printed(rt: &impl Print, out: &[u8], s: State) -> State {
 
 // Reads what has arrived, and answers its lines.
 fn take_some(
-    rt: &(impl Print + Eprint),
+    rt: &impl Print,
+    err: &impl Print,
     input: &mut impl Read,
     space: &mut [u8],
     line: &mut [u8],
@@ -310,16 +306,17 @@ fn take_some(
     let got = read_some(input, space);
     let count = got.bytes;
     if count == 0 {
-        let t = take_end(rt, line, corners, n, out, s);
+        let t = take_end(rt, err, line, corners, n, out, s);
         return printed(rt, out, t);
     }
-    let t = take_piece(rt, &space[..count], line, corners, n, out, s);
+    let t = take_piece(rt, err, &space[..count], line, corners, n, out, s);
     printed(rt, out, t)
 }
 
 // A proved loop has to end, and nothing says that the input does: the loop counts its turns down from a number that no run uses up.
 fn take_all(
-    rt: &(impl Input + Print + Eprint),
+    rt: &(impl Input + Print),
+    err: &impl Print,
     space: &mut [u8],
     line: &mut [u8],
     corners: &[i32; 2048],
@@ -337,14 +334,15 @@ fn take_all(
     let mut input = rt.reader();
     let mut turns = u64::MAX;
     while turns > 0 && s.going {
-        s = take_some(rt, &mut input, space, line, corners, n, out, s);
+        s = take_some(rt, err, &mut input, space, line, corners, n, out, s);
         turns -= 1;
     }
 }
 
 // Prints the names of the columns, and answers the points of standard input.
 fn answer_points(
-    rt: &(impl Input + Print + Eprint),
+    rt: &(impl Input + Print),
+    err: &impl Print,
     corners: &[i32; 2048],
     n: usize,
     out: &mut [u8],
@@ -355,18 +353,24 @@ fn answer_points(
     write(rt, out, used);
     let mut space = [0u8; BLOCK];
     let mut line = [0u8; LINE_SPACE];
-    take_all(rt, &mut space, &mut line, corners, n, out);
+    take_all(rt, err, &mut space, &mut line, corners, n, out);
 }
 
 // Judges the first n bytes of the space, and answers the points or the refusal.
-fn answer_text(rt: &(impl Input + Print + Eprint), space: &[u8], n: usize, out: &mut [u8]) {
+fn answer_text(
+    rt: &(impl Input + Print),
+    err: &impl Print,
+    space: &[u8],
+    n: usize,
+    out: &mut [u8],
+) {
     let mut table = [0u8; 7920];
     let mut corners = [0i32; 2048];
     if space.len() < n {
         return;
     }
     match boundary::read(&space[..n], &mut table, &mut corners) {
-        Boundary::Corners(k) => answer_points(rt, &corners, k, out),
+        Boundary::Corners(k) => answer_points(rt, err, &corners, k, out),
         Boundary::Refused(r) => {
             let used = points::answer::write_said(out, 0, said(Answer::Refused(r)));
             write(rt, out, used);
@@ -377,11 +381,12 @@ fn answer_text(rt: &(impl Input + Print + Eprint), space: &[u8], n: usize, out: 
 // Reads text.json, and answers it.
 fn answer_file(
     rt: &(impl Files + Input + Print + Eprint),
+    err: &impl Print,
     text: &mut [u8; 4194305],
     out: &mut [u8],
 ) {
     match read_text(rt, text) {
-        Loaded::Bytes(n) => answer_text(rt, text, n, out),
+        Loaded::Bytes(n) => answer_text(rt, err, text, n, out),
         Loaded::TooLong => {
             let _ = eprintln!(rt; "the text has more than 4194304 bytes");
         },
@@ -392,5 +397,6 @@ fn answer_file(
 fn main(rt: HostRuntime) {
     let mut text = [0u8; 4194305];
     let mut out = [0u8; BLOCK];
-    answer_file(&rt, &mut text, &mut out);
+    let err = rt.stderr();
+    answer_file(&rt, &err, &mut text, &mut out);
 }

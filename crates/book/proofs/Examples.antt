@@ -78,7 +78,10 @@ cases =
 
 -- every case has its answer
 pub cases-answered : all (λ (c : Case). eqb (loads c.book).number c.number && eqb (loads c.book).line c.line) cases ≡ true
-unfolding same all any is_empty onto split between is_number number_from number is_form form_of is_key key_of behind_r is_plain is_kind kind_in small_kind formed small entry_of say_fields say_parts say_line rule_of form_in same_form same_entry changes_form is_edge edge_count has_too_many fault_of read_on read_lines read_book first_line has_rule dangles clashes first_clash check_book checked loads with_key keys_from keys_of number_of clash code_of
+unfolding same all any is_empty onto split between is_number number_from number is_form form_of is_key key_of behind_r is_plain is_kind kind_in
+    small_kind formed small entry_of say_fields say_parts say_line rule_of form_in same_form same_entry changes_form is_edge edge_count has_too_many
+    fault_of read_on read_lines read_book first_line has_rule dangles clashes first_clash check_book checked loads with_key keys_from keys_of
+    number_of clash code_of
 cases-answered = refl
 
 -- edges that differ in their next alone, and edges that differ in their key alone
@@ -109,5 +112,8 @@ entries_b =
 
 -- load gives the entries of book B for its bytes
 pub loads-book_b : loads book_b ≡ record { number = 0; line = 0; entries = entries_b }
-unfolding same all any is_empty onto split between is_number number_from number is_form form_of is_key key_of behind_r is_plain is_kind kind_in small_kind formed small entry_of say_fields say_parts say_line rule_of form_in same_form same_entry changes_form is_edge edge_count has_too_many fault_of read_on read_lines read_book first_line has_rule dangles clashes first_clash check_book checked loads with_key keys_from keys_of number_of clash code_of
+unfolding same all any is_empty onto split between is_number number_from number is_form form_of is_key key_of behind_r is_plain is_kind kind_in
+    small_kind formed small entry_of say_fields say_parts say_line rule_of form_in same_form same_entry changes_form is_edge edge_count has_too_many
+    fault_of read_on read_lines read_book first_line has_rule dangles clashes first_clash check_book checked loads with_key keys_from keys_of
+    number_of clash code_of
 loads-book_b = refl

@@ -38,7 +38,10 @@ agrees : Row → Bool
 agrees x = is_sound x.book && beq (judgement x) x.verdict
 
 agree-with-entries_b : T (all agrees (rows_with entries_b))
-unfolding agrees judgement is_sound is_keyed clash all any same with_key keys_from keys_of number_of within is_digit is_digit_1_9 is_e or_exp after_minus after_zero after_int after_frac digit_only begins with_digit enough is_whole of_scalar of_rules word_has_kind same_form is_of asks is_array_edge has_key any_edge leads ends_in start_of moved has_end after_element key_count number_in at_opening after_key fits_edge after_value use_key walk object_fits
+unfolding agrees judgement is_sound is_keyed clash all any same with_key keys_from keys_of number_of within is_digit is_digit_1_9 is_e or_exp
+    after_minus after_zero after_int after_frac digit_only begins with_digit enough is_whole of_scalar of_rules word_has_kind same_form is_of asks
+    is_array_edge has_key any_edge leads ends_in start_of moved has_end after_element key_count number_in at_opening after_key fits_edge after_value
+    use_key walk object_fits
 agree-with-entries_b = tt
 
 rows_agree : T (all agrees rows)

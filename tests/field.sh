@@ -268,7 +268,7 @@ call "$field" 'my field.json' /dev/null
 prints 'no points' 0 'answer corner'
 tidy 'after lines of points'
 
-# ---- as many points as a list of the program has, one less and one more: each has its own answer, and those before a line that is no point have theirs
+# ---- from one point to some more than a hundred: each has its own answer, and those before a line that is no point have theirs
 
 for count in 1 63 64 65 127 128 129; do
     awk -v count=$count 'BEGIN { for (i = 0; i < count; i++) print (i % 3 == 0 ? "5 5" : i % 3 == 1 ? "1000001 0" : "-1 10") }' >points.txt
@@ -279,7 +279,7 @@ for count in 1 63 64 65 127 128 129; do
     call "$field" 'my field.json' points.txt
     stops "a line that is no point behind $count points" $((count + 1)) 'answer corner' "$(cat -- "$work/some")"
 done
-tidy 'after lists of points'
+tidy 'after numbers of points'
 
 # ---- many points, against a paper, whole and in pieces
 

@@ -1,40 +1,12 @@
--- Byte strings that are compared or filled, and bytes that are 0 together. Assumes nothing.
-use mathlib.Core.Bool.{Bool, false}
-use mathlib.Core.List.{List, [], ◌∷◌, ◌++◌, append-nil}
-use mathlib.Core.Path.{◌≡◌, refl, sym, ap, ◌∙◌}
-use Prim.Native.Nat.{ℕ, ◌+◌, ◌<◌, ◌≤◌}
-use native.Mathlib.Nat.{add-zero, le_of_eq}
-use native.Mathlib.Numerals.{add-one}
+-- Bytes that are 0 together. Assumes nothing.
+use mathlib.Core.List.{List}
+use mathlib.Core.Path.{◌≡◌, ap, ◌∙◌}
+use Prim.Native.Nat.{ℕ, ◌+◌, ◌<◌}
+use native.Mathlib.Nat.{add-zero}
 use native.Mathlib.Omega.{arith}
 use lib.Bits.{bit_or, or_add_and, and_le_l, and_le_r}
-use lib.Dec.{eqb}
-use lib.ListN.{length, get_or, drop, drop_of_length-le, length-drop, replicate}
-use lib.Seq.{drop-cons}
+use lib.ListN.{get_or}
 use borrow.Author.Count.{below_none, below_more}
-use borrow.Author.Tests.{eq-eqb, ne_eqb}
-use Rattle.laws.specs.Lists.{same}
-
--- ---- same: from place i on the two compare as b
-module _ (s t : List ℕ) (i : ℕ) (b : Bool) (inv : same (drop i s) (drop i t) ≡ b) where
-  pub same-differ : i < length s → i < length t → (get_or s i 0 ≡ get_or t i 0 → ⊥) → false ≡ b
-  unfolding same
-  same-differ h k q = rw (drop-cons s i 0, drop-cons t i 0, ne_eqb (get_or s i 0) (get_or t i 0) q) at inv
-
-  pub same-short : i < length s → length t ≤ i → false ≡ b
-  unfolding same
-  same-short h k = rw (drop-cons s i 0, drop_of_length-le t k) at inv
-
-  pub same_more : i < length s → i < length t → get_or s i 0 ≡ get_or t i 0 → same (drop (i + 1) s) (drop (i + 1) t) ≡ b
-  unfolding same
-  same_more h k q = rw add-one (rw (drop-cons s i 0, drop-cons t i 0, eq-eqb (get_or s i 0) (get_or t i 0) q) at inv)
-
-  pub same_end : length s ≤ i → i ≤ length t → eqb i (length t) ≡ b
-  unfolding same
-  same_end h k = go (drop i t) refl (rw (drop_of_length-le s h) at inv)
-    where
-      go : (u : List ℕ) → drop i t ≡ u → same [] u ≡ b → eqb i (length t) ≡ b
-      go [] e f = eq-eqb i (length t) (omega (arith, length-drop i t, ap length e)) ∙ f
-      go (x ∷ u) e f = ne_eqb i (length t) (λ q. omega (arith, length-drop i t, ap length e)) ∙ f
 
 -- ---- eight bytes
 
@@ -71,9 +43,3 @@ module _ (s : List ℕ) (a : ℕ) where
     where
       P : ℕ → Type 0
       P k = get_or s (a + k) 0 ≡ 0
-
--- ---- filled
-
--- a list that is filled to its end
-pub fill-all : (v : ℕ) (d : List ℕ) (i : ℕ) → i ≡ length d → replicate i v ++ drop i d ≡ replicate (length d) v
-fill-all v d i e = rw (drop_of_length-le d (le_of_eq (sym e)), append-nil) (ap (λ (n : ℕ). replicate n v) e)

@@ -1,19 +1,24 @@
 -- The number of a key: its search, key by key, and what it is in a frame. Assumes nothing.
-use mathlib.Core.Bool.{Bool, true, false, cond}
+use mathlib.Core.Bool.{Bool, true, false, not, cond}
 use mathlib.Core.List.{List, [], ◌∷◌}
 use mathlib.Core.Path.{◌≡◌, refl, sym, ap, ◌∙◌}
-use Prim.Native.Nat.{ℕ, zero, suc, ◌+◌, ◌*◌, ◌-◌, ◌%◌, ◌<◌, ◌≤◌, min}
+use Prim.Native.Nat.{ℕ, zero, suc, ◌+◌, ◌*◌, ◌-◌, ◌<◌, ◌≤◌, min}
 use native.Mathlib.Numerals.{add-one}
 use native.Mathlib.Omega.{arith}
+use lib.Dec.{ltb}
 use lib.ListN.{length, get_or, take, drop}
 use lib.Seq.{drop-drop}
-use borrow.Author.Tests.{lt-ltb, le-ltb}
+use Rattle.std.proofs.Common.{nat_eq, Option, Some, None, position, unwrap_or}
+use Rattle.std.specs.Cmp.Lexicographic.{pointwise}
+use Rattle.std.specs.List.{position_or_len, range_with_len}
+use Rattle.std.proofs.lemmas.List.FromFn.{length-range_with_len}
+use borrow.Author.Tests.{lt-ltb, le-ltb, ltb-true}
 use Rattle.laws.specs.Lists.{same}
 use Rattle.laws.specs.Tab.{tab}
 use Rattle.laws.proofs.TabLaws.{length-tab}
 use Rattle.table.specs.Table.{Table}
 use Rattle.table.specs.Flat.{part, table_in}
-use Rattle.table.specs.Keys.{key_at, table_keys, number_of, or_unknown, key_found}
+use Rattle.table.specs.Keys.{key_at, table_keys, number_of, key_index, known_key, or_unknown, key_found}
 
 -- a key has a number up to how many keys there are
 pub number_of-le : (ks : List (List ℕ)) (k : List ℕ) → number_of ks k ≤ length ks
@@ -52,57 +57,66 @@ drop-take (suc b) (suc n) (x ∷ l) = let e : suc n - suc b ≡ n - b = omega ar
 part-part : (l : List ℕ) (a n b m : ℕ) → take (min m (n - b)) (drop (a + b) l) ≡ take m (drop b (take n (drop a l)))
 part-part l a n b m = take_min m (n - b) (drop (a + b) l) ∙ sym (rw (drop-take b n (drop a l), drop-drop b a l))
 
--- the bytes of key i, of which x are told and e is the end, compared with k
-pub key-compared : (l k : List ℕ) (i x e : ℕ) (r : Bool) → i < 128 → x ≡ get_or (table_in l).key_len i 0 → e ≡ min (3600 + 32 * i + x) 7696
-    → r ≡ same (take (e - (3600 + 32 * i)) (drop (3600 + 32 * i) l)) k → r ≡ same (key_at (table_in l).key_bytes (table_in l).key_len i) k
+-- the bytes of key i, of which x are told and e is the end
+pub key-in-place : (l : List ℕ) (t : Table) (i x e : ℕ) → table_in l ≡ t → i < 128 → x ≡ get_or t.key_len i 0 → e ≡ min (3600 + 32 * i + x) 7696
+    → take (e - (3600 + 32 * i)) (drop (3600 + 32 * i) l) ≡ key_at t.key_bytes t.key_len i
 unfolding table_in part
-key-compared l k i x e r h q w p =
+key-in-place l t i x e is h q w =
     let u : e - (3600 + 32 * i) ≡ min x (4096 - 32 * i) = omega arith in
-    p ∙ ap (λ (b : List ℕ). same b k) (rw u (part-part l 3600 4096 (32 * i) x) ∙ ap (λ (m : ℕ). take m (drop (32 * i) (take 4096 (drop 3600 l)))) q)
+    let k : x ≡ get_or (table_in l).key_len i 0 = q ∙ ap (λ (v : Table). get_or v.key_len i 0) (sym is) in
+    rw (← is) (rw u (part-part l 3600 4096 (32 * i) x) ∙ ap (λ (m : ℕ). take m (drop (32 * i) (take 4096 (drop 3600 l)))) k)
 
--- ---- the search: from i on the key is found at e
-tab-more : {A : Type 0} (f : ℕ → A) (i n : ℕ) → i < n → tab f i (n - i) ≡ f i ∷ tab f (i + 1) (n - (i + 1))
-tab-more f i n h = let e : n - i ≡ suc (n - (i + 1)) = omega arith in rw (e, add-one)
+-- ---- the search
 
-tab-end : {A : Type 0} (f : ℕ → A) (i n : ℕ) → n ≤ i → tab f i (n - i) ≡ []
-tab-end f i n h = let e : n - i ≡ 0 = omega arith in rw e
+-- the comparison of two byte strings by the library
+pub same-pointwise : (s t : List ℕ) → pointwise nat_eq s t ≡ same s t
+unfolding same
+same-pointwise [] [] = refl
+same-pointwise [] (b ∷ t) = refl
+same-pointwise (a ∷ s) [] = refl
+same-pointwise (a ∷ s) (b ∷ t) = rw (same-pointwise s t)
 
-module _ (t : Table) (k : List ℕ) (i n e : ℕ) (inv : i + number_of (tab (key_at t.key_bytes t.key_len) i (n - i)) k ≡ e) where
-  abbrev at : ℕ → List ℕ
-  at = key_at t.key_bytes t.key_len
+-- the place of the first of the strings f a, f (a + 1), .., n of them, that is the same as k
+number-place : (f : ℕ → List ℕ) (k : List ℕ) (a n : ℕ) → position_or_len (λ i. pointwise nat_eq (f i) k) (range_with_len a n) ≡ number_of (tab f a n) k
+unfolding number_of
+number-place f k a zero = refl
+number-place f k a (suc n) = rw (same-pointwise (f a) k, add-one, number-place f k (suc a) n) (go (same (f a) k))
+  where
+    go : (b : Bool) → cond (not b) (1 + number_of (tab f (suc a) n) k) 0 ≡ cond b 0 (suc (number_of (tab f (suc a) n) k))
+    go true = refl
+    go false = omega arith
 
-  pub number-hit : (r : Bool) → r ≡ same (key_at t.key_bytes t.key_len i) k → i < n → r ≡ true → i ≡ e
-  unfolding number_of
-  number-hit r q h p = let z = rw (tab-more at i n h, sym q ∙ p) at inv in omega (arith, z)
-
-  pub number_more : (r : Bool) → r ≡ same (key_at t.key_bytes t.key_len i) k → i < n → r ≡ false
-      → i + 1 + number_of (tab (key_at t.key_bytes t.key_len) (i + 1) (n - (i + 1))) k ≡ e
-  unfolding number_of
-  number_more r q h p = let z = rw (tab-more at i n h, sym q ∙ p) at inv in omega (arith, z)
-
-  pub number-end : i ≤ n → n ≤ i → n ≡ e
-  unfolding number_of
-  number-end l h = let z = rw (tab-end at i n h) at inv in omega (arith, z)
-
-pub number_start : (t : Table) (k : List ℕ) (n : ℕ) → n ≡ t.keys
-    → 0 + number_of (tab (key_at t.key_bytes t.key_len) 0 (n - 0)) k ≡ number_of (table_keys t) k
-unfolding table_keys
-number_start t k n e = let z : n - 0 ≡ t.keys = omega arith in rw z (omega arith)
+pub place-of-key : (t : Table) (k : List ℕ) (n : ℕ) (r : Option ℕ) → n ≡ t.keys
+    → r ≡ position (λ i. pointwise nat_eq (key_at t.key_bytes t.key_len i) k) (range_with_len 0 n) → r ≡ key_index t k
+unfolding key_index table_keys
+place-of-key t k n r e q = q ∙ rw (length-range_with_len 0 n, number-place (key_at t.key_bytes t.key_len) k 0 n, e)
 
 -- ---- the number in a frame
+
+-- a key with a number has one below how many keys there are
+pub key_index-lt : (t : Table) (k : List ℕ) (i : ℕ) → key_index t k ≡ Some i → i < t.keys
+unfolding key_index
+key_index-lt t k i = go (number_of (table_keys t) k) (ltb (number_of (table_keys t) k) t.keys) refl
+  where
+    go : (n : ℕ) (b : Bool) → ltb n t.keys ≡ b → cond b (Some n) None ≡ Some i → i < t.keys
+    go n true h e = let q : n ≡ i = cc in rw (← q) (ltb-true n t.keys h)
+    go n false h e = absurd (cc)
+
 module _ (t : Table) (key : List ℕ) (len : ℕ) where
-  pub found-long : 32 < len → 255 ≡ key_found t key len
-  unfolding key_found
-  found-long h = rw (lt-ltb 32 len h)
+  pub known-long : 32 < len → None ≡ known_key t key len
+  unfolding known_key
+  known-long h = rw (lt-ltb 32 len h)
 
-  -- n: the count of keys as it was read
-  module _ (n k : ℕ) (h : len ≤ 32) (e : n ≡ t.keys) (f : k ≡ number_of (table_keys t) (take len key)) where
-    pub found-known : t.keys ≤ 128 → k < n → k % 256 ≡ key_found t key len
-    unfolding key_found or_unknown
-    found-known m l =
-        let small : k % 256 ≡ k = omega arith in
-        rw small (simp (le-ltb 32 len h, sym f, lt-ltb k t.keys (omega arith)))
+  pub known-short : (o : Option ℕ) → len ≤ 32 → o ≡ key_index t (take len key) → o ≡ known_key t key len
+  unfolding known_key
+  known-short o h e = e ∙ rw (le-ltb 32 len h)
 
-    pub found-unknown : n ≤ k → 255 ≡ key_found t key len
-    unfolding key_found or_unknown
-    found-unknown l = simp (le-ltb 32 len h, sym f, le-ltb k t.keys (omega arith))
+  pub found-known : (o : Option ℕ) → o ≡ known_key t key len → unwrap_or o 255 ≡ key_found t key len
+  unfolding known_key key_found key_index or_unknown
+  found-known o e = rw e (go (ltb 32 len) (ltb (number_of (table_keys t) (take len key)) t.keys))
+    where
+      go : (a b : Bool) → unwrap_or (cond a None (cond b (Some (number_of (table_keys t) (take len key))) None)) 255
+          ≡ cond a 255 (cond b (number_of (table_keys t) (take len key)) 255)
+      go true b = refl
+      go false true = refl
+      go false false = refl

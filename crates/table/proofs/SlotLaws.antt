@@ -13,6 +13,7 @@ use lib.Seq.{take-set-le, take-set-lt, drop-set-lt, drop-set-add, ext_get_or, ge
 use borrow.Author.Tests.{eqb-true, eqb-false}
 use Rattle.table.specs.Flat.{part, paired, table_in, empty_table}
 use Rattle.table.proofs.FlatLaws.{get_d_part}
+use Rattle.table.specs.Inverse.{length_part}
 use Rattle.table.specs.Slots.{slot_size, slot_start, slots, table_with, put_at}
 
 -- the bytes between the counts and the first array
@@ -104,10 +105,6 @@ get_d-paired [] (h ∷ hs) i e = absurd (omega arith)
 get_d-paired (a ∷ ls) [] i e = absurd (omega arith)
 get_d-paired (a ∷ ls) (h ∷ hs) zero e = refl
 get_d-paired (a ∷ ls) (h ∷ hs) (suc i) e = get_d-paired ls hs i (omega arith)
-
-length_part : (l : List ℕ) (a n : ℕ) → a + n ≤ length l → length (part l a n) ≡ n
-unfolding part
-length_part l a n h = length-take n (drop a l) ∙ omega (arith, length-drop a l)
 
 -- a number of two bytes
 pub line_read : (l : List ℕ) (e a b : ℕ) → length l ≡ 7920 → e < 512 → a ≡ get_or l (2576 + e) 0 → b ≡ get_or l (3088 + e) 0

@@ -1,6 +1,6 @@
 -- The keys of a table and the number of a key: REQUIREMENT.md, section 3, keys are numbered by where they first stand, and section 5, 255 for an
 -- unknown one. Stated. Assumes nothing.
-use Rattle.std.specs.Prelude.{cond, List, [], ◌∷◌, ℕ, suc, ◌*◌, ltb, get_or, take, drop}
+use Rattle.std.specs.Prelude.{cond, Option, Some, None, List, [], ◌∷◌, ℕ, suc, ◌*◌, ltb, get_or, take, drop}
 use Rattle.laws.specs.Lists.{same}
 use Rattle.laws.specs.Tab.{tab}
 use Rattle.table.specs.Table.{Table}
@@ -25,3 +25,11 @@ or_unknown n keys = cond (ltb n keys) n 255
 -- the number of the key of which len characters are kept; a key of more than 32 characters is none of a book
 unfoldable pub key_found : Table → List ℕ → ℕ → ℕ
 key_found t key len = cond (ltb 32 len) 255 (or_unknown (number_of (table_keys t) (take len key)) t.keys)
+
+-- the number of a key in a table, where it is one of the table's keys
+unfoldable pub key_index : Table → List ℕ → Option ℕ
+key_index t key = cond (ltb (number_of (table_keys t) key) t.keys) (Some (number_of (table_keys t) key)) None
+
+-- the number of the key of which len characters are kept, where it is one of the table's keys
+unfoldable pub known_key : Table → List ℕ → ℕ → Option ℕ
+known_key t key len = cond (ltb 32 len) None (key_index t (take len key))

@@ -4,3 +4,6 @@ pub mod Limits
 pub mod Keys
 pub mod Flat
 pub mod Slots
+pub mod Bytes
+pub mod Cells
+pub mod Inverse

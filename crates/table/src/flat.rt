@@ -1,128 +1,254 @@
 // A table in the bytes that a caller lends: reads of its numbers. `specs/Flat.antt` says where they stand.
-ghost use Rattle.std.specs.Prelude.{◌≡◌, ◌+◌, ◌<◌, ◌≤◌, true, length, get_or};
-ghost use Rattle.table.specs.Flat.{table_in};
+ghost use Rattle.std.specs.Prelude.{◌≡◌, ℕ, ◌+◌, ◌*◌, ◌<◌, ◌≤◌, true, length, get_or};
+ghost use Rattle.laws.specs.Bits.{bit_at};
+ghost use Rattle.table.specs.Flat.{part, empty_table};
+ghost use Rattle.table.specs.Keys.{key_at};
+ghost use Rattle.table.specs.Cells.{cell_at, with_edge, written, with_key, with_end};
+
+use crate::bits;
+use std::cmp;
+use std::marker::Model;
 
 // The bytes of a table.
 pub const SIZE: usize = 7920;
 
 // Where each array begins. The counts of edges (two bytes) and keys stand at 0 to 2.
-pub const RULE: usize = 16;
+const RULE: usize = 16;
 
-pub const STATE: usize = 528;
+const STATE: usize = 528;
 
-pub const KEY: usize = 1040;
+const KEY: usize = 1040;
 
-pub const KIND: usize = 1552;
+const KIND: usize = 1552;
 
-pub const NEXT: usize = 2064;
+const NEXT: usize = 2064;
 
-pub const LINE_LOW: usize = 2576;
+const LINE_LOW: usize = 2576;
 
-pub const LINE_HIGH: usize = 3088;
+const LINE_HIGH: usize = 3088;
 
-pub const KEY_BYTES: usize = 3600;
+const KEY_BYTES: usize = 3600;
 
-pub const KEY_LEN: usize = 7696;
+const KEY_LEN: usize = 7696;
 
-pub const END: usize = 7824;
+const END: usize = 7824;
 
-pub const FORM: usize = 7888;
+const FORM: usize = 7888;
 
-// A byte as a number.
-pub fn wide(x: u8) -> usize
-    ensures { (result ≡ x) × (result < 256) }
-{
-    x as usize
+// A table: the numbers of a rule book. It has 7,920 bytes in C, and no more.
+#[repr(C)]
+#[derive(Clone, Copy)]
+pub struct Table {
+    bytes: [u8; SIZE],
 }
 
-// A slice of as many bytes as a table has.
-fn long(s: &[u8]) -> bool
-    requires { length s.now ≡ 7920 }
-    ensures { (result ≡ true) × (length s.now ≡ 7920) }
-{
-    true
+impl Model for Table {
+    ghost use Rattle.std.specs.Prelude.{List, ℕ};
+    ghost use Rattle.std.proofs.Common.{ap};
+    ghost use Rattle.table.specs.Table as specs_table;
+    ghost use Rattle.table.specs.Flat.{table_in};
+    ghost use Rattle.table.specs.Bytes.{TableBytes, bytes_of};
+    ghost use Rattle.table.specs.Inverse.{bytes_of-inside};
+
+    ghost Value = { specs_table.Table };
+
+    ghost view = { λ t. table_in t.bytes };
+
+    ghost invariant = { λ t. TableBytes t.bytes };
+
+    ghost inverse = { λ t. record { bytes = bytes_of t } };
+
+    ghost inverse_ok = { λ a h. ap (λ (l : List ℕ). record { bytes = l }) (bytes_of-inside a.bytes h) };
 }
 
-// Says that a table has its bytes: the prover knows it where the array is lent as a slice.
-pub fn sized(t: &[u8; SIZE]) -> bool
-    ensures { (result ≡ true) × (length t.now ≡ 7920) }
-{
-    long(t)
+// The numbers of an edge as a table stores them, but for its line. A kind is stored by its code.
+#[derive(Clone, Copy, PartialEq)]
+pub struct Cell {
+    pub rule: u8,
+    pub state: u8,
+    pub key: u8,
+    pub kind: u8,
+    pub next: u8,
 }
 
-pub fn edges(t: &[u8; SIZE]) -> usize
-    ensures { result ≡ (table_in t.now).edges }
+// Byte i of the N bytes from place AT on.
+fn byte_in<const AT: usize, const N: usize>(bytes: &[u8; SIZE], i: usize) -> u8
+    requires { (i < N) × (AT + N ≤ 7920) }
+    ensures { result ≡ get_or (part bytes.now AT N) i 0 }
 {
-    wide(t[0]) + 256 * wide(t[1])
+    bytes[AT + i]
 }
 
-pub fn keys(t: &[u8; SIZE]) -> usize
-    ensures { result ≡ (table_in t.now).keys }
-{
-    wide(t[2])
+impl Table {
+    // The empty table, which a refused book has: every byte is 0.
+    pub fn empty() -> Table
+        ensures { result ≡ empty_table }
+    {
+        Table { bytes: [0; SIZE] }
+    }
 }
 
-pub fn rule(t: &[u8; SIZE], e: usize) -> u8
-    requires { e < 512 }
-    ensures { result ≡ get_or (table_in t.now).edge_rule e 0 }
-{
-    t[RULE + e]
+#[tactic(auto, unfolding(crate::specs::Flat::table_in))]
+impl Table {
+    // The counts of edges and keys.
+    pub fn edges(&self) -> usize
+        ensures { result ≡ self.now.edges }
+    {
+        self.bytes[0] as usize + 256 * self.bytes[1] as usize
+    }
+
+    pub fn keys(&self) -> usize
+        ensures { result ≡ self.now.keys }
+    {
+        self.bytes[2] as usize
+    }
+
+    pub fn rule(&self, e: usize) -> u8
+        requires { e < 512 }
+        ensures { result ≡ get_or self.now.edge_rule e 0 }
+    {
+        byte_in::<RULE, 512>(&self.bytes, e)
+    }
+
+    pub fn state(&self, e: usize) -> u8
+        requires { e < 512 }
+        ensures { result ≡ get_or self.now.edge_state e 0 }
+    {
+        byte_in::<STATE, 512>(&self.bytes, e)
+    }
+
+    pub fn key(&self, e: usize) -> u8
+        requires { e < 512 }
+        ensures { result ≡ get_or self.now.edge_key e 0 }
+    {
+        byte_in::<KEY, 512>(&self.bytes, e)
+    }
+
+    pub fn kind(&self, e: usize) -> u8
+        requires { e < 512 }
+        ensures { result ≡ get_or self.now.edge_kind e 0 }
+    {
+        byte_in::<KIND, 512>(&self.bytes, e)
+    }
+
+    pub fn next(&self, e: usize) -> u8
+        requires { e < 512 }
+        ensures { result ≡ get_or self.now.edge_next e 0 }
+    {
+        byte_in::<NEXT, 512>(&self.bytes, e)
+    }
+
+    pub fn form(&self, r: usize) -> u8
+        requires { r < 32 }
+        ensures { result ≡ get_or self.now.forms r 0 }
+    {
+        byte_in::<FORM, 32>(&self.bytes, r)
+    }
+
+    pub fn end(&self, i: usize) -> u8
+        requires { i < 64 }
+        ensures { result ≡ get_or self.now.ends i 0 }
+    {
+        byte_in::<END, 64>(&self.bytes, i)
+    }
+
+    pub fn len(&self, k: usize) -> u8
+        requires { k < 128 }
+        ensures { result ≡ get_or self.now.key_len k 0 }
+    {
+        byte_in::<KEY_LEN, 128>(&self.bytes, k)
+    }
 }
 
-pub fn state(t: &[u8; SIZE], e: usize) -> u8
-    requires { e < 512 }
-    ensures { result ≡ get_or (table_in t.now).edge_state e 0 }
-{
-    t[STATE + e]
-}
+impl Table {
+    // The line of the book that an edge stands on.
+    pub fn line(&self, e: usize) -> usize
+        requires { e < 512 }
+        ensures { result ≡ get_or self.now.edge_line e 0 }
+    {
+        let low = byte_in::<LINE_LOW, 512>(&self.bytes, e) as usize;
+        let high = byte_in::<LINE_HIGH, 512>(&self.bytes, e) as usize;
+        low + 256 * high
+    }
 
-pub fn key(t: &[u8; SIZE], e: usize) -> u8
-    requires { e < 512 }
-    ensures { result ≡ get_or (table_in t.now).edge_key e 0 }
-{
-    t[KEY + e]
-}
+    // The numbers of an edge.
+    pub fn cell(&self, e: usize) -> Cell
+        requires { e < 512 }
+        ensures { result ≡ cell_at self.now e }
+    {
+        Cell {
+            rule: self.rule(e),
+            state: self.state(e),
+            key: self.key(e),
+            kind: self.kind(e),
+            next: self.next(e),
+        }
+    }
 
-pub fn kind(t: &[u8; SIZE], e: usize) -> u8
-    requires { e < 512 }
-    ensures { result ≡ get_or (table_in t.now).edge_kind e 0 }
-{
-    t[KIND + e]
-}
+    // Bit i of the end states: state q of rule r is one, at i = 16 r + q.
+    pub fn is_end(&self, i: usize) -> bool
+        requires { i < 512 }
+        ensures { result ≡ bit_at self.now.ends i }
+    {
+        bits::get_bit(&self.bytes, 8 * END + i)
+    }
 
-pub fn next(t: &[u8; SIZE], e: usize) -> u8
-    requires { e < 512 }
-    ensures { result ≡ get_or (table_in t.now).edge_next e 0 }
-{
-    t[NEXT + e]
-}
+    // The eight rules from r on have no form: one test for all of them, so that loops can pass over them.
+    pub fn no_forms(&self, r: usize) -> bool
+        requires { r + 8 ≤ 32 }
+        ensures { result ≡ true → (k : ℕ) → k < 8 → get_or self.now.forms (r + k) 0 ≡ 0 }
+    {
+        bits::quiet(&self.bytes, FORM + r)
+    }
 
-pub fn form(t: &[u8; SIZE], r: usize) -> u8
-    requires { r < 32 }
-    ensures { result ≡ get_or (table_in t.now).forms r 0 }
-{
-    t[FORM + r]
-}
+    // The bytes of a key, which end with those of all keys.
+    pub fn key_text(&self, k: usize) -> &[u8]
+        requires { k < 128 }
+        ensures { result.now ≡ key_at self.now.key_bytes self.now.key_len k }
+    {
+        let a = KEY_BYTES + 32 * k;
+        let e = cmp::min(a + self.len(k) as usize, KEY_LEN);
+        &self.bytes[a..e]
+    }
 
-pub fn end(t: &[u8; SIZE], i: usize) -> u8
-    requires { i < 64 }
-    ensures { result ≡ get_or (table_in t.now).ends i 0 }
-{
-    t[END + i]
-}
+    // One edge more.
+    pub fn with_edge(&mut self, form: u8, c: Cell, line: u16)
+        requires { (self.old.edges < 512) × (c.rule < 32) }
+        ensures { self.new ≡ with_edge self.old form c line }
+    {
+        let at = self.edges();
+        self.bytes[RULE + at] = c.rule;
+        self.bytes[STATE + at] = c.state;
+        self.bytes[KEY + at] = c.key;
+        self.bytes[KIND + at] = c.kind;
+        self.bytes[NEXT + at] = c.next;
+        self.bytes[LINE_LOW + at] = (line % 256) as u8;
+        self.bytes[LINE_HIGH + at] = (line / 256) as u8;
+        self.bytes[FORM + c.rule as usize] = form;
+        let n = at + 1;
+        self.bytes[0] = (n % 256) as u8;
+        self.bytes[1] = (n / 256) as u8;
+    }
 
-pub fn len(t: &[u8; SIZE], k: usize) -> u8
-    requires { k < 128 }
-    ensures { result ≡ get_or (table_in t.now).key_len k 0 }
-{
-    t[KEY_LEN + k]
-}
+    // One key more.
+    pub fn with_key(&mut self, key: &[u8])
+        requires { (self.old.keys < 128) × (length key.now ≤ 32) }
+        ensures { self.new ≡ with_key self.old key.now }
+    {
+        let at = self.keys();
+        let a = KEY_BYTES + 32 * at;
+        self.bytes[a..a + key.len()].copy_from_slice(key);
+        self.bytes[KEY_LEN + at] = key.len() as u8;
+        self.bytes[2] = (at + 1) as u8;
+    }
 
-// The line of the book that an edge stands on.
-pub fn line(t: &[u8; SIZE], e: usize) -> usize
-    requires { e < 512 }
-    ensures { result ≡ get_or (table_in t.now).edge_line e 0 }
-{
-    sized(t);
-    wide(t[LINE_LOW + e]) + 256 * wide(t[LINE_HIGH + e])
+    // One end state more.
+    pub fn with_end(&mut self, rule: u8, form: u8, state: u8)
+        requires { (rule < 32) × (state < 16) }
+        ensures { self.new ≡ with_end self.old rule form state }
+    {
+        let r = rule as usize;
+        bits::set_if(true, &mut self.bytes, 8 * END + (16 * r + state as usize));
+        self.bytes[FORM + r] = form;
+    }
 }

@@ -1,16 +1,13 @@
 // The limits of a table's numbers: docs/LIMITS.md.
 ghost use Rattle.std.specs.Prelude.{◌≡◌};
-ghost use Rattle.table.specs.Flat.{table_in};
 ghost use Rattle.table.specs.Limits.{within_limits};
 
-use crate::flat;
+use crate::flat::Table;
 
 // The counts of edges and keys are within their limits.
-pub fn fit_limits(t: &[u8; 7920]) -> bool
-    ensures { result ≡ within_limits (table_in t.now) }
+#[tactic(auto, unfolding(crate::specs::Limits::within_limits))]
+pub fn fit_limits(t: &Table) -> bool
+    ensures { result ≡ within_limits t.now }
 {
-    if flat::edges(t) <= 512 {
-        return flat::keys(t) <= 128;
-    }
-    false
+    t.edges() <= 512 && t.keys() <= 128
 }

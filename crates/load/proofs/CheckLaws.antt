@@ -2,7 +2,7 @@
 use mathlib.Core.Bool.{Bool, true, false, not}
 use mathlib.Core.List.{List}
 use mathlib.Core.Path.{◌≡◌, sym, ◌∙◌, ap}
-use Prim.Native.Nat.{ℕ, ◌+◌, ◌-◌, ◌<◌, ◌≤◌}
+use Prim.Native.Nat.{ℕ, ◌-◌, ◌<◌, ◌≤◌}
 use native.Mathlib.Decide.{dec_lt}
 use native.Mathlib.Omega.{arith}
 use lib.Dec.{eqb, ltb, leb}
@@ -14,7 +14,7 @@ use Rattle.table.specs.declared.kind.Scalar.{Scalar}
 use Rattle.table.specs.declared.kind.ValueKind.{ValueKind}
 use Rattle.table.specs.declared.kind.ValueKind.TheVariants.{Plain, Rule}
 use Rattle.load.specs.declared.BookAnswer.TheVariants.{NoRule, NoRoot, NotAscending}
-use Rattle.store.specs.Store.{some, first_at}
+use Rattle.store.specs.Store.{first_at}
 use Rattle.load.specs.Step.{Loaded, loaded, refusal}
 use Rattle.load.specs.Check.{dangles_kind, dangles_at, clash_codes, clash_at, clashes_at, late_at, line_at, dangling_line, clash_line, check_table}
 
@@ -74,10 +74,6 @@ module _ (t : Table) where
     pub clashes_at-other : (s : Bool) → r ≡ false → s ≡ clash_at t b a → s ≡ clashes_at t b a
     unfolding clashes_at
     clashes_at-other s e p = rw (sym q ∙ e) p
-
-  pub late_at-start : (b : ℕ) → some (clashes_at t b) 0 (b + 1 - 0) ≡ late_at t b
-  unfolding late_at
-  late_at-start b = let e : b + 1 - 0 ≡ b + 1 = omega arith in rw e
 
   -- n: the count of edges as it was read
   module _ (n : ℕ) (q : n ≡ t.edges) where

@@ -25,10 +25,11 @@ use Rattle.book.specs.Holds.{table_edges, key_number, edges_from, edges_of, form
 use Rattle.book.proofs.KeyLaws.{any_last, number_of-new, number_of-eqb, key_number-with_key, key-in-with_key, add_key-append, keys_of-last}
 use Rattle.book.proofs.HoldLaws.{Each, each_map, each_append, KeyAmong, KeyIn, key_in-append, edges_of-last, form_code-some, same_form-codes, form-of-code, rule_form-last, FormKept, changes_form-rule_form}
 use Rattle.book.proofs.TruthLaws.{true-not-false, or-false, or-true, eqb-sym}
-use Rattle.store.specs.declared.Cell.{Cell}
+use Rattle.table.specs.declared.flat.Cell.{Cell}
 use Rattle.store.specs.Proper.{is_arr, ProperEdge, Proper}
 use Rattle.load.specs.Ranges.{Ranges}
-use Rattle.store.specs.Store.{Taken, has_cell, with_end, with_edge, with_key, is_new, form_changes, taken, cell_for, take_edge, take_end, take_entry}
+use Rattle.table.specs.Cells.{with_end, with_edge, with_key}
+use Rattle.store.specs.Store.{Taken, has_cell, is_new, form_changes, taken, cell_for, take_edge, take_end, take_entry}
 use Rattle.load.proofs.RangeLaws.{ranges-empty, ranges-take_entry}
 use Rattle.load.proofs.TableLaws.{Sized, sized-empty, sized-with_end, sized-with_edge, sized-with_key, table_edges-with_edge, length-table_edges, same_cell, has_cell-table_edges, table_keys-with_key, table_keys-with_edge, table_edges-with_key, table_keys-with_end, table_edges-with_end}
 

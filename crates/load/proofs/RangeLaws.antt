@@ -18,10 +18,11 @@ use Rattle.table.proofs.SlotLaws.{empty_table-parts}
 use Rattle.book.specs.Entry.{Form, obj, arr, Entry, edge, end_state}
 use Rattle.book.specs.Line.{Said, bad, good, say_line}
 use Rattle.book.specs.Holds.{key_number, form_code}
-use Rattle.store.specs.declared.Cell.{Cell}
+use Rattle.table.specs.declared.flat.Cell.{Cell}
 use Rattle.store.specs.Proper.{Proper, ProperSaid}
 use Rattle.load.specs.Ranges.{Ranges}
-use Rattle.store.specs.Store.{Taken, has_cell, with_end, with_edge, with_key, is_new, form_changes, taken, cell_for, take_edge, take_end, take_entry}
+use Rattle.table.specs.Cells.{with_end, with_edge, with_key}
+use Rattle.store.specs.Store.{Taken, has_cell, is_new, form_changes, taken, cell_for, take_edge, take_end, take_entry}
 use Rattle.load.specs.Step.{take_said}
 use Rattle.load.proofs.ProperLaws.{say_line-proper}
 

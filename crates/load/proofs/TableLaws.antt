@@ -18,9 +18,10 @@ use Rattle.table.specs.Flat.{empty_table}
 use Rattle.table.specs.Keys.{key_at, table_keys}
 use Rattle.table.proofs.SlotLaws.{empty_table-parts, lines-zero}
 use Rattle.book.specs.Holds.{Edge, edge_at, table_edges}
-use Rattle.store.specs.declared.Cell.{Cell}
+use Rattle.table.specs.declared.flat.Cell.{Cell}
 use Rattle.load.specs.Ranges.{Ranges}
-use Rattle.store.specs.Store.{some, same_at, has_cell, with_end, with_edge, with_key, written}
+use Rattle.table.specs.Cells.{with_end, with_edge, with_key, written}
+use Rattle.store.specs.Store.{some, same_at, has_cell}
 
 -- ---- computed lists
 
@@ -47,9 +48,9 @@ tab-one-more f n = tab-add f f n (f n) (λ k l. refl) refl
 
 -- a test of the numbers below a bound is a test of what stands at them
 pub some-tab : {A : Type 0} (f : ℕ → Bool) (p : A → Bool) (h : ℕ → A) (i n : ℕ) → ((k : ℕ) → f k ≡ p (h k)) → some f i n ≡ any p (tab h i n)
-unfolding some any
+unfolding any
 some-tab f p h i zero e = refl
-some-tab f p h i (suc n) e = rw (e i, some-tab f p h (suc i) n e)
+some-tab f p h i (suc n) e = rw (e i, add-one, some-tab f p h (suc i) n e)
 
 -- ---- the arrays of a table have their lengths, and its bytes that mean nothing are 0
 pub record Sized (t : Table) : Type 0 where
@@ -172,7 +173,7 @@ unfoldable pub same_cell : Cell → Edge → Bool
 same_cell c x = eqb c.rule x.rule && (eqb c.state x.state && (eqb c.key x.key && (eqb c.kind x.kind && eqb c.next x.next)))
 
 pub has_cell-table_edges : (t : Table) (c : Cell) → has_cell t c ≡ any (same_cell c) (table_edges t)
-unfolding has_cell same_at table_edges same_cell
+unfolding has_cell table_edges same_cell
 has_cell-table_edges t c =
     some-tab (same_at t c) (same_cell c) (edge_at t) 0 t.edges (λ k. refl)
 

@@ -3,6 +3,7 @@
 use Rattle.std.specs.Prelude.{cond, List, ◌≡◌, ℕ, ◌<◌, ◌≤◌, eqb, get_or}
 use Rattle.table.specs.Table.{Table}
 use Rattle.table.specs.Flat.{empty_table}
+use Rattle.table.specs.Bytes.{bytes_of}
 use Rattle.book.specs.Load.{loads}
 use Rattle.load.specs.BookAnswer.{answer_for}
 use Rattle.store.specs.Store.{table_of}
@@ -18,6 +19,6 @@ pub record LoadsAs (b : List ℕ) (r : Loaded) : Type 0 where
   pub table : r.table ≡ book_table b
 
 -- the bytes of a table that mean nothing are 0: all of a refused book's, and those between the counts and the first array
-pub record Blank (b l : List ℕ) : Type 0 where
-  pub refused : ((loads b).number ≡ 0 → ⊥) → (i : ℕ) → i < 7920 → get_or l i 0 ≡ 0
-  pub spare : (i : ℕ) → 3 ≤ i → i < 16 → get_or l i 0 ≡ 0
+pub record Blank (b : List ℕ) (t : Table) : Type 0 where
+  pub refused : ((loads b).number ≡ 0 → ⊥) → (i : ℕ) → i < 7920 → get_or (bytes_of t) i 0 ≡ 0
+  pub spare : (i : ℕ) → 3 ≤ i → i < 16 → get_or (bytes_of t) i 0 ≡ 0

@@ -3,9 +3,10 @@
 
 ghost use Rattle.std.specs.Prelude.{◌≡◌};
 ghost use Rattle.load.specs.BookAnswer.{numbered};
-ghost use Rattle.table.specs.Flat.{table_in};
 ghost use Rattle.load.specs.Loads.{LoadsAs, Blank};
 ghost use Rattle.load.specs.Step.{loaded_as};
+
+use table::flat::Table;
 
 mod read; // read.rt: a book line by line, refusals 1 to 7
 mod check; // check.rt: the checks after all lines, refusals 8 and 9
@@ -77,8 +78,8 @@ pub fn line_of(a: BookAnswer) -> usize
 // Loads a rule book, whose bytes stay as they are. Every byte string has an answer: the one with the number and line that the paper's `loads`
 // gives it, and the table of the entries that it gives; a refused book's table is the empty one, every byte of which is 0. Ruled out are, for
 // example, a program that answers `NoRule(0)` where the root has no lines, and one that finds a repeated line only where it directly follows.
-pub fn load(book: &[u8], table: &mut [u8; 7920]) -> BookAnswer
-    ensures loads_as { LoadsAs book.now (loaded_as result (table_in table.new)) }
+pub fn load(book: &[u8], table: &mut Table) -> BookAnswer
+    ensures loads_as { LoadsAs book.now (loaded_as result table.new) }
     ensures blank { Blank book.now table.new }
 {
     let a = read::take_book(table, book);

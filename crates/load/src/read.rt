@@ -1,7 +1,7 @@
 // A book line by line: refusals 1 to 7.
 ghost use Rattle.std.specs.Prelude.{◌≡◌, ◌≤◌, length, drop};
 ghost use Rattle.book.specs.Text.{split};
-ghost use Rattle.table.specs.Flat.{table_in, empty_table};
+ghost use Rattle.table.specs.Flat.{empty_table};
 ghost use Rattle.table.specs.Limits.{WithinLimits};
 ghost use Rattle.book.specs.Line.{say_line};
 ghost use Rattle.store.specs.Store.{taken};
@@ -9,14 +9,15 @@ ghost use Rattle.load.specs.Step.{loaded_as, refusal as refusalOf, line_refusal,
 
 use crate::BookAnswer;
 use table::bytes;
+use table::flat::Table;
 
 const NAMES: [u8; 31] = *b"rule form state key value next\n";
 
 // A refusal, with an empty table.
-pub fn refusal(table: &mut [u8; 7920], answer: BookAnswer) -> BookAnswer
-    ensures { loaded_as result (table_in table.new) ≡ refusalOf answer }
+pub fn refusal(table: &mut Table, answer: BookAnswer) -> BookAnswer
+    ensures { loaded_as result table.new ≡ refusalOf answer }
 {
-    store::clear(table);
+    *table = Table::empty();
     answer
 }
 
@@ -40,9 +41,9 @@ fn line_refusal(fault: u8, n: usize) -> BookAnswer
 }
 
 // A line without its LF, as line n.
-fn take_line(table: &mut [u8; 7920], n: u16, l: &[u8]) -> u8
-    requires { WithinLimits (table_in table.old) }
-    ensures { taken result (table_in table.new) ≡ take_said n (table_in table.old) (say_line l.now) }
+fn take_line(table: &mut Table, n: u16, l: &[u8]) -> u8
+    requires { WithinLimits table.old }
+    ensures { taken result table.new ≡ take_said n table.old (say_line l.now) }
 {
     let j = line::judge(l);
     let fault = j.fault;
@@ -55,11 +56,11 @@ fn take_line(table: &mut [u8; 7920], n: u16, l: &[u8]) -> u8
 }
 
 // The lines after the names line.
-fn take_lines(table: &mut [u8; 7920], b: &[u8]) -> BookAnswer
+fn take_lines(table: &mut Table, b: &[u8]) -> BookAnswer
     requires { (31 ≤ length b.now) × (length b.now ≤ 65536) }
-    ensures { loaded_as result (table_in table.new) ≡ take_lines 2 empty_table (split 10 (drop 31 b.now)) }
+    ensures { loaded_as result table.new ≡ take_lines 2 empty_table (split 10 (drop 31 b.now)) }
 {
-    store::clear(table);
+    *table = Table::empty();
     let mut i: usize = 31;
     let mut n: usize = 2;
     while i < b.len() {
@@ -78,8 +79,8 @@ fn take_lines(table: &mut [u8; 7920], b: &[u8]) -> BookAnswer
 }
 
 // The table of the lines of a book, or refusals 1 to 7.
-pub fn take_book(table: &mut [u8; 7920], b: &[u8]) -> BookAnswer
-    ensures { loaded_as result (table_in table.new) ≡ take_book b.now }
+pub fn take_book(table: &mut Table, b: &[u8]) -> BookAnswer
+    ensures { loaded_as result table.new ≡ take_book b.now }
 {
     if b.len() == 0 {
         return refusal(table, BookAnswer::Size);

@@ -10,16 +10,19 @@ use Rattle.laws.specs.Bits.{bit_at}
 use Rattle.table.specs.Table.{Table}
 use Rattle.table.specs.Kind.{code_of}
 use Rattle.table.specs.declared.kind.ValueKind.{ValueKind}
-use Rattle.table.specs.Keys.{table_keys, number_of}
+use Rattle.std.proofs.Common.{Option, unwrap_or}
+use Rattle.table.specs.Keys.{table_keys, key_index}
+use Rattle.table.proofs.KeyLaws.{key_index-or, number_of-le, length-table_keys}
 use Rattle.book.specs.Entry.{edge}
 use Rattle.book.specs.Holds.{key_number, form_code}
 use Rattle.line.specs.declared.Sort.{Sort}
 use Rattle.line.specs.declared.Sort.TheVariants.{End, Edge}
 use Rattle.line.specs.declared.Line.{Line}
 use Rattle.line.specs.Line.{form_with, entry_as, entry_with}
-use Rattle.store.specs.declared.Cell.{Cell}
+use Rattle.table.specs.declared.flat.Cell.{Cell}
+use Rattle.table.specs.Cells.{with_end, with_edge, with_key}
 use Rattle.store.specs.Proper.{ProperEdge, Proper}
-use Rattle.store.specs.Store.{Taken, has_cell, with_end, with_edge, with_key, is_new, form_changes, taken, take_edge, take_end, take_entry}
+use Rattle.store.specs.Store.{Taken, has_cell, is_new, form_changes, taken, take_edge, take_end, take_entry}
 
 -- ---- keys
 pub key_number-none : (ks : List (List ℕ)) (k : List ℕ) → length k ≡ 0 → 128 ≡ key_number ks k
@@ -27,10 +30,15 @@ unfolding key_number
 key_number-none ks [] e = refl
 key_number-none ks (x ∷ k) e = absurd (omega arith)
 
-pub key_number-some : (ks : List (List ℕ)) (k : List ℕ) (r : ℕ) → (length k ≡ 0 → ⊥) → r ≡ number_of ks k → r ≡ key_number ks k
+pub key_number-some : (t : Table) (k : List ℕ) (o : Option ℕ) → (length k ≡ 0 → ⊥) → o ≡ key_index t k → unwrap_or o t.keys ≡ key_number (table_keys t) k
 unfolding key_number
-key_number-some ks [] r e q = absurd (e refl)
-key_number-some ks (x ∷ k) r e q = q
+key_number-some t [] o e q = absurd (e refl)
+key_number-some t (x ∷ k) o e q = rw q (key_index-or t (x ∷ k))
+
+pub key_number-le : (t : Table) (k : List ℕ) → t.keys ≤ 128 → key_number (table_keys t) k ≤ 128
+unfolding key_number
+key_number-le t [] h = omega arith
+key_number-le t (x ∷ k) h = omega (arith, number_of-le (table_keys t) (x ∷ k), length-table_keys t)
 
 -- ---- end lines
 module _ (t : Table) (r f q : ℕ) (b : Bool) (p : b ≡ bit_at t.ends (16 * r + q)) where

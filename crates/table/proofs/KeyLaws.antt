@@ -12,7 +12,7 @@ use Rattle.std.proofs.Common.{nat_eq, Option, Some, None, position, unwrap_or}
 use Rattle.std.specs.Cmp.Lexicographic.{pointwise}
 use Rattle.std.specs.List.{position_or_len, range_with_len}
 use Rattle.std.proofs.lemmas.List.FromFn.{length-range_with_len}
-use borrow.Author.Tests.{lt-ltb, le-ltb, ltb-true}
+use borrow.Author.Tests.{lt-ltb, le-ltb, ltb-true, ltb-false}
 use Rattle.laws.specs.Lists.{same}
 use Rattle.laws.specs.Tab.{tab}
 use Rattle.laws.proofs.TabLaws.{length-tab}
@@ -69,18 +69,18 @@ key-in-place l t i x e is h q w =
 -- ---- the search
 
 -- the comparison of two byte strings by the library
-pub same-pointwise : (s t : List ℕ) → pointwise nat_eq s t ≡ same s t
+pub same_pointwise : (s t : List ℕ) → pointwise nat_eq s t ≡ same s t
 unfolding same
-same-pointwise [] [] = refl
-same-pointwise [] (b ∷ t) = refl
-same-pointwise (a ∷ s) [] = refl
-same-pointwise (a ∷ s) (b ∷ t) = rw (same-pointwise s t)
+same_pointwise [] [] = refl
+same_pointwise [] (b ∷ t) = refl
+same_pointwise (a ∷ s) [] = refl
+same_pointwise (a ∷ s) (b ∷ t) = rw (same_pointwise s t)
 
 -- the place of the first of the strings f a, f (a + 1), .., n of them, that is the same as k
 number-place : (f : ℕ → List ℕ) (k : List ℕ) (a n : ℕ) → position_or_len (λ i. pointwise nat_eq (f i) k) (range_with_len a n) ≡ number_of (tab f a n) k
 unfolding number_of
 number-place f k a zero = refl
-number-place f k a (suc n) = rw (same-pointwise (f a) k, add-one, number-place f k (suc a) n) (go (same (f a) k))
+number-place f k a (suc n) = rw (same_pointwise (f a) k, add-one, number-place f k (suc a) n) (go (same (f a) k))
   where
     go : (b : Bool) → cond (not b) (1 + number_of (tab f (suc a) n) k) 0 ≡ cond b 0 (suc (number_of (tab f (suc a) n) k))
     go true = refl
@@ -101,6 +101,17 @@ key_index-lt t k i = go (number_of (table_keys t) k) (ltb (number_of (table_keys
     go : (n : ℕ) (b : Bool) → ltb n t.keys ≡ b → cond b (Some n) None ≡ Some i → i < t.keys
     go n true h e = let q : n ≡ i = cc in rw (← q) (ltb-true n t.keys h)
     go n false h e = absurd (cc)
+
+-- the number of a key, and how many keys there are where it has none
+pub key_index-or : (t : Table) (k : List ℕ) → unwrap_or (key_index t k) t.keys ≡ number_of (table_keys t) k
+unfolding key_index
+key_index-or t k = go (ltb (number_of (table_keys t) k) t.keys) refl
+  where
+    go : (b : Bool) → ltb (number_of (table_keys t) k) t.keys ≡ b → unwrap_or (cond b (Some (number_of (table_keys t) k)) None) t.keys ≡ number_of (table_keys t) k
+    go true e = refl
+    go false e =
+        let h = ltb-false (number_of (table_keys t) k) t.keys e in
+        omega (arith, number_of-le (table_keys t) k, length-table_keys t)
 
 module _ (t : Table) (key : List ℕ) (len : ℕ) where
   pub known-long : 32 < len → None ≡ known_key t key len

@@ -3,10 +3,11 @@ use mathlib.Core.Bool.{Bool, true, false, cond}
 use mathlib.Core.List.{List, [], ◌∷◌, ◌++◌}
 use mathlib.Core.Path.{◌≡◌, refl, sym, ap, ◌∙◌, fun_ext}
 use Prim.Native.Nat.{ℕ, zero, suc, ◌+◌, ◌*◌, ◌-◌, ◌%◌, ◌/◌, ◌^◌, ◌<◌, ◌≤◌}
+use native.Mathlib.Decide.{dec_lt}
 use native.Mathlib.Omega.{arith}
 use lib.Bits.{bit_or}
 use lib.Dec.{eqb}
-use lib.ListN.{length, get_or, set, take, drop, replicate, length-replicate, length-set}
+use lib.ListN.{length, get_or, set, take, drop, replicate, length-replicate, length-set, length-take, get_or-eq_default}
 use lib.Seq.{get_or-set_same, get_or-set_other, drop-set-lt, take-suc-set, drop-drop}
 use Rattle.std.proofs.lemmas.List.{append_assoc, take-append-drop}
 use Rattle.laws.specs.Bits.{bit_at, set_bit}
@@ -187,6 +188,17 @@ unfolding table_in
 no_forms l t r q is h f e k u =
     let a : 7888 + r + k ≡ 7888 + (r + k) = omega arith in
     rw (← is) (sym (get_d_part l 7888 32 (r + k) (omega arith)) ∙ ap (λ (i : ℕ). get_or l i 0) (sym a) ∙ f e k u)
+
+-- the byte of a form, and none past the forms
+pub form-in-place : (l : List ℕ) (t : Table) (r : ℕ) → table_in l ≡ t → length l ≡ 7920 → get_or l (7888 + r) 0 ≡ get_or t.forms r 0
+unfolding table_in part
+form-in-place l t r is long = rw (← is) (go (dec_lt r 32))
+  where
+    go : Dec (r < 32) → get_or l (7888 + r) 0 ≡ get_or (table_in l).forms r 0
+    go (yes h) = get_d_part l 7888 32 r h
+    go (no h) =
+        get_or-eq_default l 0 {n = 7888 + r} (omega arith)
+        ∙ sym (get_or-eq_default (take 32 (drop 7888 l)) 0 {n = r} (omega (arith, length-take 32 (drop 7888 l))))
 
 -- a line of two bytes
 pub line-in-place : (l : List ℕ) (t : Table) (e a b : ℕ) → table_in l ≡ t → length l ≡ 7920 → e < 512 → a ≡ get_or (part l 2576 512) e 0

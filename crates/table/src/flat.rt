@@ -71,6 +71,13 @@ pub struct Cell {
     pub next: u8,
 }
 
+// The byte at a place; 0 past the end.
+fn byte_at(bytes: &[u8; SIZE], at: usize) -> u8
+    ensures { result ≡ get_or bytes.now at 0 }
+{
+    bytes.get(at).copied().unwrap_or(0)
+}
+
 // Byte i of the N bytes from place AT on.
 fn byte_in<const AT: usize, const N: usize>(bytes: &[u8; SIZE], i: usize) -> u8
     requires { (i < N) × (AT + N ≤ 7920) }
@@ -161,6 +168,13 @@ impl Table {
 }
 
 impl Table {
+    // The form of a rule; 0 for a rule past the forms.
+    pub fn form_of(&self, rule: u8) -> u8
+        ensures { result ≡ get_or self.now.forms rule 0 }
+    {
+        byte_at(&self.bytes, FORM + rule as usize)
+    }
+
     // The line of the book that an edge stands on.
     pub fn line(&self, e: usize) -> usize
         requires { e < 512 }

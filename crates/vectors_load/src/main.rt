@@ -7,12 +7,13 @@ use std::fs::File;
 use std::io::{ErrorKind, Read};
 use std::rt::Files;
 use std::{io, str};
+use table::flat::Table;
 
 const BOOKS: usize = 71;
 
 // The answer for a book, on a line.
 fn tell(rt: &impl Print, book: &[u8]) {
-    let mut table = [0u8; 7920];
+    let mut table = Table::empty();
     let a = load::load(book, &mut table);
     let number = load::number_of(a);
     let line = load::line_of(a);

@@ -6,7 +6,7 @@ use borrow.Author.Rules.{rules}
 use Rattle.load.proofs.read.take_lines.Goals as goal
 
 pub loop-i-init : goal.loop-i-init
-loop-i-init c = (search rules, search rules, rw c.clear.ensures ranges-empty, rw c.clear.ensures)
+loop-i-init c = (search rules, search rules, rw c.empty.ensures ranges-empty, rw c.empty.ensures)
 
 pub returns-then-b-p : goal.returns-then-b-p
 returns-then-b-p c = search (rules, lines-open)

@@ -1,277 +1,201 @@
 // One line of a book: its fields, and what it says by itself, refusals 3 and 4.
 #![tactic(auto)]
 
-ghost use Rattle.std.specs.Prelude.{◌≡◌, ◌+◌, ◌<◌, length};
-ghost use Rattle.book.specs.Text.{number};
-ghost use Rattle.book.specs.Line.{formed as isFormed, key_of, kind_in, small_kind, say_fields, say_line};
-ghost use Rattle.scan.specs.Scan.{capped, capped_kind};
-ghost use Rattle.line.specs.Line.{no_cuts, Cut, say_cut, FieldsSay, Says, faulty, line_of_end, line_of_edge, formed_end, formed_edge};
+ghost use Rattle.std.specs.Prelude.{◌≡◌, MatchOption, option_map};
+ghost use Rattle.laws.specs.Lists.{same};
+ghost use Rattle.book.specs.Line.{bad, formed as isFormed, form_of, key_of, say_line, word_end, dash};
+ghost use Rattle.line.specs.Line.{form_in, entry_in, said, say_six, small_entry, keyed, formed_end};
 
-use table::bytes;
 use table::kind::ValueKind;
 
-const OBJ: [u8; 3] = *b"obj";
-
-const END: [u8; 3] = *b"end";
-
-const DASH: [u8; 1] = *b"-";
-
-// Where the five spaces of a line are, if it has exactly five.
-#[derive(Clone, Copy)]
-pub struct Cuts {
-    pub six: bool,
-    pub p1: usize,
-    pub p2: usize,
-    pub p3: usize,
-    pub p4: usize,
-    pub p5: usize,
+// Why a line is refused: refusals 3 to 7. A line by itself has only the first two.
+#[derive(Clone, Copy, PartialEq, Eq)]
+pub enum Fault {
+    Malformed,
+    AboveLimit,
+    TooMany,
+    FormChanged,
+    Repeated,
 }
 
-// What a line is: an end line, or an edge with the kind of value that it asks for.
-#[derive(Clone, Copy)]
-pub enum Sort {
-    End,
-    Edge(ValueKind),
+// The form of a rule.
+#[derive(Clone, Copy, PartialEq, Eq)]
+pub enum Form {
+    Obj,
+    Arr,
 }
 
-// What a line says, or its fault, 3 or 4; 0 is none. Its form is obj or else arr, and an end line has next 0. The key is key_len bytes of the
-// line from key_at on.
+// What an edge says. Without a key, the key is empty.
 #[derive(Clone, Copy)]
-pub struct Line {
-    pub fault: u8,
-    pub rule: u8,
-    pub obj: bool,
-    pub state: u8,
-    pub sort: Sort,
+pub struct EdgeLine<'a> {
+    pub key: &'a [u8],
+    pub kind: ValueKind,
     pub next: u8,
-    pub key_at: usize,
-    pub key_len: usize,
 }
 
-fn no_cuts() -> Cuts
-    ensures { result ≡ no_cuts }
-{
-    Cuts {
-        six: false,
-        p1: 0,
-        p2: 0,
-        p3: 0,
-        p4: 0,
-        p5: 0,
-    }
+// What a line is.
+#[derive(Clone, Copy)]
+pub enum Sort<'a> {
+    End,
+    Edge(EdgeLine<'a>),
 }
 
-// Where the spaces of a line are. Each is looked for after the one before.
-fn cut(line: &[u8]) -> Cuts
-    ensures { Cut line.now result }
+// What a line says.
+#[derive(Clone, Copy)]
+pub struct Line<'a> {
+    pub rule: u8,
+    pub form: Form,
+    pub state: u8,
+    pub sort: Sort<'a>,
+}
+
+// The six fields of a line.
+#[derive(Clone, Copy)]
+struct Fields<'a> {
+    rule: &'a [u8],
+    form: &'a [u8],
+    state: &'a [u8],
+    key: &'a [u8],
+    value: &'a [u8],
+    next: &'a [u8],
+}
+
+// The fields of a line, if it has exactly five spaces.
+fn cut(line: &[u8]) -> Option<Fields>
+    ensures { MatchOption result (say_line line.now ≡ bad 3) (λ f. say_line line.now ≡ say_six f) }
 {
-    let none = no_cuts();
-    let n = line.len();
-    let p1 = scan::find(line, 0, 32);
-    if n <= p1 {
-        return none;
-    }
-    let p2 = scan::find(line, p1 + 1, 32);
-    if n <= p2 {
-        return none;
-    }
-    let p3 = scan::find(line, p2 + 1, 32);
-    if n <= p3 {
-        return none;
-    }
-    let p4 = scan::find(line, p3 + 1, 32);
-    if n <= p4 {
-        return none;
-    }
-    let p5 = scan::find(line, p4 + 1, 32);
-    if n <= p5 {
-        return none;
-    }
-    let p6 = scan::find(line, p5 + 1, 32);
-    if p6 < n {
-        return none;
-    }
-    Cuts {
-        six: true,
-        p1,
-        p2,
-        p3,
-        p4,
-        p5,
+    let (rule, rest) = scan::cut(line, b' ')?;
+    let (form, rest) = scan::cut(rest, b' ')?;
+    let (state, rest) = scan::cut(rest, b' ')?;
+    let (key, rest) = scan::cut(rest, b' ')?;
+    let (value, next) = scan::cut(rest, b' ')?;
+    match scan::cut(next, b' ') {
+        Some(_) => None,
+        None => Some(Fields {
+            rule,
+            form,
+            state,
+            key,
+            value,
+            next,
+        }),
     }
 }
 
-// Key and next of an end line are none.
-fn formed_end(key: &[u8], next: &[u8]) -> bool
-    ensures { result ≡ formed_end key.now next.now }
+// The field is `-`, which stands for none.
+#[tactic(auto, using(table::proofs::KeyLaws::same_pointwise))]
+fn is_dash(field: &[u8]) -> bool
+    ensures { result ≡ same field.now dash }
 {
-    if bytes::equal(key, &DASH) {
-        return bytes::equal(next, &DASH);
-    }
-    false
+    field == b"-".as_slice()
 }
 
-// Form, key, value and next of an edge.
-fn formed_edge(form: &[u8], key: &[u8], value: &[u8], next: &[u8]) -> bool
-    ensures { result ≡ formed_edge form.now key.now value.now next.now }
+// The field is `end`.
+#[tactic(auto, using(table::proofs::KeyLaws::same_pointwise))]
+fn is_end(field: &[u8]) -> bool
+    ensures { result ≡ same field.now word_end }
 {
-    if scan::is_kind(value) {
-        if scan::is_number(next) {
-            if bytes::equal(form, &OBJ) {
-                return scan::is_key(key);
-            }
-            return bytes::equal(key, &DASH);
-        }
+    field == b"end".as_slice()
+}
+
+// The key is one of an edge with the form.
+#[tactic(auto, unfolding(crate::specs::Line::keyed), using(table::proofs::KeyLaws::same_pointwise))]
+fn is_keyed(form: &[u8], key: &[u8]) -> bool
+    ensures { result ≡ keyed form.now key.now }
+{
+    if form == b"obj".as_slice() {
+        scan::is_key(key)
+    } else {
+        is_dash(key)
     }
-    false
+}
+
+// Key, value and next are well formed.
+#[tactic(auto, unfolding(crate::specs::Line::formed_end), using(table::proofs::KeyLaws::same_pointwise))]
+fn is_formed_end(form: &[u8], key: &[u8], value: &[u8], next: &[u8]) -> bool
+    ensures { result ≡ formed_end form.now key.now value.now next.now }
+{
+    if is_end(value) {
+        return is_dash(key) & is_dash(next);
+    }
+    scan::is_kind(value) & (scan::is_number(next) & is_keyed(form, key))
 }
 
 // The six fields are well formed.
-fn formed(rule: &[u8], form: &[u8], state: &[u8], key: &[u8], value: &[u8], next: &[u8]) -> bool
-    ensures { result ≡ isFormed rule.now form.now state.now key.now value.now next.now }
+#[tactic(auto, unfolding(book::specs::Line::formed, crate::specs::Line::formed_end, crate::specs::Line::keyed))]
+fn is_formed(f: &Fields) -> bool
+    ensures { result ≡ isFormed f.now.rule.now f.now.form.now f.now.state.now f.now.key.now f.now.value.now f.now.next.now }
 {
-    if scan::is_number(rule) {
-        if scan::is_form(form) {
-            if scan::is_number(state) {
-                if bytes::equal(value, &END) {
-                    return formed_end(key, next);
-                }
-                return formed_edge(form, key, value, next);
-            }
-        }
-    }
-    false
+    scan::is_number(f.rule)
+        & (scan::is_form(f.form)
+            & (scan::is_number(f.state) & is_formed_end(f.form, f.key, f.value, f.next)))
 }
 
-fn bad_line(fault: u8, at: usize) -> Line
-    ensures { result ≡ faulty fault at }
+// The form that a field names.
+#[tactic(auto, unfolding(book::specs::Line::form_of), using(table::proofs::KeyLaws::same_pointwise))]
+fn form_named(field: &[u8]) -> Form
+    ensures { form_in result ≡ form_of field.now }
 {
-    Line {
-        fault,
-        rule: 0,
-        obj: false,
-        state: 0,
-        sort: Sort::End,
-        next: 0,
-        key_at: at,
-        key_len: 0,
+    if field == b"obj".as_slice() {
+        Form::Obj
+    } else {
+        Form::Arr
     }
 }
 
-fn end_line(rule: u8, obj: bool, state: u8, at: usize) -> Line
-    ensures { result ≡ line_of_end rule obj state at }
+// The key that a field names.
+#[tactic(auto, unfolding(book::specs::Line::key_of))]
+fn key_named(field: &[u8]) -> &[u8]
+    ensures { result.now ≡ key_of field.now }
 {
-    Line {
-        fault: 0,
+    if is_dash(field) { &[] } else { field }
+}
+
+// What six well-formed fields say, where their numbers are below their limits.
+fn small_line<'a>(f: &Fields<'a>) -> Option<Line<'a>>
+    ensures { option_map entry_in result ≡ small_entry f.now }
+{
+    let rule = scan::value(f.rule, 32)?;
+    let state = scan::value(f.state, 16)?;
+    let form = form_named(f.form);
+    if is_end(f.value) {
+        return Some(Line {
+            rule,
+            form,
+            state,
+            sort: Sort::End,
+        });
+    }
+    let kind = scan::kind_in(f.value)?;
+    let next = scan::value(f.next, 16)?;
+    let key = key_named(f.key);
+    Some(Line {
         rule,
-        obj,
+        form,
         state,
-        sort: Sort::End,
-        next: 0,
-        key_at: at,
-        key_len: 0,
+        sort: Sort::Edge(EdgeLine { key, kind, next }),
+    })
+}
+
+// What six fields say, or their fault.
+fn judge_fields<'a>(f: &Fields<'a>) -> Result<Line<'a>, Fault>
+    ensures { said result ≡ say_six f.now }
+{
+    if !is_formed(f) {
+        return Err(Fault::Malformed);
+    }
+    match small_line(f) {
+        Some(line) => Ok(line),
+        None => Err(Fault::AboveLimit),
     }
 }
 
-// How many bytes the key has; `-` is none.
-fn key_length(key: &[u8]) -> usize
-    ensures { result ≡ length (key_of key.now) }
+// What a line without its LF says, or its fault.
+pub fn judge(l: &[u8]) -> Result<Line, Fault>
+    ensures { said result ≡ say_line l.now }
 {
-    if bytes::equal(key, &DASH) {
-        return 0;
+    match cut(l) {
+        Some(f) => judge_fields(&f),
+        None => Err(Fault::Malformed),
     }
-    key.len()
-}
-
-// A rule that the kind refers to is 0 to 31.
-fn small_kind(v: ValueKind) -> bool
-    ensures { result ≡ small_kind v }
-{
-    match v {
-        ValueKind::Plain(_) => true,
-        ValueKind::Rule(n) => n < 32,
-    }
-}
-
-// What the last fields of an edge say, whose rule, form and state are told.
-fn judge_edge(r: u8, obj: bool, q: u8, key: &[u8], value: &[u8], next: &[u8], at: usize) -> Line
-    ensures { result ≡ line_of_edge r obj q at (capped_kind (kind_in value.now)) (capped 16 (number next.now)) (length (key_of key.now)) }
-{
-    let v = scan::kind_in(value);
-    if !small_kind(v) {
-        return bad_line(4, at);
-    }
-    let m = scan::value(next, 16);
-    if 16 <= m {
-        return bad_line(4, at);
-    }
-    let n = key_length(key);
-    Line {
-        fault: 0,
-        rule: r,
-        obj,
-        state: q,
-        sort: Sort::Edge(v),
-        next: m,
-        key_at: at,
-        key_len: n,
-    }
-}
-
-// What six fields say, the key's field being at `at`.
-fn judge_fields(
-    rule: &[u8],
-    form: &[u8],
-    state: &[u8],
-    key: &[u8],
-    value: &[u8],
-    next: &[u8],
-    at: usize,
-) -> Line
-    ensures { FieldsSay key.now at (say_fields rule.now form.now state.now key.now value.now next.now) result }
-{
-    if !formed(rule, form, state, key, value, next) {
-        return bad_line(3, at);
-    }
-    let r = scan::value(rule, 32);
-    if 32 <= r {
-        return bad_line(4, at);
-    }
-    let q = scan::value(state, 16);
-    if 16 <= q {
-        return bad_line(4, at);
-    }
-    let obj = bytes::equal(form, &OBJ);
-    if bytes::equal(value, &END) {
-        return end_line(r, obj, q, at);
-    }
-    judge_edge(r, obj, q, key, value, next, at)
-}
-
-// What a line with spaces at p1 to p5 says.
-fn judge_six(l: &[u8], p1: usize, p2: usize, p3: usize, p4: usize, p5: usize) -> Line
-    requires { (p1 < p2) × (p2 < p3) × (p3 < p4) × (p4 < p5) × (p5 < length l.now) }
-    ensures { Says l.now (say_cut l.now p1 p2 p3 p4 p5) result }
-{
-    let at = p3 + 1;
-    judge_fields(
-        &l[0..p1],
-        &l[p1 + 1..p2],
-        &l[p2 + 1..p3],
-        &l[at..p4],
-        &l[p4 + 1..p5],
-        &l[p5 + 1..],
-        at,
-    )
-}
-
-// What a line without its LF says, or its fault. The key lies within the line.
-pub fn judge(l: &[u8]) -> Line
-    ensures { Says l.now (say_line l.now) result }
-{
-    let c = cut(l);
-    if c.six {
-        return judge_six(l, c.p1, c.p2, c.p3, c.p4, c.p5);
-    }
-    bad_line(3, 0)
 }

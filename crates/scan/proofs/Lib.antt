@@ -1,2 +1,2 @@
-pub mod ScanLaws
 pub mod FieldLaws
+pub mod ScanLaws

@@ -1,33 +1,70 @@
--- One turn of each scan of bytes, and its end. Each law takes what a turn knows and says what the next one needs. Assumes nothing.
-use mathlib.Core.Bool.{Bool, true, false, not, cond}
+-- Scans of bytes: the first separator, a test of every byte, and what digits mean. Assumes nothing.
+use mathlib.Core.Bool.{Bool, true, false, not, cond, ◌&&◌, ◌||◌}
 use mathlib.Core.List.{List, [], ◌∷◌}
-use mathlib.Core.Path.{◌≡◌, refl, sym, ◌∙◌}
-use Prim.Native.Nat.{ℕ, ◌+◌, ◌*◌, ◌-◌, ◌<◌, ◌≤◌}
+use mathlib.Core.Path.{◌≡◌, refl, sym, ap, ◌∙◌}
+use Prim.Native.Nat.{ℕ, suc, ◌+◌, ◌*◌, ◌-◌, ◌<◌, ◌≤◌}
 use native.Mathlib.Numerals.{add-one}
 use native.Mathlib.Omega.{arith}
-use lib.Dec.{ltb}
-use lib.ListN.{length, get_or, drop, drop_of_length-le}
-use lib.Seq.{drop-cons}
-use borrow.Author.Tests.{eq-eqb, ne_eqb, lt-ltb, le-ltb, ltb-false, not-true, not-false}
+use lib.Dec.{eqb, ltb}
+use lib.ListN.{length, get_or, take, drop, length-drop, drop_of_length-le}
+use lib.Seq.{take_all, drop-cons}
+use borrow.Author.Tests.{ne_eqb, lt-ltb, le-ltb, ltb-true, ltb-false, not-true, not-false}
+use Rattle.std.proofs.Common.{Option, Some, None, position}
+use Rattle.std.specs.List.{position_or_len, list_all, fold}
 use Rattle.laws.specs.Lists.{all}
-use Rattle.book.specs.Text.{number_from}
-use Rattle.scan.specs.Scan.{until, capped}
+use Rattle.book.specs.Text.{split, onto, between, is_empty, is_number, number_from, number}
+use Rattle.scan.specs.Scan.{below, FirstPart}
 
--- ---- until: from place i the first c is found at e
-module _ (s : List ℕ) (c i e : ℕ) (inv : i + until c (drop i s) ≡ e) where
-  pub until-hit : i < length s → get_or s i 0 ≡ c → i ≡ e
-  unfolding until
-  until-hit h q = let k = rw (drop-cons s i 0, eq-eqb (get_or s i 0) c q) at inv in omega (arith, k)
+-- ---- the first separator
+module _ (c : ℕ) where
+  abbrev at : List ℕ → ℕ
+  at s = position_or_len (λ b. eqb b c) s
 
-  pub until-miss : i < length s → (get_or s i 0 ≡ c → ⊥) → i + 1 + until c (drop (i + 1) s) ≡ e
-  unfolding until
-  until-miss h q = let k = rw (drop-cons s i 0, ne_eqb (get_or s i 0) c q) at inv in rw add-one (omega (arith, k))
+  -- a separator ends the first part
+  split_at : (s : List ℕ) → at s < length s → split c s ≡ take (at s) s ∷ split c (drop (at s + 1) s)
+  unfolding split onto
+  split_at [] h = absurd (omega arith)
+  split_at (x ∷ s) h = rw add-one (go (eqb x c) (rw add-one at (split_at s)) h)
+    where
+      go : (b : Bool) → (at s < length s → split c s ≡ take (at s) s ∷ split c (drop (suc (at s)) s)) → cond (not b) (1 + at s) 0 < suc (length s)
+          → cond b ([] ∷ split c s) (onto x (split c s)) ≡ take (cond (not b) (1 + at s) 0) (x ∷ s) ∷ split c (drop (suc (cond (not b) (1 + at s) 0)) (x ∷ s))
+      go true ih l = refl
+      go false ih l = let e : 1 + at s ≡ suc (at s) = omega arith in rw e (ap (onto x) (ih (omega arith)))
 
-  pub until_end : length s ≤ i → i ≡ e
-  unfolding until
-  until_end h = let k = rw (drop_of_length-le s h) at inv in omega (arith, k)
+  -- without a separator all is one part
+  split-none : (s : List ℕ) → length s ≤ at s → split c s ≡ s ∷ []
+  unfolding split onto
+  split-none [] h = refl
+  split-none (x ∷ s) h = go (eqb x c) (split-none s) h
+    where
+      go : (b : Bool) → (length s ≤ at s → split c s ≡ s ∷ []) → suc (length s) ≤ cond (not b) (1 + at s) 0 → cond b ([] ∷ split c s) (onto x (split c s)) ≡ (x ∷ s) ∷ []
+      go true ih l = absurd (omega arith)
+      go false ih l = ap (onto x) (ih (omega arith))
 
--- ---- all: from place i on the test comes to b
+  pub no-place : (s : List ℕ) (o : Option ℕ) → o ≡ position (λ b. eqb b c) s → o ≡ None → split c s ≡ s ∷ []
+  no-place s o p e = go (ltb (at s) (length s)) refl (sym p ∙ e)
+    where
+      go : (b : Bool) → ltb (at s) (length s) ≡ b → cond b (Some (at s)) None ≡ None → split c s ≡ s ∷ []
+      go true l q = absurd (cc)
+      go false l q = split-none s (ltb-false (at s) (length s) l)
+
+  pub first-place : (s : List ℕ) (o : Option ℕ) (i : ℕ) → o ≡ position (λ b. eqb b c) s → o ≡ Some i
+      → FirstPart c s (take i s) (take (length s - (i + 1)) (drop (i + 1) s))
+  first-place s o i p e = go (ltb (at s) (length s)) refl (sym p ∙ e)
+    where
+      go : (b : Bool) → ltb (at s) (length s) ≡ b → cond b (Some (at s)) None ≡ Some i → FirstPart c s (take i s) (take (length s - (i + 1)) (drop (i + 1) s))
+      go true l q =
+          let z : at s ≡ i = cc in
+          rw (← z) (record { parts = rw (take_all (length s - (at s + 1)) (drop (at s + 1) s) (omega (arith, length-drop (at s + 1) s))) (split_at s (ltb-true (at s) (length s) l)) })
+      go false l q = absurd (cc)
+
+-- ---- every byte
+pub all_list : {A : Type 0} (f : A → Bool) (xs : List A) → list_all f xs ≡ all f xs
+unfolding all
+all_list f [] = refl
+all_list f (x ∷ xs) = rw (all_list f xs)
+
+-- from place i on the test comes to b: crate points
 module _ (f : ℕ → Bool) (s : List ℕ) (i : ℕ) (b : Bool) (inv : all f (drop i s) ≡ b) where
   pub all-stop : (r : Bool) → r ≡ f (get_or s i 0) → i < length s → not r ≡ true → false ≡ b
   unfolding all
@@ -42,44 +79,64 @@ module _ (f : ℕ → Bool) (s : List ℕ) (i : ℕ) (b : Bool) (inv : all f (dr
   all_end h = rw (drop_of_length-le s h) at inv
 
 -- ---- numbers
+module _ (d : ℕ) (t : List ℕ) (a b : Bool) (qa : a ≡ between 48 57 d) (qb : b ≡ list_all (between 48 57) t) where
+  parts : ((a && b) && (not (eqb d 48) || eqb (length t) 0)) ≡ is_number (d ∷ t)
+  unfolding is_number is_empty
+  parts = rw (qa, qb, all_list (between 48 57) t) (go (between 48 57 d) (all (between 48 57) t) t)
+    where
+      empty : (u : List ℕ) → eqb (length u) 0 ≡ is_empty u
+      empty [] = refl
+      empty (x ∷ u) = ne_eqb (suc (length u)) 0 (λ z. omega arith)
+
+      go : (x y : Bool) (u : List ℕ) → ((x && y) && (not (eqb d 48) || eqb (length u) 0)) ≡ (x && (y && (not (eqb d 48) || is_empty u)))
+      go true y u = rw (empty u)
+      go false y u = refl
+
+  pub number-some : (s : List ℕ) (e : Bool) → s ≡ d ∷ t → e ≡ eqb (length t) 0 → ((a && b) && (not (eqb d 48) || e)) ≡ is_number s
+  number-some s e p q = rw (p, q) parts
+
+pub number-none : (s : List ℕ) → length s ≡ 0 → false ≡ is_number s
+unfolding is_number
+number-none [] h = refl
+number-none (d ∷ s) h = absurd (omega arith)
 
 -- digits after a number only make it larger
-pub number_from-ge : (a : ℕ) (s : List ℕ) → a ≤ number_from a s
+number_from-ge : (a : ℕ) (s : List ℕ) → a ≤ number_from a s
 unfolding number_from
 number_from-ge a [] = omega arith
 number_from-ge a (d ∷ s) = omega (arith, number_from-ge (a * 10 + (d - 48)) s)
 
-pub capped-of-ge : (m v : ℕ) → m ≤ v → capped m v ≡ m
-unfolding capped
-capped-of-ge m v h = rw (le-ltb v m h)
+module _ (m : ℕ) where
+  abbrev grow : ℕ → ℕ → ℕ
+  grow acc b = cond (ltb acc m) (acc * 10 + (b - 48)) acc
 
-pub capped-of-lt : (m v : ℕ) → v < m → capped m v ≡ v
-unfolding capped
-capped-of-lt m v h = rw (lt-ltb v m h)
+  below-ge : (v : ℕ) → m ≤ v → below m v ≡ None
+  unfolding below
+  below-ge v h = rw (le-ltb v m h)
 
-module _ (acc limit b : ℕ) where
-  pub grow-more : (d : ℕ) → d ≡ b - 48 → acc < limit → acc * 10 + d ≡ cond (ltb acc limit) (acc * 10 + (b - 48)) acc
-  grow-more d e h = rw (lt-ltb acc limit h, e)
+  fold-stop : (a : ℕ) (s : List ℕ) → m ≤ a → fold grow a s ≡ a
+  fold-stop a [] h = refl
+  fold-stop a (x ∷ s) h = rw (le-ltb a m h) (fold-stop a s h)
 
-  pub grow-stop : limit ≤ acc → acc ≡ cond (ltb acc limit) (acc * 10 + (b - 48)) acc
-  grow-stop h = rw (le-ltb acc limit h)
-
--- the digits from place i on, after digits that mean a, come to r under the limit m
-module _ (s : List ℕ) (m a i r : ℕ) (inv : capped m (number_from a (drop i s)) ≡ r) where
-  pub value-more : (n : ℕ) → n ≡ cond (ltb a m) (a * 10 + (get_or s i 0 - 48)) a → i < length s → capped m (number_from n (drop (i + 1) s)) ≡ r
+  below-fold : (a : ℕ) (s : List ℕ) → below m (fold grow a s) ≡ below m (number_from a s)
   unfolding number_from
-  value-more n e h = rw e (go (ltb a m) refl)
+  below-fold a [] = refl
+  below-fold a (x ∷ s) = go (ltb a m) refl (below-fold (a * 10 + (x - 48)) s)
     where
-      go : (b : Bool) → ltb a m ≡ b → capped m (number_from (cond b (a * 10 + (get_or s i 0 - 48)) a) (drop (i + 1) s)) ≡ r
-      go true q = rw add-one (rw (drop-cons s i 0) at inv)
-      go false q =
-          let l = ltb-false a m q in
-          capped-of-ge m _ (omega (arith, number_from-ge a (drop (i + 1) s)))
-          ∙ sym (capped-of-ge m _ (omega (arith, number_from-ge a (drop i s)))) ∙ inv
+      go : (b : Bool) → ltb a m ≡ b → below m (fold grow (a * 10 + (x - 48)) s) ≡ below m (number_from (a * 10 + (x - 48)) s) → below m (fold grow (cond b (a * 10 + (x - 48)) a) s) ≡ below m (number_from (a * 10 + (x - 48)) s)
+      go true e ih = ih
+      go false e ih =
+          let h = ltb-false a m e in
+          rw (fold-stop a s h) (below-ge a h ∙ sym (below-ge (number_from (a * 10 + (x - 48)) s) (omega (arith, number_from-ge (a * 10 + (x - 48)) s))))
 
-  pub value-small : length s ≤ i → a < m → a ≡ r
-  unfolding number_from
-  value-small h l = sym (capped-of-lt m a l) ∙ rw (drop_of_length-le s h) at inv
+  module _ (s : List ℕ) (n : ℕ) (q : n ≡ fold grow 0 s) where
+    value-is : below m n ≡ below m (number s)
+    unfolding number
+    value-is = ap (below m) q ∙ below-fold 0 s
 
-  pub value-big : m ≤ a → m ≡ r
-  value-big l = sym (capped-of-ge m _ (omega (arith, number_from-ge a (drop i s)))) ∙ inv
+    pub value-small : n < m → Some n ≡ below m (number s)
+    unfolding below
+    value-small h = rw (lt-ltb n m h) at value-is
+
+    pub value-big : m ≤ n → None ≡ below m (number s)
+    value-big h = sym (below-ge n h) ∙ value-is

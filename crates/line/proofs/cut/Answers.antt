@@ -1,28 +1,24 @@
--- `cut` meets its contract: each separator found ends a part, and fewer or more than five are not six parts. Assumes nothing.
-use native.Mathlib.Omega.{arith}
-use Rattle.line.proofs.SplitLaws.{cut-none, one-part, two-parts, three-parts, four-parts, five-parts, more_parts, six-parts}
-use borrow.Author.Rules.{rules}
+-- `cut` meets its contract. Assumes nothing.
+use Rattle.line.proofs.LineLaws.{one-part, two-parts, three-parts, four-parts, five-parts, six-parts, more_parts}
 use Rattle.line.proofs.cut.Goals as goal
 
-pub returns-then-n-p1 : goal.returns-then-n-p1
-returns-then-n-p1 c = search (rules, cut-none, one-part)
+pub returns-in_err-rule : goal.returns-in_err-rule
+returns-in_err-rule c = rw c.from_residual.ensures (one-part _ c.in_err-rule.ensures)
 
-pub returns-then-n-p2 : goal.returns-then-n-p2
-returns-then-n-p2 c = search (rules, cut-none, two-parts)
+pub returns-in_err-form : goal.returns-in_err-form
+returns-in_err-form c = rw c.from_residual-in_err-form.ensures (two-parts _ _ _ c.in_ok-rule.ensures c.in_err-form.ensures)
 
-pub returns-then-n-p3 : goal.returns-then-n-p3
-returns-then-n-p3 c = search (rules, cut-none, three-parts)
+pub returns-in_err-state : goal.returns-in_err-state
+returns-in_err-state c = rw c.from_residual-in_err-state.ensures (three-parts _ _ _ c.in_ok-rule.ensures _ _ c.in_ok-form.ensures c.in_err-state.ensures)
 
-pub returns-then-n-p4 : goal.returns-then-n-p4
-returns-then-n-p4 c = search (rules, cut-none, four-parts)
+pub returns-in_err-key : goal.returns-in_err-key
+returns-in_err-key c = rw c.from_residual-in_err-key.ensures (four-parts _ _ _ c.in_ok-rule.ensures _ _ c.in_ok-form.ensures _ _ c.in_ok-state.ensures c.in_err-key.ensures)
 
-pub returns-then-n-p5 : goal.returns-then-n-p5
-returns-then-n-p5 c = search (rules, cut-none, five-parts)
+pub returns-in_err-value : goal.returns-in_err-value
+returns-in_err-value c = rw c.from_residual-in_err-value.ensures (five-parts _ _ _ c.in_ok-rule.ensures _ _ c.in_ok-form.ensures _ _ c.in_ok-state.ensures _ _ c.in_ok-key.ensures c.in_err-value.ensures)
 
-pub returns-then-p6-n : goal.returns-then-p6-n
-returns-then-p6-n c = search (rules, cut-none, more_parts)
+pub returns-in-Some : goal.returns-in-Some
+returns-in-Some c = more_parts _ _ _ c.in_ok-rule.ensures _ _ c.in_ok-form.ensures _ _ c.in_ok-state.ensures _ _ c.in_ok-key.ensures _ _ c.in_ok-value.ensures _ _ c.in-Some.ensures
 
-pub returns : goal.returns
-returns c =
-    six-parts _ _ c.find-p1.ensures (omega arith) _ c.find-p2.ensures (omega arith) _ c.find-p3.ensures (omega arith)
-    _ c.find-p4.ensures (omega arith) _ c.find-p5.ensures (omega arith) _ c.find-p6.ensures (omega arith)
+pub returns-in-None : goal.returns-in-None
+returns-in-None c = six-parts _ _ _ c.in_ok-rule.ensures _ _ c.in_ok-form.ensures _ _ c.in_ok-state.ensures _ _ c.in_ok-key.ensures _ _ c.in_ok-value.ensures c.in-None.ensures

@@ -1,19 +1,13 @@
--- `judge_fields` meets its contract: well formed first, then each number against its limit. Assumes nothing.
-use Rattle.line.proofs.LineLaws.{says-malformed, says-rule, says-state, says-end, says_last}
+-- `judge_fields` meets its contract. Assumes nothing.
+use Rattle.line.proofs.LineLaws.{says-malformed, says-over, says-good}
 use borrow.Author.Rules.{rules}
 use Rattle.line.proofs.judge_fields.Goals as goal
 
-pub returns-then-not-formed : goal.returns-then-not-formed
-returns-then-not-formed c = search (rules, says-malformed)
+pub returns-then-not-is_formed : goal.returns-then-not-is_formed
+returns-then-not-is_formed c = search (rules, says-malformed)
 
-pub returns-then-r-ge32 : goal.returns-then-r-ge32
-returns-then-r-ge32 c = search (rules, says-rule)
+pub returns-in-Some : goal.returns-in-Some
+returns-in-Some c = search (rules, says-good)
 
-pub returns-then-q-ge16 : goal.returns-then-q-ge16
-returns-then-q-ge16 c = search (rules, says-state)
-
-pub returns-then-equal : goal.returns-then-equal
-returns-then-equal c = search (rules, says-end)
-
-pub returns : goal.returns
-returns c = search (rules, says_last)
+pub returns-in-None : goal.returns-in-None
+returns-in-None c = search (rules, says-over)

@@ -1,19 +1,9 @@
--- `value` meets its contract: the digits that are left, after what the others mean, come to the whole number under the limit. Assumes nothing.
-use mathlib.Core.Path.{refl}
-use Rattle.book.specs.Text.{number}
-use Rattle.scan.proofs.ScanLaws.{value-more, value-small, value-big}
-use borrow.Author.Rules.{rules}
+-- `value` meets its contract. Assumes nothing.
+use Rattle.scan.proofs.ScanLaws.{value-small, value-big}
 use Rattle.scan.proofs.value.Goals as goal
 
-pub loop-i-init : goal.loop-i-init
-unfolding number
-loop-i-init c = refl
+pub returns-then-n-limit : goal.returns-then-n-limit
+returns-then-n-limit c = value-small _ _ _ c.grown-n.ensures c.if-n-limit.true
 
-pub loop-i-preserved : goal.loop-i-preserved
-loop-i-preserved c = search (rules, value-more)
-
-pub returns-then-acc-limit : goal.returns-then-acc-limit
-returns-then-acc-limit c = search (rules, value-small)
-
-pub returns : goal.returns
-returns c = search (rules, value-big)
+pub returns-else-n-limit : goal.returns-else-n-limit
+returns-else-n-limit c = value-big _ _ _ c.grown-n.ensures c.if-n-limit.false

@@ -9,7 +9,6 @@ use borrow.Author.Tests.{le-leb, lt-leb}
 use Rattle.laws.specs.Bits.{bit_at}
 use Rattle.table.specs.Table.{Table}
 use Rattle.table.specs.Kind.{code_of}
-use Rattle.table.specs.declared.kind.ValueKind.{ValueKind}
 use Rattle.std.proofs.Common.{Option, unwrap_or}
 use Rattle.table.specs.Keys.{table_keys, key_index}
 use Rattle.table.proofs.KeyLaws.{key_index-or, number_of-le, length-table_keys}
@@ -18,7 +17,8 @@ use Rattle.book.specs.Holds.{key_number, form_code}
 use Rattle.line.specs.declared.Sort.{Sort}
 use Rattle.line.specs.declared.Sort.TheVariants.{End, Edge}
 use Rattle.line.specs.declared.Line.{Line}
-use Rattle.line.specs.Line.{form_with, entry_as, entry_with}
+use Rattle.line.specs.declared.EdgeLine.{EdgeLine}
+use Rattle.line.specs.Line.{form_in, entry_as, entry_in}
 use Rattle.table.specs.declared.flat.Cell.{Cell}
 use Rattle.table.specs.Cells.{with_end, with_edge, with_key}
 use Rattle.store.specs.Proper.{ProperEdge, Proper}
@@ -79,55 +79,55 @@ module _ (n : ℕ) (t : Table) (f : ℕ) (c : Cell) (k : List ℕ) (b : Bool) (p
       take_edge-old v e y = rw (sym p ∙ nb, lt-leb 512 t.edges (omega arith), test e, y)
 
 -- ---- entries
-module _ (l : Line) (k : List ℕ) where
+module _ (l : Line) where
   -- the numbers of an entry within the limits of its fields
-  proper-numbers : Proper (entry_with l k) → (l.rule < 32) × (l.state < 16)
+  proper-numbers : Proper (entry_in l) → (l.rule < 32) × (l.state < 16)
   proper-numbers = go l.sort
     where
-      go : (s : Sort) → Proper (entry_as s l.rule (form_with l.obj) l.state k l.next) → (l.rule < 32) × (l.state < 16)
+      go : (s : Sort) → Proper (entry_as s l.rule (form_in l.form) l.state) → (l.rule < 32) × (l.state < 16)
       go End p = p
-      go (Edge v) p = (p.rule, p.state)
+      go (Edge e) p = (p.rule, p.state)
 
-  pub proper-rule : Proper (entry_with l k) → l.rule < 32
+  pub proper-rule : Proper (entry_in l) → l.rule < 32
   proper-rule p = (proper-numbers p).0
 
-  pub proper-state : Proper (entry_with l k) → l.state < 16
+  pub proper-state : Proper (entry_in l) → l.state < 16
   proper-state p = (proper-numbers p).1
 
-  module _ (v : ValueKind) (is : l.sort ≡ Edge v) where
+  module _ (e : EdgeLine) (is : l.sort ≡ Edge e) where
     -- an edge
-    entry_with-edge : entry_with l k ≡ edge l.rule (form_with l.obj) l.state k v l.next
-    entry_with-edge = rw is
+    entry_in-edge : entry_in l ≡ edge l.rule (form_in l.form) l.state e.key.now e.kind e.next
+    entry_in-edge = rw is
 
-    proper-edge : Proper (entry_with l k) → ProperEdge l.rule (form_with l.obj) l.state k v l.next
-    proper-edge p = rw entry_with-edge at p
+    proper-edge : Proper (entry_in l) → ProperEdge l.rule (form_in l.form) l.state e.key.now e.kind e.next
+    proper-edge p = rw entry_in-edge at p
 
-    pub proper-len : Proper (entry_with l k) → length k ≤ 32
+    pub proper-len : Proper (entry_in l) → length e.key.now ≤ 32
     proper-len p = (proper-edge p).len
 
     -- the code of the edge's kind is a byte
-    pub proper-code : (c : ℕ) → c ≡ code_of v → Proper (entry_with l k) → c < 256
+    pub proper-code : (c : ℕ) → c ≡ code_of e.kind → Proper (entry_in l) → c < 256
     proper-code c q p = let h = (proper-edge p).kind in omega arith
 
-module _ (n : ℕ) (t : Table) (l : Line) (k : List ℕ) (f : ℕ) (qf : f ≡ form_code (form_with l.obj)) (b : Bool)
+module _ (n : ℕ) (t : Table) (l : Line) (f : ℕ) (qf : f ≡ form_code (form_in l.form)) (b : Bool)
     (x : ℕ) (qx : x ≡ get_or t.forms l.rule 0) (qy : b ≡ form_changes x f) where
-  test-form : {y : Bool} → b ≡ y → form_changes (get_or t.forms l.rule 0) (form_code (form_with l.obj)) ≡ y
+  test-form : {y : Bool} → b ≡ y → form_changes (get_or t.forms l.rule 0) (form_code (form_in l.form)) ≡ y
   test-form e = sym (ap (form_changes (get_or t.forms l.rule 0)) qf) ∙ sym (qy ∙ ap (λ (i : ℕ). form_changes i f) qx) ∙ e
 
-  pub take_entry-form : b ≡ true → taken 6 t ≡ take_entry n t (entry_with l k)
+  pub take_entry-form : b ≡ true → taken 6 t ≡ take_entry n t (entry_in l)
   unfolding take_entry
   take_entry-form e = go l.sort
     where
-      go : (s : Sort) → taken 6 t ≡ take_entry n t (entry_as s l.rule (form_with l.obj) l.state k l.next)
+      go : (s : Sort) → taken 6 t ≡ take_entry n t (entry_as s l.rule (form_in l.form) l.state)
       go End = rw (test-form e)
       go (Edge v) = rw (test-form e)
 
   module _ (nb : b ≡ false) where
-    pub take_entry-edge : (v : ValueKind) (m c : ℕ) (w : Taken) → l.sort ≡ Edge v → m ≡ key_number (table_keys t) k → c ≡ code_of v
-        → w ≡ take_edge n t f (record { rule = l.rule; state = l.state; key = m; kind = c; next = l.next }) k → w ≡ take_entry n t (entry_with l k)
+    pub take_entry-edge : (v : EdgeLine) (m c : ℕ) (w : Taken) → l.sort ≡ Edge v → m ≡ key_number (table_keys t) v.key.now → c ≡ code_of v.kind
+        → w ≡ take_edge n t f (record { rule = l.rule; state = l.state; key = m; kind = c; next = v.next }) v.key.now → w ≡ take_entry n t (entry_in l)
     unfolding take_entry
     take_entry-edge v m c w is qm qc e = e ∙ rw (is, test-form nb, qc, sym qm, qf)
 
-    pub take_entry-end : (w : Taken) → l.sort ≡ End → w ≡ take_end t l.rule f l.state → w ≡ take_entry n t (entry_with l k)
+    pub take_entry-end : (w : Taken) → l.sort ≡ End → w ≡ take_end t l.rule f l.state → w ≡ take_entry n t (entry_in l)
     unfolding take_entry
     take_entry-end w is e = e ∙ rw (is, test-form nb, qf)

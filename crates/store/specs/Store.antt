@@ -1,6 +1,6 @@
 -- Entries put into a table, one after the other, as the code does it. Derived: `loaded-holds` of crate load says what the table of a book holds.
 -- Assumes nothing.
-use Rattle.std.specs.Prelude.{Bool, not, cond, ◌&&◌, List, [], ◌∷◌, ℕ, zero, suc, ◌+◌, ◌*◌, leb, eqb, length, get_or}
+use Rattle.std.specs.Prelude.{Bool, not, cond, ◌&&◌, List, [], ◌∷◌, ℕ, zero, suc, ◌+◌, ◌*◌, leb, eqb, length, get_or, Result, Ok, Err}
 use Rattle.std.specs.List.{list_any, range_with_len}
 use Rattle.laws.specs.Bits.{bit_at}
 use Rattle.table.specs.Table.{Table}
@@ -8,6 +8,8 @@ use Rattle.table.specs.Flat.{empty_table}
 use Rattle.table.specs.Kind.{code_of}
 use Rattle.table.specs.Keys.{table_keys}
 use Rattle.book.specs.Entry.{Entry, edge, end_state}
+use Rattle.line.specs.declared.Fault.{Fault}
+use Rattle.line.specs.Line.{fault_number}
 use Rattle.book.specs.Holds.{key_number, form_code}
 use Rattle.table.specs.declared.flat.Cell.{Cell}
 use Rattle.table.specs.Cells.{with_end, with_edge, with_key}
@@ -52,6 +54,11 @@ pub record Taken : Type 0 where
 
 abbrev pub taken : ℕ → Table → Taken
 taken k t = record { fault = k; table = t }
+
+-- the number of a refusal; 0 is none
+abbrev pub fault_of : {A : Type 0} → Result A Fault → ℕ
+fault_of (Ok x) = 0
+fault_of (Err f) = fault_number f
 
 -- the numbers of an edge with key k
 abbrev pub cell_for : Table → ℕ → ℕ → List ℕ → ℕ → ℕ → Cell

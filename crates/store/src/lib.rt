@@ -5,11 +5,11 @@ ghost use Rattle.std.specs.Prelude.{◌&&◌, ◌≡◌, ◌+◌, ◌*◌, ◌<�
 ghost use Rattle.table.specs.Limits.{WithinLimits};
 ghost use Rattle.table.specs.Keys.{table_keys};
 ghost use Rattle.book.specs.Holds.{key_number, form_code};
-ghost use Rattle.line.specs.Line.{form_with, entry_with};
+ghost use Rattle.line.specs.Line.{form_in, entry_in};
 ghost use Rattle.store.specs.Proper.{Proper};
-ghost use Rattle.store.specs.Store.{has_cell, is_new, form_changes, taken, take_edge, take_end, take_entry};
+ghost use Rattle.store.specs.Store.{has_cell, is_new, form_changes, taken, fault_of, take_edge, take_end, take_entry};
 
-use line::{Line, Sort};
+use line::{Fault, Form, Line, Sort};
 use table::flat::{Cell, Table};
 
 // ---- edges
@@ -37,94 +37,91 @@ fn key_number(table: &Table, key: &[u8]) -> usize
 }
 
 // A key of n bytes with number k is new after m keys.
+#[tactic(auto, unfolding(crate::specs::Store::is_new))]
 fn is_new(n: usize, k: usize, m: usize) -> bool
     ensures { result ≡ is_new n k m }
 {
-    if n == 0 {
-        return false;
-    }
-    k == m
+    n != 0 && k == m
 }
 
 // ---- entries
 
-fn form_code(obj: bool) -> u8
-    ensures { result ≡ form_code (form_with obj) }
+// The code of a form in a table; 0 stands for none there.
+#[tactic(auto, unfolding(book::specs::Holds::form_code))]
+fn form_code(form: Form) -> u8
+    ensures { result ≡ form_code (form_in form) }
 {
-    if obj { 1 } else { 2 }
+    match form {
+        Form::Obj => 1,
+        Form::Arr => 2,
+    }
 }
 
+// A rule with lines has another form.
+#[tactic(auto, unfolding(crate::specs::Store::form_changes))]
 fn form_changes(old: u8, new: u8) -> bool
     ensures { result ≡ form_changes old new }
 {
-    if old == 0 {
-        return false;
-    }
-    old != new
+    old != 0 && old != new
 }
 
 // An end state; or the fault of it, and the table as it was.
-fn take_end(table: &mut Table, rule: u8, form: u8, state: u8) -> u8
+fn take_end(table: &mut Table, rule: u8, form: u8, state: u8) -> Result<(), Fault>
     requires { (rule < 32) × (state < 16) }
-    ensures { taken result table.new ≡ take_end table.old rule form state }
+    ensures { taken (fault_of result) table.new ≡ take_end table.old rule form state }
 {
-    let r = rule as usize;
-    let q = state as usize;
-    if table.is_end(16 * r + q) {
-        return 7;
+    if table.is_end(16 * rule as usize + state as usize) {
+        return Err(Fault::Repeated);
     }
     table.with_end(rule, form, state);
-    0
+    Ok(())
 }
 
 // An edge whose key has the number in its cell; or the fault of it, and the table as it was.
-fn take_edge(table: &mut Table, line: u16, form: u8, c: Cell, key: &[u8]) -> u8
+fn take_edge(table: &mut Table, line: u16, form: u8, c: Cell, key: &[u8]) -> Result<(), Fault>
     requires { WithinLimits table.old × (c.rule < 32) × (length key.now ≤ 32) }
-    ensures { taken result table.new ≡ take_edge line table.old form c key.now }
+    ensures { taken (fault_of result) table.new ≡ take_edge line table.old form c key.now }
 {
     let edges = table.edges();
     let keys = table.keys();
     if has_cell(table, c) {
-        return 7;
+        return Err(Fault::Repeated);
     }
     if 512 <= edges {
-        return 5;
+        return Err(Fault::TooMany);
     }
     if is_new(key.len(), c.key as usize, keys) {
         if 128 <= keys {
-            return 5;
+            return Err(Fault::TooMany);
         }
         table.with_key(key);
         table.with_edge(form, c, line);
-        return 0;
+        return Ok(());
     }
     table.with_edge(form, c, line);
-    0
+    Ok(())
 }
 
-// The entry of a line whose key is given; or the fault of it, and the table as it was.
-pub fn take_entry(table: &mut Table, line: u16, l: Line, key: &[u8]) -> u8
-    requires { WithinLimits table.old × Proper (entry_with l key.now) }
-    ensures { taken result table.new ≡ take_entry line table.old (entry_with l key.now) }
+// The entry of a line; or the fault of it, and the table as it was.
+pub fn take_entry(table: &mut Table, n: u16, l: &Line) -> Result<(), Fault>
+    requires { WithinLimits table.old × Proper (entry_in l.now) }
+    ensures { taken (fault_of result) table.new ≡ take_entry n table.old (entry_in l.now) }
 {
-    let form = form_code(l.obj);
-    let at = l.rule as usize;
-    if form_changes(table.form(at), form) {
-        return 6;
+    let form = form_code(l.form);
+    if form_changes(table.form_of(l.rule), form) {
+        return Err(Fault::FormChanged);
     }
-    let sort = l.sort;
-    match sort {
+    match l.sort {
         Sort::End => take_end(table, l.rule, form, l.state),
-        Sort::Edge(v) => {
-            let k = key_number(table, key);
+        Sort::Edge(e) => {
             let c = Cell {
                 rule: l.rule,
                 state: l.state,
-                key: k as u8,
-                kind: v.code() as u8,
-                next: l.next,
+                key: key_number(table, e.key) as u8,
+                kind: e.kind.code() as u8,
+                next: e.next,
             };
-            take_edge(table, line, form, c, key)
+            take_edge(table, n, form, c, e.key)
         }
     }
 }

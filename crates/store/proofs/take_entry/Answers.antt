@@ -3,9 +3,6 @@ use Rattle.store.proofs.StoreLaws.{take_entry-form, take_entry-edge, take_entry-
 use borrow.Author.Rules.{rules}
 use Rattle.store.proofs.take_entry.Goals as goal
 
-pub form-requires : goal.form-requires
-form-requires c = search (rules, proper-rule)
-
 pub returns-then-form_changes : goal.returns-then-form_changes
 returns-then-form_changes c = search (rules, take_entry-form)
 

@@ -16,9 +16,11 @@ use Rattle.book.specs.Line.{formed, small, entry_of, Said, bad, good, say_fields
 use Rattle.book.specs.Load.{changes_form, same_entry, has_too_many, fault_of, Read, refused, entries, read_on, read_lines, names_line, read_book, dangles, first_line, first_clash, PaperAnswer as Paper, refuse, check_book, checked, loads}
 use Rattle.book.specs.Holds.{rule_form}
 use Rattle.book.proofs.HoldLaws.{has_rule-rule_form}
-use Rattle.load.specs.declared.BookAnswer.{BookAnswer}
-use Rattle.load.specs.declared.BookAnswer.TheVariants.{Size, Names, Malformed, NoRule, NoRoot, NotAscending}
-use Rattle.load.specs.BookAnswer.{Numbered, number_line, numbered, answer_for}
+use Rattle.load.specs.BookAnswer.{BookAnswer}
+use Rattle.std.proofs.Common.{Err}
+use Rattle.load.specs.declared.Refusal.{Refusal}
+use Rattle.load.specs.declared.Refusal.TheVariants.{Size, Names, Malformed, AboveLimit, TooMany, FormChanged, Repeated, NoRule, NoRoot, NotAscending}
+use Rattle.load.specs.BookAnswer.{Numbered, number_line, refused_as, numbered, answer_for}
 use Rattle.store.specs.Proper.{ProperSaid}
 use Rattle.load.specs.Ranges.{Ranges}
 use Rattle.store.specs.Store.{take_entry, table_from, table_of}
@@ -37,7 +39,7 @@ pub record Answers (a : BookAnswer) (k n : ℕ) : Type 0 where
   pub has : numbered a ≡ number_line k n
 
 abbrev HasAnswer : ℕ → Type 0
-HasAnswer k = (n : ℕ) → Answers (line_refusal k n) k n
+HasAnswer k = (n : ℕ) → Answers (Err (line_refusal k n)) k n
 
 abbrev BadSaid : Said → Type 0
 BadSaid (bad k) = HasAnswer k × (k ≡ 0 → ⊥)
@@ -101,12 +103,12 @@ table_of-last n es e q = table_from-last 2 empty_table es e ∙ ap (λ (i : ℕ)
 
 -- the code's answer is the paper's: the refusal with its number and line and the empty table, or the table of the entries
 abbrev pub Agree : Loaded → Read → Type 0
-Agree r (refused k n) = (a : BookAnswer) × (r ≡ refusal a) × Answers a k n × (k ≡ 0 → ⊥)
+Agree r (refused k n) = (a : Refusal) × (r ≡ refusal a) × Answers (Err a) k n × (k ≡ 0 → ⊥)
 Agree r (entries es) = (r ≡ loaded (table_of es)) × Loading (table_of es) es
 
 module _ (n : ℕ) (es : List Entry) (q : n ≡ 2 + length es) (kept : Loading (table_of es) es) (f : Table → Loaded) (g : Entry → Read)
     (ih : (e : Entry) → Loading (table_of (es ++ (e ∷ []))) (es ++ (e ∷ [])) → Agree (f (table_of (es ++ (e ∷ [])))) (g e)) where
-  on_line : (a : BookAnswer) (k : ℕ) → Answers a k n → Answers a k (length es + 2)
+  on_line : (a : Refusal) (k : ℕ) → Answers (Err a) k n → Answers (Err a) k (length es + 2)
   on_line a k h = let e : length es + 2 ≡ n = omega arith in rw e h
 
   said-agrees : (s : Said) → ProperSaid s → BadSaid s → Agree (take_on n (take_said n (table_of es) s) f) (read_on es (length es + 2) s g)
@@ -123,7 +125,7 @@ module _ (n : ℕ) (es : List Entry) (q : n ≡ 2 + length es) (kept : Loading (
           let w = eqb-false (fault_of es e) 0 z in
           (line_refusal (fault_of es e) n, refl, on_line (line_refusal (fault_of es e) n) (fault_of es e) (fault_of-answer es e w n), w)
 
-malformed : (n m : ℕ) → n ≡ m → Answers (Malformed n) 3 m
+malformed : (n m : ℕ) → n ≡ m → Answers (Err (Malformed n)) 3 m
 unfolding answer_for
 malformed n m q = rw q (record { is = refl; has = refl })
 
@@ -174,7 +176,7 @@ record As (r : Loaded) (p : Paper) : Type 0 where
   answers : Answers r.answer p.number p.line
   table : r.table ≡ paper_table p
 
-refusal-as : (a : BookAnswer) (k n : ℕ) → Answers a k n → (k ≡ 0 → ⊥) → As (refusal a) (refuse k n)
+refusal-as : (a : Refusal) (k n : ℕ) → Answers (Err a) k n → (k ≡ 0 → ⊥) → As (refusal a) (refuse k n)
 unfolding paper_table
 refusal-as a k n e h = record { answers = e; table = rw (ne_eqb k 0 h) }
 
@@ -209,8 +211,21 @@ loads-numbered b = go (read_book b) (book-agrees b)
     back a k n h = ap numbered (sym h.is) ∙ h.has
 
     go : (p : Read) → Agree (take_book b) p → numbered (answer_for (checked p).number (checked p).line) ≡ number_line (checked p).number (checked p).line
-    go (refused k n) a = back a.0 k n a.2
+    go (refused k n) a = back (Err a.0) k n a.2
     go (entries es) a = back _ _ _ (check-as es a.1).answers
+
+-- a refusal has a number
+pub refusal-some : (r : Refusal) → (refused_as r).number ≡ 0 → ⊥
+refusal-some Size e = omega arith
+refusal-some Names e = omega arith
+refusal-some (Malformed n) e = omega arith
+refusal-some (AboveLimit n) e = omega arith
+refusal-some (TooMany n) e = omega arith
+refusal-some (FormChanged n) e = omega arith
+refusal-some (Repeated n) e = omega arith
+refusal-some (NoRule n) e = omega arith
+refusal-some NoRoot e = omega arith
+refusal-some (NotAscending n) e = omega arith
 
 module _ (b : List ℕ) (r : Loaded) (q : r ≡ take_book b) (k : ℕ) (w : k ≡ (numbered r.answer).number) where
   number_is : {a : Loaded} → take_book b ≡ a → k ≡ (numbered a.answer).number

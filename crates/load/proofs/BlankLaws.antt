@@ -10,7 +10,7 @@ use Rattle.table.specs.Flat.{empty_table}
 use Rattle.table.specs.Bytes.{bytes_of}
 use Rattle.table.specs.Inverse.{bytes_of-inside}
 use Rattle.table.proofs.PlaceLaws.{zeros-inside}
-use Rattle.load.specs.declared.BookAnswer.{BookAnswer}
+use Rattle.load.specs.BookAnswer.{BookAnswer}
 use Rattle.load.specs.Step.{loaded_as}
 use Rattle.load.specs.Loads.{LoadsAs, Blank}
 use Rattle.load.proofs.LoadedLaws.{loads-kept, table-of-entries, refused-table}

@@ -13,7 +13,7 @@ use Rattle.table.specs.Kind.{kind_of}
 use Rattle.table.specs.declared.kind.Scalar.{Scalar}
 use Rattle.table.specs.declared.kind.ValueKind.{ValueKind}
 use Rattle.table.specs.declared.kind.ValueKind.TheVariants.{Plain, Rule}
-use Rattle.load.specs.declared.BookAnswer.TheVariants.{NoRule, NoRoot, NotAscending}
+use Rattle.load.specs.declared.Refusal.TheVariants.{NoRule, NoRoot, NotAscending}
 use Rattle.store.specs.Store.{first_at}
 use Rattle.load.specs.Step.{Loaded, loaded, refusal}
 use Rattle.load.specs.Check.{dangles_kind, dangles_at, clash_codes, clash_at, clashes_at, late_at, line_at, dangling_line, clash_line, check_table}

@@ -4,7 +4,7 @@ use Rattle.table.specs.Table.{Table}
 use Rattle.table.specs.Kind.{kind_of}
 use Rattle.table.specs.declared.kind.ValueKind.{ValueKind}
 use Rattle.table.specs.declared.kind.ValueKind.TheVariants.{Plain, Rule}
-use Rattle.load.specs.declared.BookAnswer.TheVariants.{NoRule, NoRoot, NotAscending}
+use Rattle.load.specs.declared.Refusal.TheVariants.{NoRule, NoRoot, NotAscending}
 use Rattle.store.specs.Store.{some, first_at}
 use Rattle.load.specs.Step.{Loaded, loaded, refusal}
 

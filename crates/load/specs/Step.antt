@@ -1,6 +1,6 @@
 -- Reading a book into a table, line by line, as the code does it. Derived: `AgreeLaws.book-agrees` joins it to
 -- `read_book` of the book. Assumes nothing.
-use Rattle.std.specs.Prelude.{cond, ◌||◌, List, [], ◌∷◌, ℕ, suc, ltb, eqb, length, take, drop}
+use Rattle.std.specs.Prelude.{cond, ◌||◌, List, [], ◌∷◌, ℕ, suc, ltb, eqb, length, take, drop, Ok, Err}
 use Rattle.laws.specs.Lists.{same}
 use Rattle.table.specs.Table.{Table}
 use Rattle.table.specs.Flat.{empty_table}
@@ -8,8 +8,9 @@ use Rattle.book.specs.Text.{is_empty, split}
 use Rattle.book.specs.Line.{Said, bad, good, say_line}
 use Rattle.book.specs.Load.{names_line}
 use Rattle.store.specs.Store.{Taken, taken, take_entry}
-use Rattle.load.specs.declared.BookAnswer.{BookAnswer}
-use Rattle.load.specs.declared.BookAnswer.TheVariants.{Accepted, Size, Names, Malformed, AboveLimit, TooMany, FormChanged, Repeated}
+use Rattle.load.specs.BookAnswer.{BookAnswer}
+use Rattle.load.specs.declared.Refusal.{Refusal}
+use Rattle.load.specs.declared.Refusal.TheVariants.{Size, Names, Malformed, AboveLimit, TooMany, FormChanged, Repeated}
 
 -- ---- one line
 
@@ -20,8 +21,8 @@ take_said n t (good e) = take_entry n t e
 
 -- ---- all lines
 
--- the answer for a fault of line n
-unfoldable pub line_refusal : ℕ → ℕ → BookAnswer
+-- the refusal for a fault of line n
+unfoldable pub line_refusal : ℕ → ℕ → Refusal
 line_refusal k n =
     cond (eqb k 3) (Malformed n) (cond (eqb k 4) (AboveLimit n) (cond (eqb k 6) (FormChanged n) (cond (eqb k 7) (Repeated n) (TooMany n))))
 
@@ -34,10 +35,10 @@ abbrev pub loaded_as : BookAnswer → Table → Loaded
 loaded_as a t = record { answer = a; table = t }
 
 abbrev pub loaded : Table → Loaded
-loaded t = loaded_as Accepted t
+loaded t = loaded_as (Ok tt) t
 
-abbrev pub refusal : BookAnswer → Loaded
-refusal a = loaded_as a empty_table
+abbrev pub refusal : Refusal → Loaded
+refusal a = loaded_as (Err a) empty_table
 
 -- the rest of the book after line n, where the line is taken
 unfoldable pub take_on : ℕ → Taken → (Table → Loaded) → Loaded

@@ -3,7 +3,7 @@ ghost use Rattle.std.specs.Prelude.{◌≡◌, ◌≤◌, ◌<◌, get_or};
 ghost use Rattle.load.specs.Step.{loaded_as};
 ghost use Rattle.load.specs.Check.{dangles_kind, clash_codes, clash_at, clashes_at, late_at, dangling_line, clash_line, check_table};
 
-use crate::{BookAnswer, read};
+use crate::{Refusal, read};
 use table::flat::Table;
 use table::kind::ValueKind;
 
@@ -99,20 +99,20 @@ fn clash_line(table: &Table) -> usize
 }
 
 // The table, or refusals 8 and 9.
-pub fn check_table(table: &mut Table) -> BookAnswer
+pub fn check_table(table: &mut Table) -> Result<(), Refusal>
     requires { table.old.edges ≤ 512 }
     ensures { loaded_as result table.new ≡ check_table table.old }
 {
     let d = dangling_line(table);
     if d != 0 {
-        return read::refusal(table, BookAnswer::NoRule(d));
+        return read::refusal(table, Refusal::NoRule(d));
     }
     if table.form(0) == 0 {
-        return read::refusal(table, BookAnswer::NoRoot);
+        return read::refusal(table, Refusal::NoRoot);
     }
     let c = clash_line(table);
     if c != 0 {
-        return read::refusal(table, BookAnswer::NotAscending(c));
+        return read::refusal(table, Refusal::NotAscending(c));
     }
-    BookAnswer::Accepted
+    Ok(())
 }

@@ -55,7 +55,9 @@ module _ (c : ℕ) where
       go : (b : Bool) → ltb (at s) (length s) ≡ b → cond b (Some (at s)) None ≡ Some i → FirstPart c s (take i s) (take (length s - (i + 1)) (drop (i + 1) s))
       go true l q =
           let z : at s ≡ i = cc in
-          rw (← z) (record { parts = rw (take_all (length s - (at s + 1)) (drop (at s + 1) s) (omega (arith, length-drop (at s + 1) s))) (split_at s (ltb-true (at s) (length s) l)) })
+          let h = ltb-true (at s) (length s) l in
+          rw (← z) (rw (take_all (length s - (at s + 1)) (drop (at s + 1) s) (omega (arith, length-drop (at s + 1) s)))
+          (record { parts = split_at s h; shorter = omega (arith, length-drop (at s + 1) s) }))
       go false l q = absurd (cc)
 
 -- ---- every byte

@@ -1,5 +1,5 @@
 -- What the scans of a field give. Derived: `FieldLaws` and `ScanLaws` join each to the tests and numbers of a book. Assumes nothing.
-use Rattle.std.specs.Prelude.{cond, Option, Some, None, List, ◌≡◌, ℕ, ltb}
+use Rattle.std.specs.Prelude.{cond, Option, Some, None, List, ◌∷◌, ◌≡◌, ℕ, ◌<◌, ltb, length}
 use Rattle.std.specs.Prelude.{◌∷◌}
 use Rattle.laws.specs.Lists.{same}
 use Rattle.table.specs.declared.kind.Scalar.{Scalar}
@@ -29,3 +29,4 @@ word_of s =
 -- the parts of s between bytes c are first, and those of rest
 pub record FirstPart (c : ℕ) (s first rest : List ℕ) : Type 0 where
   pub parts : split c s ≡ first ∷ split c rest
+  pub shorter : length rest < length s

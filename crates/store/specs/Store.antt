@@ -56,9 +56,9 @@ abbrev pub taken : ℕ → Table → Taken
 taken k t = record { fault = k; table = t }
 
 -- the number of a refusal; 0 is none
-abbrev pub fault_of : {A : Type 0} → Result A Fault → ℕ
-fault_of (Ok x) = 0
-fault_of (Err f) = fault_number f
+abbrev pub fault_in : {A : Type 0} → Result A Fault → ℕ
+fault_in (Ok x) = 0
+fault_in (Err f) = fault_number f
 
 -- the numbers of an edge with key k
 abbrev pub cell_for : Table → ℕ → ℕ → List ℕ → ℕ → ℕ → Cell

@@ -7,7 +7,7 @@ ghost use Rattle.table.specs.Keys.{table_keys};
 ghost use Rattle.book.specs.Holds.{key_number, form_code};
 ghost use Rattle.line.specs.Line.{form_in, entry_in};
 ghost use Rattle.store.specs.Proper.{Proper};
-ghost use Rattle.store.specs.Store.{has_cell, is_new, form_changes, taken, fault_of, take_edge, take_end, take_entry};
+ghost use Rattle.store.specs.Store.{has_cell, is_new, form_changes, taken, fault_in, take_edge, take_end, take_entry};
 
 use line::{Fault, Form, Line, Sort};
 use table::flat::{Cell, Table};
@@ -68,7 +68,7 @@ fn form_changes(old: u8, new: u8) -> bool
 // An end state; or the fault of it, and the table as it was.
 fn take_end(table: &mut Table, rule: u8, form: u8, state: u8) -> Result<(), Fault>
     requires { (rule < 32) × (state < 16) }
-    ensures { taken (fault_of result) table.new ≡ take_end table.old rule form state }
+    ensures { taken (fault_in result) table.new ≡ take_end table.old rule form state }
 {
     if table.is_end(16 * rule as usize + state as usize) {
         return Err(Fault::Repeated);
@@ -80,7 +80,7 @@ fn take_end(table: &mut Table, rule: u8, form: u8, state: u8) -> Result<(), Faul
 // An edge whose key has the number in its cell; or the fault of it, and the table as it was.
 fn take_edge(table: &mut Table, line: u16, form: u8, c: Cell, key: &[u8]) -> Result<(), Fault>
     requires { WithinLimits table.old × (c.rule < 32) × (length key.now ≤ 32) }
-    ensures { taken (fault_of result) table.new ≡ take_edge line table.old form c key.now }
+    ensures { taken (fault_in result) table.new ≡ take_edge line table.old form c key.now }
 {
     let edges = table.edges();
     let keys = table.keys();
@@ -105,7 +105,7 @@ fn take_edge(table: &mut Table, line: u16, form: u8, c: Cell, key: &[u8]) -> Res
 // The entry of a line; or the fault of it, and the table as it was.
 pub fn take_entry(table: &mut Table, n: u16, l: &Line) -> Result<(), Fault>
     requires { WithinLimits table.old × Proper (entry_in l.now) }
-    ensures { taken (fault_of result) table.new ≡ take_entry n table.old (entry_in l.now) }
+    ensures { taken (fault_in result) table.new ≡ take_entry n table.old (entry_in l.now) }
 {
     let form = form_code(l.form);
     if form_changes(table.form_of(l.rule), form) {

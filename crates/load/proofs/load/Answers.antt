@@ -1,16 +1,24 @@
 -- `load` meets its contract: what is read agrees with the paper, and what is accepted is checked. Assumes nothing.
-use Rattle.load.proofs.AgreeLaws.{book-ranges, load-checked, load-refused}
-use Rattle.load.proofs.BlankLaws.{loads-blank}
+use mathlib.Core.Path.{refl}
+use Rattle.std.proofs.Common.{Err}
+use Rattle.std.proofs.lemmas.Result.{err_from_is_err_and}
 use Rattle.load.specs.Loads.{LoadsAs}
 use Rattle.load.specs.Step.{loaded_as}
-use borrow.Author.Rules.{rules}
+use Rattle.load.proofs.AgreeLaws.{book-ranges, load-checked, load-refused, refusal-some}
+use Rattle.load.proofs.BlankLaws.{loads-blank}
 use Rattle.load.proofs.load.Goals as goal
 
 pub check_table-requires : goal.check_table-requires
-check_table-requires c = (book-ranges _ _ c.take_book-a.ensures).edges
-
-pub returns-then-number_of-eq0 : goal.returns-then-number_of-eq0
-returns-then-number_of-eq0 c = let z : LoadsAs c.args.book.now (loaded_as c.check_table.result c.check_table.new.table) = search (rules, load-checked) in record { loads_as = z; blank = loads-blank _ _ _ z }
+check_table-requires c = (book-ranges _ _ c.take_book.ensures).edges
 
 pub returns : goal.returns
-returns c = let z : LoadsAs c.args.book.now (loaded_as c.take_book-a.result c.take_book-a.new.table) = search (rules, load-refused) in record { loads_as = z; blank = loads-blank _ _ _ z }
+returns c =
+    let z : LoadsAs c.args.book.now (loaded_as c.check_table.result c.check_table.new.table) = load-checked _ _ c.in_ok-take_book.ensures 0 refl _ refl c.check_table.ensures in
+    record { loads_as = z; blank = loads-blank _ _ _ z }
+
+pub returns-in_err-take_book : goal.returns-in_err-take_book
+returns-in_err-take_book c =
+    let r = c.in_err-take_book.field-0.0 in
+    let p = err_from_is_err_and c.from_residual.result c.from_residual.ensures.1 in
+    let z : LoadsAs c.args.book.now (loaded_as (Err r) c.take_book.new.table) = load-refused _ _ c.in_err-take_book.ensures _ refl (refusal-some r) in
+    rw (p.1, p.2) (record { loads_as = z; blank = loads-blank _ _ _ z })

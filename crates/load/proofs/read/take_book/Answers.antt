@@ -1,19 +1,15 @@
--- `read::take_book` meets its contract: length and names line first, then the lines. Assumes nothing.
-use Rattle.load.proofs.ReadLaws.{book-empty, book-long, book-short, book-other, book-lines}
-use borrow.Author.Rules.{rules}
+-- `read::take_book` meets its contract. Assumes nothing.
+use Rattle.load.proofs.ReadLaws.{book-size, book-other, book-lines}
+use mathlib.Core.Path.{refl}
 use Rattle.load.proofs.read.take_book.Goals as goal
 
-pub returns-then-b-eq0 : goal.returns-then-b-eq0
-returns-then-b-eq0 c = search (rules, book-empty)
+pub returns-then-is_empty-b : goal.returns-then-is_empty-b
+returns-then-is_empty-b c = book-size _ _ _ _ c.is_empty.ensures refl c.if-is_empty-b.true c.refusal.ensures
 
-pub returns-then-b-gt65536 : goal.returns-then-b-gt65536
-returns-then-b-gt65536 c = search (rules, book-long)
+pub returns-in-Some : goal.returns-in-Some
+returns-in-Some c =
+    let s = c.in-Some.ensures.cases in
+    book-lines _ _ _ _ c.is_empty.ensures refl c.if-is_empty-b.false _ c.as_slice.ensures _ s.0 _ refl s.1 c.take_lines.ensures
 
-pub returns-then-b-lt31 : goal.returns-then-b-lt31
-returns-then-b-lt31 c = search (rules, book-short)
-
-pub returns-then-equal : goal.returns-then-equal
-returns-then-equal c = search (rules, book-lines)
-
-pub returns : goal.returns
-returns c = search (rules, book-other)
+pub returns-in-None : goal.returns-in-None
+returns-in-None c = book-other _ _ _ _ c.is_empty.ensures refl c.if-is_empty-b.false _ c.as_slice.ensures _ c.in-None.ensures.cases refl c.refusal-in-None.ensures

@@ -1,13 +1,13 @@
--- `read::take_line` meets its contract: a faulty line leaves the table, any other is taken as the entry that it says. Assumes nothing.
-use Rattle.load.proofs.ReadLaws.{line-fault, line-proper, line-entry}
+-- `read::take_line` meets its contract. Assumes nothing.
+use Rattle.load.proofs.ReadLaws.{line-proper, line-entry, line-fault}
 use borrow.Author.Rules.{rules}
 use Rattle.load.proofs.read.take_line.Goals as goal
 
-pub returns-then-fault-ne0 : goal.returns-then-fault-ne0
-returns-then-fault-ne0 c = search (rules, line-fault)
-
 pub take_entry-requires : goal.take_entry-requires
-take_entry-requires c = (search rules, search (rules, line-proper))
+take_entry-requires c = (search rules, line-proper _ _ c.in-Ok.ensures)
 
-pub returns : goal.returns
-returns c = search (rules, line-entry)
+pub returns-in-Ok : goal.returns-in-Ok
+returns-in-Ok c = line-entry _ _ _ _ _ c.in-Ok.ensures c.take_entry.ensures
+
+pub returns-in-Err : goal.returns-in-Err
+returns-in-Err c = line-fault _ _ _ _ c.in-Err.ensures

@@ -1,16 +1,16 @@
 -- `read::take_lines` meets its contract: the lines that are left, into the table so far, give what all give. Each line has at least its LF, so that
--- its number stays below its place. Assumes nothing.
+-- there are no more lines than bytes. Assumes nothing.
 use mathlib.Core.Path.{◌≡◌}
-use Prim.Native.Nat.{◌≤◌, ◌+◌, ◌-◌}
-use lib.ListN.{length, drop}
+use Prim.Native.Nat.{◌≤◌, ◌+◌}
+use lib.ListN.{length}
+use Rattle.table.specs.Flat.{empty_table}
 use Rattle.book.specs.Text.{split}
 use Rattle.load.specs.Ranges.{Ranges}
 use Rattle.load.specs.Step.{take_lines}
-use Rattle.table.specs.Flat.{empty_table}
 use Rattle.load.proofs.read.take_lines.Given as goal
 
-abbrev pub invariant-loop-i : goal.invariant-loop-i
-invariant-loop-i l = (l.i ≤ length l.b) × (l.n + 29 ≤ l.i) × Ranges l.table × (take_lines l.n l.table (split 10 (drop l.i l.b)) ≡ take_lines 2 empty_table (split 10 (drop 31 l.b)))
+abbrev pub invariant-loop-rest : goal.invariant-loop-rest
+invariant-loop-rest l = (l.n + length l.rest ≤ 65507) × Ranges l.table × (take_lines l.n l.table (split 10 l.rest) ≡ take_lines 2 empty_table (split 10 l.lines))
 
-abbrev pub decreases-loop-i : goal.decreases-loop-i
-decreases-loop-i l = length l.b - l.i
+abbrev pub decreases-loop-rest : goal.decreases-loop-rest
+decreases-loop-rest l = length l.rest

@@ -29,7 +29,7 @@ use Rattle.load.specs.Check.{check_table}
 use Rattle.load.specs.Loads.{book_table, LoadsAs}
 use Rattle.load.proofs.ProperLaws.{say_line-proper}
 use Rattle.load.proofs.KeptLaws.{Loading, fault-same, entry_kept, kept-empty}
-use Rattle.load.proofs.OrderLaws.{dangling_line-same, clash_line-same}
+use Rattle.load.proofs.OrderLaws.{dangling-same, clashing-same}
 
 -- ---- faults of a line have their answers
 
@@ -183,7 +183,7 @@ refusal-as a k n e h = record { answers = e; table = rw (ne_eqb k 0 h) }
 check-as : (es : List Entry) → Loading (table_of es) es → As (check_table (table_of es)) (check_book es)
 unfolding check_table check_book paper_table answer_for
 check-as es kept =
-    rw (dangling_line-same (table_of es) es kept, clash_line-same (table_of es) es kept, kept.holds.formed 0 (omega arith), has_rule-rule_form es 0)
+    rw (clashing-same (table_of es) es kept NotAscending (loaded (table_of es)), dangling-same (table_of es) es kept NoRule, kept.holds.formed 0 (omega arith), has_rule-rule_form es 0)
     (go (eqb d 0) (eqb (rule_form es 0) 0) (eqb c 0) refl)
   where
     d : ℕ

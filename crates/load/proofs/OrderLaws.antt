@@ -7,7 +7,7 @@ use native.Mathlib.Numerals.{add-one}
 use native.Mathlib.Omega.{arith}
 use lib.Dec.{eqb, ltb}
 use lib.ListN.{length, get_or, length-append}
-use borrow.Author.Tests.{eqb-true}
+use borrow.Author.Tests.{eqb-true, ne_eqb}
 use Rattle.laws.specs.Lists.{any}
 use Rattle.laws.specs.Tab.{tab}
 use Rattle.table.specs.Table.{Table}
@@ -23,12 +23,49 @@ use Rattle.book.specs.Holds.{Edge, edge_at, table_edges, key_number, edges_from,
 use Rattle.book.proofs.HoldLaws.{Each, each_map, each_append, edges_from-append, FormKept, has_rule-rule_form, form-of-code}
 use Rattle.book.proofs.TruthLaws.{true-not-false}
 use Rattle.store.specs.Proper.{is_arr, Proper}
-use Rattle.store.specs.Store.{first_at}
-use Rattle.load.specs.Check.{dangles_kind, dangles_at, clash_codes, clash_at, clashes_at, late_at, line_at, dangling_line, clash_line}
+use Rattle.load.specs.Check.{dangles_kind, dangles_at, clash_codes, clash_at, clashes_at, late_at, line_at, dangling, clashing, or_refused}
+use Rattle.load.specs.Step.{Loaded, refusal}
+use Rattle.load.specs.declared.Refusal.{Refusal}
+use Rattle.std.proofs.Common.{Some, find}
+use Rattle.std.specs.List.{range_with_len}
 use Rattle.load.proofs.TableLaws.{some-tab, tab-one-more}
 use Rattle.load.proofs.KeptLaws.{Loading}
 
 -- ---- the first edge, and the first entry
+
+-- g at the first of i, i + 1, .., n of them, at which the test passes; 0 where it does at none
+unfoldable first_at : (ℕ → Bool) → (ℕ → ℕ) → ℕ → ℕ → ℕ
+first_at f g i zero = 0
+first_at f g i (suc n) = cond (f i) (g i) (first_at f g (suc i) n)
+
+-- the edge is on a line
+abbrev Lined : Edge → Type 0
+Lined x = x.line ≡ 0 → ⊥
+
+-- what is answered for the first edge that is found, by its line
+found-line : (t : Table) (f : ℕ → Bool) (r : ℕ → Refusal) (v : Loaded) (i n : ℕ) → Each Lined (tab (edge_at t) i n)
+    → or_refused t r (find f (range_with_len i n)) v ≡ cond (eqb (first_at f (line_at t) i n) 0) v (refusal (r (first_at f (line_at t) i n)))
+unfolding first_at
+found-line t f r v i zero h = refl
+found-line t f r v i (suc n) h = rw add-one (go (f i) (found-line t f r v (suc i) n h.1))
+  where
+    go : (b : Bool)
+        → or_refused t r (find f (range_with_len (suc i) n)) v ≡ cond (eqb (first_at f (line_at t) (suc i) n) 0) v (refusal (r (first_at f (line_at t) (suc i) n)))
+        → or_refused t r (cond b (Some i) (find f (range_with_len (suc i) n))) v
+        ≡ cond (eqb (cond b (line_at t i) (first_at f (line_at t) (suc i) n)) 0) v (refusal (r (cond b (line_at t i) (first_at f (line_at t) (suc i) n))))
+    go true ih = rw (ne_eqb (line_at t i) 0 h.0)
+    go false ih = ih
+
+-- the edges of a book are on lines
+lined-from : (ks : List (List ℕ)) (n : ℕ) (l : List Entry) → Each Lined (edges_from ks (suc n) l)
+unfolding edges_from
+lined-from ks n [] = tt
+lined-from ks n (edge r f q k v m ∷ l) = (λ z. omega arith, lined-from ks (suc n) l)
+lined-from ks n (end_state r f q ∷ l) = lined-from ks (suc n) l
+
+lined : (t : Table) (es : List Entry) → Loading t es → Each Lined (tab (edge_at t) 0 t.edges)
+unfolding table_edges edges_of
+lined t es kept = rw kept.holds.edged (lined-from (keys_of es) 1 es)
 
 -- the line of the first edge of which p holds, or 0
 unfoldable first_edge : (Edge → Bool) → List Edge → ℕ
@@ -77,12 +114,17 @@ module _ (t : Table) (es : List Entry) (kept : Loading t es) where
   dangles-tests (edge r f q k v m) p = λ n. dangles_kind-same r f q k v m p.kind
   dangles-tests (end_state r f q) p = refl
 
-  pub dangling_line-same : dangling_line t ≡ first_line (dangles es) 2 es
-  unfolding dangling_line dangles_at table_edges edges_of
+  dangling_line-same : first_at (dangles_at t) (line_at t) 0 t.edges ≡ first_line (dangles es) 2 es
+  unfolding dangles_at table_edges edges_of
   dangling_line-same =
       first_at-tab (dangles_at t) (line_at t) (λ y. dangles_kind t.forms (kind_of y.kind)) (edge_at t) 0 t.edges (λ k. refl) (λ k. refl)
       ∙ ap (first_edge (λ y. dangles_kind t.forms (kind_of y.kind))) kept.holds.edged
       ∙ first_edge-line (keys_of es) (λ y. dangles_kind t.forms (kind_of y.kind)) (dangles es) 2 es (each_map Proper _ dangles-tests es kept.proper)
+
+  pub dangling-same : (r : ℕ → Refusal) (v : Loaded)
+      → or_refused t r (dangling t) v ≡ cond (eqb (first_line (dangles es) 2 es) 0) v (refusal (r (first_line (dangles es) 2 es)))
+  unfolding dangling
+  dangling-same r v = rw (← dangling_line-same) (found-line t (dangles_at t) r v 0 t.edges (lined t es kept))
 
 -- ---- refusal 9
 
@@ -186,8 +228,8 @@ module _ (t : Table) (es : List Entry) (kept : Loading t es) where
       let ih = first_late-line (suc n) (seen ++ (x ∷ [])) l (rw (length-append seen (x ∷ [])) (omega arith)) fine h.1 in
       rw (end-any r f q (seen ++ (x ∷ [])), a) ih
 
-  pub clash_line-same : clash_line t ≡ first_clash (keys_of es) 2 [] es
-  unfolding clash_line table_edges edges_of edges_from
+  clash_line-same : first_at (late_at t) (line_at t) 0 t.edges ≡ first_clash (keys_of es) 2 [] es
+  unfolding table_edges edges_of edges_from
   clash_line-same =
       first_at-late t 0 t.edges
       ∙ ap (first_late t.forms []) kept.holds.edged
@@ -196,3 +238,8 @@ module _ (t : Table) (es : List Entry) (kept : Loading t es) where
       zip : (l : List Entry) → Each Proper l → Each (FormKept es) l → Each Fine l
       zip [] a b = tt
       zip (x ∷ l) a b = ((a.0, b.0), zip l a.1 b.1)
+
+  pub clashing-same : (r : ℕ → Refusal) (v : Loaded)
+      → or_refused t r (clashing t) v ≡ cond (eqb (first_clash (keys_of es) 2 [] es) 0) v (refusal (r (first_clash (keys_of es) 2 [] es)))
+  unfolding clashing
+  clashing-same r v = rw (← clash_line-same) (found-line t (late_at t) r v 0 t.edges (lined t es kept))

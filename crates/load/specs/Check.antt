@@ -1,11 +1,13 @@
 -- Refusals 8 and 9 over a table, as the code finds them. Derived: `OrderLaws` joins them to `check_book` of the book. Assumes nothing.
-use Rattle.std.specs.Prelude.{Bool, false, not, cond, ◌&&◌, ◌||◌, List, ℕ, ◌+◌, ltb, eqb, get_or}
+use Rattle.std.specs.Prelude.{Bool, false, not, cond, ◌&&◌, ◌||◌, List, ℕ, ◌+◌, ltb, eqb, get_or, Option, Some, None, find}
+use Rattle.std.specs.List.{range_with_len}
 use Rattle.table.specs.Table.{Table}
 use Rattle.table.specs.Kind.{kind_of}
 use Rattle.table.specs.declared.kind.ValueKind.{ValueKind}
 use Rattle.table.specs.declared.kind.ValueKind.TheVariants.{Plain, Rule}
+use Rattle.load.specs.declared.Refusal.{Refusal}
 use Rattle.load.specs.declared.Refusal.TheVariants.{NoRule, NoRoot, NotAscending}
-use Rattle.store.specs.Store.{some, first_at}
+use Rattle.store.specs.Store.{some}
 use Rattle.load.specs.Step.{Loaded, loaded, refusal}
 
 -- a kind refers to a rule without lines, where `forms` are the forms of the rules
@@ -38,19 +40,21 @@ late_at t b = some (clashes_at t b) 0 (b + 1)
 abbrev pub line_at : Table → ℕ → ℕ
 line_at t e = get_or t.edge_line e 0
 
--- the line of the first edge that refers to a rule without lines, or 0
-unfoldable pub dangling_line : Table → ℕ
-dangling_line t = first_at (dangles_at t) (line_at t) 0 t.edges
+-- the first edge that refers to a rule without lines
+unfoldable pub dangling : Table → Option ℕ
+dangling t = find (dangles_at t) (range_with_len 0 t.edges)
 
--- the line of the first edge that clashes with one up to it, or 0
-unfoldable pub clash_line : Table → ℕ
-clash_line t = first_at (late_at t) (line_at t) 0 t.edges
+-- the first edge that clashes with one up to it
+unfoldable pub clashing : Table → Option ℕ
+clashing t = find (late_at t) (range_with_len 0 t.edges)
+
+-- a refusal for an edge that was found, with the edge's line, or else what follows
+abbrev pub or_refused : Table → (ℕ → Refusal) → Option ℕ → Loaded → Loaded
+or_refused t r None v = v
+or_refused t r (Some e) v = refusal (r (line_at t e))
 
 -- refusals 8 and 9, or the table
 unfoldable pub check_table : Table → Loaded
 check_table t =
-    cond (eqb (dangling_line t) 0)
-    (cond (eqb (get_or t.forms 0 0) 0)
-    (refusal NoRoot)
-    (cond (eqb (clash_line t) 0) (loaded t) (refusal (NotAscending (clash_line t)))))
-    (refusal (NoRule (dangling_line t)))
+    or_refused t NoRule (dangling t)
+    (cond (eqb (get_or t.forms 0 0) 0) (refusal NoRoot) (or_refused t NotAscending (clashing t) (loaded t)))

@@ -1,13 +1,14 @@
 // The checks after all lines: refusals 8 and 9.
 ghost use Rattle.std.specs.Prelude.{◌≡◌, ◌≤◌, ◌<◌, get_or};
 ghost use Rattle.load.specs.Step.{loaded_as};
-ghost use Rattle.load.specs.Check.{dangles_kind, clash_codes, clash_at, clashes_at, late_at, dangling_line, clash_line, check_table};
+ghost use Rattle.load.specs.Check.{dangles_kind, clash_at, clashes_at, late_at, dangling, clashing, check_table};
 
 use crate::{Refusal, read};
 use table::flat::Table;
 use table::kind::ValueKind;
 
 // A kind refers to a rule without lines. A rule that is past the forms has none.
+#[tactic(auto, unfolding(crate::specs::Check::dangles_kind))]
 fn dangles(table: &Table, kind: ValueKind) -> bool
     ensures { result ≡ dangles_kind table.now.forms kind }
 {
@@ -17,60 +18,35 @@ fn dangles(table: &Table, kind: ValueKind) -> bool
     }
 }
 
-// The line of the first edge that refers to a rule without lines, or 0.
-fn dangling_line(table: &Table) -> usize
+// The first edge that refers to a rule without lines.
+#[tactic(auto, unfolding(crate::specs::Check::dangles_at, crate::specs::Check::dangling))]
+fn dangling(table: &Table) -> Option<usize>
     requires { table.now.edges ≤ 512 }
-    ensures { result ≡ dangling_line table.now }
+    ensures { result ≡ dangling table.now }
 {
-    let n = table.edges();
-    let mut e = 0;
-    while e < n {
-        if dangles(table, ValueKind::from(table.kind(e))) {
-            return table.line(e);
-        }
-        e += 1;
-    }
-    0
-}
-
-// From the form and rule of an edge and the rule of another, the first's next and the second's state, and their keys: the two clash.
-fn clash(form: u8, a: u8, b: u8, next: u8, state: u8, k: u8, m: u8) -> bool
-    ensures { result ≡ clash_codes form a b next state k m }
-{
-    if form == 1 {
-        if a == b {
-            if next == state {
-                return m <= k;
-            }
-        }
-    }
-    false
+    (0..table.edges()).find(|e| dangles(table, ValueKind::from(table.kind(*e))))
 }
 
 // Edge a leads to edge b, and the keys do not rise.
+#[tactic(auto, unfolding(crate::specs::Check::clash_at, crate::specs::Check::clash_codes))]
 fn clash_at(table: &Table, a: usize, b: usize) -> bool
     requires { (a < 512) × (b < 512) }
     ensures { result ≡ clash_at table.now a b }
 {
-    let f = table.form_of(table.rule(a));
-    let ra = table.rule(a);
-    let rb = table.rule(b);
-    let na = table.next(a);
-    let qb = table.state(b);
-    let ka = table.key(a);
-    let kb = table.key(b);
-    clash(f, ra, rb, na, qb, ka, kb)
+    let first = table.cell(a);
+    let second = table.cell(b);
+    let rising = first.key < second.key;
+    (table.form_of(first.rule) == 1)
+        & ((first.rule == second.rule) & ((first.next == second.state) & !rising))
 }
 
 // Edges a and b clash, the one way or the other.
+#[tactic(auto, unfolding(crate::specs::Check::clashes_at))]
 fn clashes_at(table: &Table, b: usize, a: usize) -> bool
     requires { (a < 512) × (b < 512) }
     ensures { result ≡ clashes_at table.now b a }
 {
-    if clash_at(table, a, b) {
-        return true;
-    }
-    clash_at(table, b, a)
+    clash_at(table, a, b) | clash_at(table, b, a)
 }
 
 // Edge b clashes with an edge up to it.
@@ -82,20 +58,13 @@ fn late_at(table: &Table, b: usize) -> bool
     (0..b + 1).any(|a| clashes_at(table, b, a))
 }
 
-// The line of the first edge that clashes with one up to it, or 0.
-fn clash_line(table: &Table) -> usize
+// The first edge that clashes with one up to it.
+#[tactic(auto, unfolding(crate::specs::Check::clashing))]
+fn clashing(table: &Table) -> Option<usize>
     requires { table.now.edges ≤ 512 }
-    ensures { result ≡ clash_line table.now }
+    ensures { result ≡ clashing table.now }
 {
-    let n = table.edges();
-    let mut b = 0;
-    while b < n {
-        if late_at(table, b) {
-            return table.line(b);
-        }
-        b += 1;
-    }
-    0
+    (0..table.edges()).find(|b| late_at(table, *b))
 }
 
 // The table, or refusals 8 and 9.
@@ -103,16 +72,16 @@ pub fn check_table(table: &mut Table) -> Result<(), Refusal>
     requires { table.old.edges ≤ 512 }
     ensures { loaded_as result table.new ≡ check_table table.old }
 {
-    let d = dangling_line(table);
-    if d != 0 {
-        return read::refusal(table, Refusal::NoRule(d));
+    if let Some(e) = dangling(table) {
+        let line = table.line(e);
+        return read::refusal(table, Refusal::NoRule(line));
     }
     if table.form(0) == 0 {
         return read::refusal(table, Refusal::NoRoot);
     }
-    let c = clash_line(table);
-    if c != 0 {
-        return read::refusal(table, Refusal::NotAscending(c));
+    if let Some(e) = clashing(table) {
+        let later = table.line(e);
+        return read::refusal(table, Refusal::NotAscending(later));
     }
     Ok(())
 }

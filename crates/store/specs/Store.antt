@@ -1,6 +1,6 @@
 -- Entries put into a table, one after the other, as the code does it. Derived: `loaded-holds` of crate load says what the table of a book holds.
 -- Assumes nothing.
-use Rattle.std.specs.Prelude.{Bool, not, cond, ◌&&◌, List, [], ◌∷◌, ℕ, zero, suc, ◌+◌, ◌*◌, leb, eqb, length, get_or, Result, Ok, Err}
+use Rattle.std.specs.Prelude.{Bool, not, cond, ◌&&◌, List, [], ◌∷◌, ℕ, suc, ◌+◌, ◌*◌, leb, eqb, length, get_or, Result, Ok, Err}
 use Rattle.std.specs.List.{list_any, range_with_len}
 use Rattle.laws.specs.Bits.{bit_at}
 use Rattle.table.specs.Table.{Table}
@@ -19,11 +19,6 @@ use Rattle.table.specs.Cells.{with_end, with_edge, with_key}
 -- the test passes at one of i, i + 1, .., n of them
 abbrev pub some : (ℕ → Bool) → ℕ → ℕ → Bool
 some f i n = list_any f (range_with_len i n)
-
--- g at the first of i, i + 1, .., n of them, at which the test passes; 0 where it does at none
-unfoldable pub first_at : (ℕ → Bool) → (ℕ → ℕ) → ℕ → ℕ → ℕ
-first_at f g i zero = 0
-first_at f g i (suc n) = cond (f i) (g i) (first_at f g (suc i) n)
 
 -- ---- one line
 

@@ -1,9 +1,8 @@
 -- The test of a table's limits, and the bounds that it gives. Assumes nothing.
-use mathlib.Core.Bool.{true, false}
+use mathlib.Core.Bool.{true}
 use mathlib.Core.Path.{◌≡◌}
-use Prim.Native.Nat.{ℕ, ◌≤◌, ◌<◌}
 use lib.Dec.{T, leb}
-use borrow.Author.Tests.{le-leb, lt-leb, leb-true}
+use borrow.Author.Tests.{le-leb, leb-true}
 use Rattle.laws.proofs.TestLaws.{true-of-T, T-and-left, T-and-right}
 use Rattle.table.specs.Table.{Table}
 use Rattle.table.specs.Limits.{WithinLimits, within_limits}
@@ -23,13 +22,3 @@ within_limits-sound t h =
 pub within_limits-complete : (t : Table) → WithinLimits t → within_limits t ≡ true
 unfolding within_limits
 within_limits-complete t w = rw (le-leb t.edges 512 w.edges, le-leb t.keys 128 w.keys)
-
--- ---- the test in its two steps, over the counts as they are read
-module _ (t : Table) (e : ℕ) (q : e ≡ t.edges) where
-  pub within_limits-few : (k : ℕ) → k ≡ t.keys → e ≤ 512 → leb k 128 ≡ within_limits t
-  unfolding within_limits
-  within_limits-few k r h = rw (← q, ← r, le-leb e 512 h)
-
-  pub within_limits-many : 512 < e → false ≡ within_limits t
-  unfolding within_limits
-  within_limits-many h = rw (← q, lt-leb e 512 h)

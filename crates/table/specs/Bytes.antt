@@ -1,4 +1,5 @@
--- The bytes that a table's numbers stand in, given back: `BytesLaws.bytes_of-table_in` shows that no byte is forgotten. Derived. Assumes nothing.
+-- The bytes that a table's numbers stand in: `table_in` of `Flat` read backwards. Stated; `bytes_of-inside` of `Inverse` shows that the one undoes the other, so
+-- that a table's numbers forget no byte. Assumes nothing.
 use Rattle.std.specs.Prelude.{List, [], ◌∷◌, ◌++◌, ◌≡◌, ℕ, ◌/◌, ◌%◌, ◌<◌, get_or, length, map}
 use Rattle.table.specs.Table.{Table}
 

@@ -1,7 +1,8 @@
 // A table in the bytes that a caller lends: reads of its numbers. `specs/Flat.antt` says where they stand.
 ghost use Rattle.std.specs.Prelude.{◌≡◌, ℕ, ◌+◌, ◌*◌, ◌<◌, ◌≤◌, true, length, get_or};
 ghost use Rattle.laws.specs.Bits.{bit_at};
-ghost use Rattle.table.specs.Flat.{part, empty_table};
+ghost use Rattle.table.specs.Bytes.{bytes_of};
+ghost use Rattle.table.specs.Flat.{part, table_in, empty_table};
 ghost use Rattle.table.specs.Keys.{key_at};
 ghost use Rattle.table.specs.Cells.{cell_at, with_edge, written, with_key, with_end};
 
@@ -61,6 +62,15 @@ impl Model for Table {
     ghost inverse_ok = { λ a h. ap (λ (l : List ℕ). record { bytes = l }) (bytes_of-inside a.bytes h) };
 }
 
+// The table of 7,920 bytes: any bytes are one.
+impl From<[u8; SIZE]> for Table {
+    ghost from_gives = { λ bytes t. t ≡ table_in bytes };
+
+    fn from(bytes: [u8; SIZE]) -> Table {
+        Table { bytes }
+    }
+}
+
 // The numbers of an edge as a table stores them, but for its line. A kind is stored by its code.
 #[derive(Clone, Copy, PartialEq)]
 pub struct Cell {
@@ -87,6 +97,13 @@ fn byte_in<const AT: usize, const N: usize>(bytes: &[u8; SIZE], i: usize) -> u8
 }
 
 impl Table {
+    // The bytes of a table.
+    pub fn bytes(&self) -> &[u8; SIZE]
+        ensures { result.now ≡ bytes_of self.now }
+    {
+        &self.bytes
+    }
+
     // The empty table, which a refused book has: every byte is 0.
     pub fn empty() -> Table
         ensures { result ≡ empty_table }

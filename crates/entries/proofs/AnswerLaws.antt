@@ -1,11 +1,11 @@
 -- The entry of a verdict, and of an answer. Assumes nothing.
+use Rattle.std.specs.Prelude.{Ok, Err, Some, None}
 use mathlib.Core.List.{List}
 use mathlib.Core.Path.{◌≡◌, refl, sym, ap, ◌∙◌}
 use Prim.Native.Nat.{ℕ, ◌+◌}
 use native.Mathlib.Omega.{arith}
 use lib.ListN.{length}
-use Rattle.reader.specs.declared.Answer.{Answer}
-use Rattle.reader.specs.declared.Answer.TheVariants as Says
+use Rattle.reader.specs.Answer.{Answer}
 use Rattle.reader.specs.declared.Refusal.{Refusal}
 use Rattle.reader.specs.Refusals.{refusal_number}
 use Rattle.verdict.specs.declared.Verdict.{Verdict}
@@ -22,16 +22,16 @@ verdict-entry o i v read now word number place e d f h =
     h ∙ ap (with_entry o i) same
 
 module _ (o : List ℕ) (i : ℕ) (a : Answer) (read : ℕ) where
-  pub answer-quiet : a ≡ Says.Quiet → (o ≡ with_entries o i (answer_entries a read)) × (i ≡ i + length (answer_entries a read))
+  pub answer-quiet : a ≡ Ok None → (o ≡ with_entries o i (answer_entries a read)) × (i ≡ i + length (answer_entries a read))
   unfolding with_entries
   answer-quiet e = rw e (refl, omega arith)
 
-  pub answer-verdict : (v : Verdict) (now : List ℕ) → a ≡ Says.Judged v → now ≡ with_entry o i (verdict_entry v read)
+  pub answer-verdict : (v : Verdict) (now : List ℕ) → a ≡ Ok (Some v) → now ≡ with_entry o i (verdict_entry v read)
       → (now ≡ with_entries o i (answer_entries a read)) × (i + 1 ≡ i + length (answer_entries a read))
   unfolding with_entries
   answer-verdict v now e h = rw e (h, refl)
 
-  pub answer-refusal : (n : Refusal) (now : List ℕ) (number : ℕ) → a ≡ Says.Refused n → number ≡ refusal_number n
+  pub answer-refusal : (n : Refusal) (now : List ℕ) (number : ℕ) → a ≡ Err n → number ≡ refusal_number n
       → now ≡ with_entry o i (record { word = 2; number = number; place = 0; read = read })
       → (now ≡ with_entries o i (answer_entries a read)) × (i + 1 ≡ i + length (answer_entries a read))
   unfolding with_entries

@@ -56,12 +56,12 @@ pub fn put_answer(out: &mut [u8], i: usize, a: Answer, read: usize) -> usize
     ensures { (out.new ≡ with_entries out.old i (answer_entries a read)) × (result ≡ i + length (answer_entries a read)) }
 {
     match a {
-        Answer::Quiet => i,
-        Answer::Judged(v) => {
+        Ok(None) => i,
+        Ok(Some(v)) => {
             put_verdict(out, i, v, read);
             i + 1
         }
-        Answer::Refused(n) => {
+        Err(n) => {
             put_entry(out, i, 2, reader::refusal_number(n), 0, read);
             i + 1
         }

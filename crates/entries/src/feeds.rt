@@ -20,9 +20,9 @@ fn is_quiet(a: Answer) -> bool
     ensures { result ≡ is_quiet a }
 {
     match a {
-        Answer::Quiet => true,
-        Answer::Judged(_) => false,
-        Answer::Refused(_) => false,
+        Ok(None) => true,
+        Ok(Some(_)) => false,
+        Err(_) => false,
     }
 }
 
@@ -30,9 +30,9 @@ fn is_refused(a: Answer) -> bool
     ensures { result ≡ is_refused a }
 {
     match a {
-        Answer::Quiet => false,
-        Answer::Judged(_) => false,
-        Answer::Refused(_) => true,
+        Ok(None) => false,
+        Ok(Some(_)) => false,
+        Err(_) => true,
     }
 }
 

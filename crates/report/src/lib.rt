@@ -22,9 +22,9 @@ fn is_last(a: Answer) -> bool
     ensures { result ≡ is_last a }
 {
     match a {
-        Answer::Quiet => true,
-        Answer::Refused(_) => true,
-        Answer::Judged(_) => false,
+        Ok(None) => true,
+        Err(_) => true,
+        Ok(Some(_)) => false,
     }
 }
 
@@ -33,9 +33,9 @@ fn write_answer(out: &mut [u8], at: usize, a: Answer) -> usize
     ensures { record { out = out.exit.now; at = result } ≡ written a out.entry.now at }
 {
     match a {
-        Answer::Quiet => at,
-        Answer::Refused(_) => at,
-        Answer::Judged(v) => text::write_verdict(out, at, v),
+        Ok(None) => at,
+        Err(_) => at,
+        Ok(Some(v)) => text::write_verdict(out, at, v),
     }
 }
 
@@ -96,7 +96,7 @@ pub fn report<'a>(
         reader: r,
         read: 0,
         used: 0,
-        answer: Answer::Quiet,
+        answer: Ok(None),
     };
     let mut i = 0;
     while i < lines {
@@ -112,7 +112,7 @@ pub fn report<'a>(
         reader: next,
         read: x.read,
         used: x.used,
-        answer: Answer::Quiet,
+        answer: Ok(None),
     }
 }
 
@@ -126,7 +126,7 @@ pub fn finish<'a>(r: Reader, table: &'a [u8; 7920], work: &'a [u8], out: &mut [u
             reader: r,
             read: 0,
             used: 0,
-            answer: Answer::Quiet,
+            answer: Ok(None),
         };
     }
     let x = reader::close(r, table, work);

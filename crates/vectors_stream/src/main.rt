@@ -51,9 +51,9 @@ fn say_refusal(rt: &impl Print, count: usize, r: Refusal) {
 
 fn say_answer(rt: &impl Print, count: usize, a: Answer) {
     match a {
-        Answer::Quiet => say(rt, count, "none", 0, 0),
-        Answer::Judged(v) => say_verdict(rt, count, v),
-        Answer::Refused(r) => say_refusal(rt, count, r),
+        Ok(None) => say(rt, count, "none", 0, 0),
+        Ok(Some(v)) => say_verdict(rt, count, v),
+        Err(r) => say_refusal(rt, count, r),
     }
 }
 

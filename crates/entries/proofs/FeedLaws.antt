@@ -16,7 +16,8 @@ use Rattle.reader.specs.Answer.{Answer}
 use Rattle.reader.specs.declared.Refusal.{Refusal}
 use Rattle.reader.specs.Machine.{Outcome, feed_of, close_of}
 use Rattle.demand.proofs.FeedLaws.{count-of-feed, some-of-feed, weight, weight-of-feed}
-use Rattle.entries.specs.Entries.{Entry, with_entries}
+use Rattle.entries.specs.declared.entry.Entry.{Entry}
+use Rattle.entries.specs.Entries.{with_entries}
 use Rattle.entries.specs.Feeds.{answer_entries, is_refused, Fed, stopped, entries_then, piece_of, piece_end, feeds, Feeds, streamed, in_out}
 use Rattle.entries.specs.Turn.{Turn, feed_next, turn_of}
 use Rattle.entries.proofs.EntryLaws.{with_entries-append}

@@ -7,7 +7,8 @@ use Rattle.reader.specs.Answer.{Answer}
 use Rattle.reader.specs.Refusals.{refusal_number}
 use Rattle.reader.specs.Start.{start_of}
 use Rattle.reader.specs.Machine.{Outcome, feed_of, close_of}
-use Rattle.entries.specs.Entries.{Entry, verdict_entry, refusal_entry, with_entries}
+use Rattle.entries.specs.declared.entry.Entry.{Entry}
+use Rattle.entries.specs.Entries.{verdict_entry, refusal_entry, with_entries}
 
 -- ---- answers
 

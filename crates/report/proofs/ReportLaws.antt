@@ -11,7 +11,7 @@ use Rattle.table.specs.Table.{Table}
 use Rattle.verdict.specs.declared.Verdict.{Verdict}
 use Rattle.text.specs.Text.{line_of}
 use Rattle.text.specs.Put.{Put, write, Written}
-use Rattle.text.proofs.PutLaws.{Rest, rest-start, rest_put, rest-done, length-line, put-of-write, length-of-put}
+use Rattle.text.proofs.PutLaws.{Rest, rest-start, rest_put, rest-done, put-of-write, length-of-put}
 use Rattle.reader.specs.declared.Reader.{Reader}
 use Rattle.reader.specs.Answer.{Answer}
 use Rattle.reader.specs.Machine.{Outcome, feed_of}
@@ -153,8 +153,8 @@ module _ (t : Table) (w₀ s o₀ : List ℕ) (r : Reader) where
           (ap (λ (y : Report). y.work) turn ∙ rw stop at x.work) (ap (λ (y : Report). y.read) turn ∙ rw stop at x.reads) put
           (answer-is ∙ rw stop at x.answer)
 
-      -- a verdict has its line
-      module _ (v : Verdict) (judged : f.answer ≡ Ok (Some v)) where
+      -- a verdict has its line, of at most 64 bytes
+      module _ (short : used' ≤ used + 64) (v : Verdict) (judged : f.answer ≡ Ok (Some v)) where
         turn_is : ◌≡◌ {A = Report} (record { reader = next'; work = w'; read = read'; out = o'; used = used'; answer = a }) (record {
           reader = f.reader;
           work = f.work;
@@ -187,7 +187,7 @@ module _ (t : Table) (w₀ s o₀ : List ℕ) (r : Reader) where
             (record {
               feeds = omega (arith, more);
               room = length-of-put o used (line_of v) after place put ∙ x.room;
-              lines = omega (arith, put.place, length-line v, x.lines);
+              lines = omega (arith, short, ap (λ (y : Report). y.used) turn_is, x.lines);
               inside = omega (arith, x.inside, length-drop read s, count-of-feed next t w (drop read s));
               reader = rw behind-is at x.reader;
               work = rw behind-is at x.work;
@@ -196,10 +196,10 @@ module _ (t : Table) (w₀ s o₀ : List ℕ) (r : Reader) where
               text = rest_put o₀ 0 whole.text o used (line_of v) rest.text after place (rw behind-is at x.text) put;
             })
 
-      pub going-line : b ≡ false → Going w' o' next' read' used' (i + 1)
-      going-line e = go f.answer refl (ap is_last (sym answer-is) ∙ sym said ∙ e)
+      pub going-line : used' ≤ used + 64 → b ≡ false → Going w' o' next' read' used' (i + 1)
+      going-line short e = go f.answer refl (ap is_last (sym answer-is) ∙ sym said ∙ e)
         where
           go : (y : Answer) → f.answer ≡ y → is_last y ≡ false → Going w' o' next' read' used' (i + 1)
           go (Ok None) d z = true-not-false true refl z
           go (Err n) d z = true-not-false true refl z
-          go (Ok (Some v)) d z = line-going v d
+          go (Ok (Some v)) d z = line-going short v d

@@ -12,12 +12,10 @@ use borrow.Rule.Slice.PartMut.{put_mid}
 use borrow.Author.Tests.{le-leb, lt-leb, leb-true, leb-false}
 use Rattle.laws.specs.Ascii.{ascii}
 use Rattle.verdict.specs.declared.Verdict.{Verdict}
-use Rattle.verdict.specs.declared.Verdict.TheVariants as Is
 use Rattle.verdict.specs.declared.Word.{Word}
 use Rattle.verdict.specs.declared.Word.TheVariants as Says
 use Rattle.verdict.specs.Verdict.{shown}
 use Rattle.std.specs.Fmt.{decimal}
-use Rattle.std.proofs.lemmas.Fmt.{length-decimal-le}
 use Rattle.text.specs.Text.{space, LF, word_text, line_of, book_lines}
 use Rattle.text.specs.Put.{Put, has_room, Written, write}
 
@@ -146,32 +144,7 @@ put-of-write o at bs now behind h e =
 
 -- ---- lengths
 
-length-word : (w : Word) → length (word_text w) ≤ 7
+pub length-word : (w : Word) → length (word_text w) ≤ 7
 length-word Says.Valid = omega arith
 length-word Says.Invalid = omega arith
 length-word Says.Refused = omega arith
-
--- the line of a verdict whose place is a number of 32 bits has room
-pub length-line : (v : Verdict) → (shown v).place < 4294967296 → length (line_of v) ≤ 64
-unfolding line_of
-length-line v h =
-    let n = decimal (shown v).number in
-    let p = decimal (shown v).place in
-    omega (
-      arith,
-      length-word (shown v).word,
-      length-decimal-le 20 (shown v).number (omega arith) (omega (arith, number-short v)) (omega (arith, number-short v)),
-      length-decimal-le 20 (shown v).place (omega arith) (omega (arith, h)) (omega (arith, h)),
-      length-append (word_text (shown v).word) (space ++ (n ++ (space ++ (p ++ LF)))),
-      length-append n (space ++ (p ++ LF)),
-      length-append p LF,
-    )
-  where
-    number-short : (v : Verdict) → (shown v).number < 16
-    number-short Is.Valid = omega arith
-    number-short Is.Invalid = omega arith
-    number-short (Is.Malformed p) = omega arith
-    number-short (Is.TooDeep p) = omega arith
-    number-short Is.TooLong = omega arith
-    number-short (Is.Unfinished p) = omega arith
-    number-short Is.Head = omega arith

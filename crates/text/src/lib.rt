@@ -16,7 +16,8 @@ pub trait Line {
     // Puts the lines from a place on, and answers the place after them.
     fn put(self, out: &mut [u8], at: usize) -> usize
         requires { at + 64 ≤ length out.old }
-        ensures { Put out.old at (text self) out.new result };
+        ensures put { Put out.old at (text self) out.new result }
+        ensures short { result ≤ at + 64 };
 }
 
 // The buffer has room for a line from the place on.
@@ -29,7 +30,8 @@ pub fn has_room(len: usize, at: usize) -> bool
 // Writes a line from a place on, and answers the place after it; where the buffer has less than 64 bytes from there, it writes nothing. Ruled out:
 // a line with the number of another refusal, and one that is written where the buffer has no room for it.
 pub fn write<L: Line + Drop>(out: &mut [u8], at: usize, line: L) -> usize
-    ensures { record { out = out.new; at = result } ≡ write out.old at (L.text line) }
+    ensures written { record { out = out.new; at = result } ≡ write out.old at (L.text line) }
+    ensures short { result ≤ at + 64 }
 {
     if has_room(out.len(), at) {
         return line.put(out, at);

@@ -6,8 +6,8 @@ use Rattle.text.proofs.write.Goals as goal
 pub put-requires : goal.put-requires
 put-requires g c = search (rules, le-of-room)
 
-pub returns-then-has_room : goal.returns-then-has_room
-returns-then-has_room g c = search (rules, write-of-put)
+pub returns-then-has_room-clause-written : goal.returns-then-has_room-clause-written
+returns-then-has_room-clause-written g c = search (rules, write-of-put)
 
-pub returns : goal.returns
-returns g c = search (rules, write-none)
+pub returns-clause-written : goal.returns-clause-written
+returns-clause-written g c = search (rules, write-none)

@@ -1,6 +1,6 @@
--- `read_file` is safe and ends: each turn leaves less room in the space. Assumes nothing.
+-- `fill` is safe and ends: each turn leaves less room in the space. Assumes nothing.
 use Rattle.std.proofs.Common.{length, ◌-◌, ◌≤◌}
-use Rattle.judge.proofs.read_file.Given as goal
+use Rattle.files.proofs.fill.Given as goal
 
 abbrev pub invariant-loop-n : goal.invariant-loop-n
 invariant-loop-n g l = l.n ≤ length l.space

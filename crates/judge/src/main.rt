@@ -35,7 +35,7 @@ fn read_book(rt: &impl Files, space: &mut [u8]) -> usize
     let Ok(mut file) = File::open(rt, "book.txt") else {
         return 0;
     };
-    match files::fill(&mut file, space) {
+    match lent_file::fill(&mut file, space) {
         (n, Ok(())) => n,
         (_, Err(_)) => 0,
     }

@@ -116,7 +116,7 @@ fn content(rt: &impl Files, path: &str, space: &mut [u8]) -> io::Result<usize>
     ensures { IfOk result (λ n. n ≤ length space.new) }
 {
     let mut file = File::open(rt, path)?;
-    Ok(files::fill(&mut file, space).0)
+    Ok(lent_file::fill(&mut file, space).0)
 }
 
 fn main(rt: HostRuntime) {

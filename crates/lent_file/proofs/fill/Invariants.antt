@@ -1,6 +1,6 @@
 -- `fill` is safe and ends: each turn leaves less room in the space. Assumes nothing.
 use Rattle.std.proofs.Common.{length, ◌-◌, ◌≤◌}
-use Rattle.files.proofs.fill.Given as goal
+use Rattle.lent_file.proofs.fill.Given as goal
 
 abbrev pub invariant-loop-n : goal.invariant-loop-n
 invariant-loop-n g l = l.n ≤ length l.space

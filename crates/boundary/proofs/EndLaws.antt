@@ -1,4 +1,5 @@
 -- The walk from its first byte to the verdict, in the form of the code's needs. Assumes nothing.
+use Rattle.std.specs.Prelude.{Ok, None}
 use mathlib.Core.Bool.{Bool, true, false, cond}
 use mathlib.Core.List.{List, [], ◌∷◌}
 use mathlib.Core.Path.{◌≡◌, refl, sym, ap, subst, ◌∙◌}
@@ -22,8 +23,7 @@ use Rattle.follows.specs.Follows.{FaultIs, Tracks, off_track, NoRS, nonempty, re
 use Rattle.follows.proofs.PartLaws.{tracks-part, judged-part, pos-part, length_part}
 use Rattle.demand.proofs.BookLaws.{carries-of-book, plain-of-book}
 use Rattle.reader.specs.declared.Reader.{Reader}
-use Rattle.reader.specs.declared.Answer.{Answer}
-use Rattle.reader.specs.declared.Answer.TheVariants as Says
+use Rattle.reader.specs.Answer.{Answer}
 use Rattle.reader.specs.declared.Gate.TheVariants as Is
 use Rattle.reader.specs.Refusals.{fit_reader, within_reader, call_gate}
 use Rattle.reader.specs.Tally.{zero_tally}
@@ -140,7 +140,7 @@ module _ {t : Table} {s : List ℕ} {r : Reader} {w : List ℕ} {n : ℕ} {u : B
   valid-all = rw (open-close, begun) (go s refl)
     where
       go : (p : List ℕ) → p ≡ s
-          → says_valid (cond (nonempty p) (ending r (memory_of r w) 0 true) (record { reader = fresh_reader r.frames true r.tally; count = 0; answer = Says.Quiet; work = w })).answer
+          → says_valid (cond (nonempty p) (ending r (memory_of r w) 0 true) (record { reader = fresh_reader r.frames true r.tally; count = 0; answer = Ok None; work = w })).answer
           ≡ is_valid (track_end entries (track entries 3 (track_start entries) p))
       go [] e = refl
       go (c ∷ p) e = ap is_valid (verdict-all ∙ ap (λ (q : List ℕ). track_end entries (track entries 3 (track_start entries) q)) (sym e))

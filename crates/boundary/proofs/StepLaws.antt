@@ -19,7 +19,7 @@ use Rattle.verdict.proofs.FoundLaws.{judged-of-track}
 use Rattle.verdict.proofs.JudgedLaws.{judged-iff-track}
 use Rattle.demand.proofs.BookLaws.{sound-of-book}
 use Rattle.reader.specs.declared.Reader.{Reader}
-use Rattle.reader.specs.declared.Answer.{Answer}
+use Rattle.reader.specs.Answer.{Answer}
 use Rattle.reader.specs.Machine.{feed_of}
 use Rattle.coordinate.specs.Exact.{coordinate_of}
 use Rattle.corners.specs.Corners.{ValidB}

@@ -24,7 +24,7 @@ use Rattle.progress.specs.Memory.{Mem, fresh_mem}
 use Rattle.follows.specs.Follows.{NoRS, read_part}
 use Rattle.follows.proofs.PartLaws.{length_part}
 use Rattle.reader.specs.declared.Reader.{Reader}
-use Rattle.reader.specs.declared.Answer.{Answer}
+use Rattle.reader.specs.Answer.{Answer}
 use Rattle.reader.specs.Machine.{Outcome, memory_of, going, feed_of}
 use Rattle.demand.proofs.BookLaws.{carries-of-book, plain-of-book}
 use Rattle.coordinate.specs.Exact.{coordinate_of}

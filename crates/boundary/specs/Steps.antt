@@ -1,10 +1,10 @@
 -- What a turn of the walk gives. Derived: the laws in proofs/ carry `Walked` over it. Assumes nothing.
+use Rattle.std.specs.Prelude.{Ok, Err, Some, None}
 use Rattle.std.specs.Prelude.{Bool, true, false, ◌||◌, List, ◌≡◌, ℕ, ◌+◌, ◌<◌, ℤ, length}
 use Rattle.table.specs.Table.{Table}
 use Rattle.reader.specs.declared.Reader.{Reader}
 use Rattle.coordinate.specs.declared.Coordinate.{Coordinate}
-use Rattle.reader.specs.declared.Answer.{Answer}
-use Rattle.reader.specs.declared.Answer.TheVariants as Says
+use Rattle.reader.specs.Answer.{Answer}
 use Rattle.boundary.specs.Exact.{is_valid, valid_b, unfit_in, filled}
 use Rattle.book.specs.Examples.{book_b}
 use Rattle.load.specs.Loads.{book_table}
@@ -44,9 +44,9 @@ pub record WalkedAll (t : Table) (s : List ℕ) (r : Walk) (w : List ℕ) (l : L
 
 -- an answer that gives a record the verdict valid
 abbrev pub says_valid : Answer → Bool
-says_valid Says.Quiet = false
-says_valid (Says.Judged v) = is_valid v
-says_valid (Says.Refused k) = false
+says_valid (Ok None) = false
+says_valid (Ok (Some v)) = is_valid v
+says_valid (Err k) = false
 
 -- what is read of the text s: whether it is valid, and where it is, its numbers at level 3, which stand in the memory l
 pub record ReadsAs (s : List ℕ) (r : Read) (l : List ℤ) : Type 0 where

@@ -258,9 +258,9 @@ fn says_valid(a: Answer) -> bool
     ensures { result ≡ says_valid a }
 {
     match a {
-        Answer::Quiet => false,
-        Answer::Judged(v) => is_valid(v),
-        Answer::Refused(_) => false,
+        Ok(None) => false,
+        Ok(Some(v)) => is_valid(v),
+        Err(_) => false,
     }
 }
 

@@ -1,4 +1,5 @@
 -- Demand 3 in the customer's words, of the books that load accepts. Assumes nothing.
+use Rattle.std.specs.Prelude.{Ok, Err, None}
 use mathlib.Core.Bool.{true}
 use mathlib.Core.List.{List, [], ◌∷◌, ◌++◌, get_last?}
 use mathlib.Core.Path.{◌≡◌}
@@ -12,7 +13,6 @@ use Rattle.load.proofs.LoadedLaws.{loaded-within_limits}
 use Rattle.verdict.specs.declared.Verdict.{Verdict}
 use Rattle.verdict.specs.Verdict.{Judged}
 use Rattle.reader.specs.declared.Reader.{Reader}
-use Rattle.reader.specs.declared.Answer.TheVariants as Says
 use Rattle.reader.specs.declared.Refusal.TheVariants as No
 use Rattle.reader.specs.Start.{start_of}
 use Rattle.stream.specs.Paper.{Call, Judges, nonempty}
@@ -25,8 +25,8 @@ use Rattle.demand.specs.Book.{Book}
 use Rattle.demand.proofs.Demand.{reading}
 
 -- after an accepted start and any calls, a call with a loaded table is never refused with 23
-pub loaded-never-above-limit : (t : Table) (w : List ℕ) → (start_of t w).answer ≡ Says.Quiet → (calls : List Call) (c : Call) (b : List ℕ) (r : Loaded)
-    → LoadsAs b r → table c ≡ r.table → (run (after (start_of t w).reader calls) c).answer ≡ Says.Refused No.AboveLimit → ⊥
+pub loaded-never-above-limit : (t : Table) (w : List ℕ) → (start_of t w).answer ≡ Ok None → (calls : List Call) (c : Call) (b : List ℕ) (r : Loaded)
+    → LoadsAs b r → table c ≡ r.table → (run (after (start_of t w).reader calls) c).answer ≡ Err No.AboveLimit → ⊥
 loaded-never-above-limit t w e calls c b r l q said =
     true-not-false _ (loaded-within_limits b r l) (rw q at (never-above-limit t w e calls c said))
 

@@ -2,6 +2,7 @@
 -- (`given-iff-judged`), so valid, invalid, too deep and each other refusal exactly when the record itself is so, whatever stands before it. The head
 -- is given 15 (`given-head`), and no other record is. The frames n are those that an accepted start counted, from 1 to 64 (`stream: begun-of-start`).
 -- Assumes nothing.
+use Rattle.std.specs.Prelude.{Ok, None}
 use mathlib.Core.Bool.{false}
 use mathlib.Core.List.{List, [], ◌∷◌, ◌++◌}
 use mathlib.Core.Logic.Iff
@@ -23,7 +24,6 @@ use Rattle.verdict.specs.declared.Verdict.TheVariants as Is
 use Rattle.verdict.specs.Verdict.{longest, DeepAt, Earliest, Faultless, Judged}
 use Rattle.verdict.proofs.JudgedLaws.{valid-iff, invalid-iff, too_long-iff, malformed-iff, too_deep-iff, unfinished-iff, not-judged-head}
 use Rattle.reader.specs.declared.Reader.{Reader}
-use Rattle.reader.specs.declared.Answer.TheVariants as Says
 use Rattle.reader.specs.Start.{start_of}
 use Rattle.stream.specs.Paper.{Call, Judge}
 use Rattle.stream.specs.Records.{cut_at_rs, nonempties, records_of, verdicts_of, verdicts_behind, StreamOf}
@@ -114,7 +114,7 @@ module _ (es : List Entry) (n : ℕ) (least : 1 ≤ n) (most : n ≤ 64) {r : Re
 
 -- demand 3 in its own words: after an accepted start with the buffer w, a record is given 12 exactly when its own first fault is to open more levels
 -- than w has frames
-pub too_deep-after-start : (t : Table) (w : List ℕ) → (start_of t w).answer ≡ Says.Quiet → (es : List Entry) {r : Reader} {cs : List Call} {a p s : List ℕ}
+pub too_deep-after-start : (t : Table) (w : List ℕ) → (start_of t w).answer ≡ Ok None → (es : List Entry) {r : Reader} {cs : List Call} {a p s : List ℕ}
     → RecordAfter a p s → StreamOf Book es (frame_count (length w)) r cs s → (i : ℕ)
     → GivenAfter a r cs (Is.TooDeep i) ↔ (DeepAt (frame_count (length w)) p i × Earliest (frame_count (length w)) p (Is.TooDeep i) i)
 too_deep-after-start t w e es at x i = let b = begun-of-start t w e in too_deep-exactly-when es (frame_count (length w)) b.least b.most at x i

@@ -1,4 +1,5 @@
 -- What a feed reads of its piece, and what it leaves of the buffer's length. Assumes nothing.
+use Rattle.std.specs.Prelude.{Ok, Err, Some, None}
 use mathlib.Core.Bool.{Bool, true, false, ◌&&◌}
 use mathlib.Core.List.{List, [], ◌∷◌}
 use mathlib.Core.Path.{◌≡◌, refl, ◌∙◌}
@@ -12,8 +13,7 @@ use Rattle.progress.specs.declared.Progress.{Progress}
 use Rattle.progress.specs.Memory.{Mem, Ran, ends_record, run_mem, step_mem}
 use Rattle.progress.proofs.MemoryLaws.{length-step_mem}
 use Rattle.reader.specs.declared.Reader.{Reader}
-use Rattle.reader.specs.declared.Answer.{Answer}
-use Rattle.reader.specs.declared.Answer.TheVariants as Says
+use Rattle.reader.specs.Answer.{Answer}
 use Rattle.reader.specs.declared.Refusal.{Refusal}
 use Rattle.reader.specs.Refusals.{within_reader, call_gate}
 use Rattle.reader.specs.Machine.{Outcome, refusing, memory_of, ending, going, feeding, feed_of}
@@ -57,7 +57,7 @@ first-of-run t n m (b ∷ s) h =
 
 -- an answer that is no refusal
 abbrev Served : Answer → Type 0
-Served a = (n : Refusal) → a ≡ Says.Refused n → ⊥
+Served a = (n : Refusal) → a ≡ Err n → ⊥
 
 pub some-of-feed : (r : Reader) (t : Table) (w s : List ℕ) → 0 < length s → Served (feed_of r t w s).answer → 0 < (feed_of r t w s).count
 some-of-feed r t w s more =
@@ -67,9 +67,9 @@ some-of-feed r t w s more =
 -- ---- a verdict takes two bytes of a record that has none yet: its byte, and the RS
 
 abbrev pub weight : Answer → ℕ
-weight Says.Quiet = 0
-weight (Says.Judged v) = 2
-weight (Says.Refused n) = 0
+weight (Ok None) = 0
+weight (Ok (Some v)) = 2
+weight (Err n) = 0
 
 ended-of-run : (t : Table) (n : ℕ) (m : Mem) (i : ℕ) (s : List ℕ) → T (run_mem t n m i s).ended → i + 1 ≤ (run_mem t n m i s).count
 unfolding run_mem

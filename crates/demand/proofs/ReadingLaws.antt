@@ -1,4 +1,5 @@
 -- A caller who feeds what is unread and closes at the end gets the verdicts of his bytes: `verdicts-of-reads`. Assumes nothing.
+use Rattle.std.specs.Prelude.{Ok, Err, None}
 use mathlib.Core.Bool.{true}
 use mathlib.Core.List.{List, [], ◌∷◌, ◌++◌}
 use mathlib.Core.Path.{◌≡◌, refl, sym, ap, ◌∙◌}
@@ -13,7 +14,6 @@ use Rattle.load.specs.Loads.{LoadsAs}
 use Rattle.load.proofs.LoadedLaws.{loaded-within_limits}
 use Rattle.verdict.specs.declared.Verdict.{Verdict}
 use Rattle.reader.specs.declared.Reader.{Reader}
-use Rattle.reader.specs.declared.Answer.TheVariants as Says
 use Rattle.reader.specs.declared.Refusal.{Refusal}
 use Rattle.reader.specs.Refusals.{is_open}
 use Rattle.reader.specs.Start.{start_of}
@@ -93,14 +93,14 @@ module _ (t : Table) (es : List Entry) (book : Book t es) (n : ℕ) where
     -- ---- no feed and no close with a good reader and a buffer with its frames is refused
 
     module _ (r : Reader) (w : List ℕ) (g : Good n r) (long : 96 * n ≤ length w) where
-      served : (c : Call) → accepted n c ≡ true → (k : Refusal) → (run r c).answer ≡ Says.Refused k → ⊥
+      served : (c : Call) → accepted n c ≡ true → (k : Refusal) → (run r c).answer ≡ Err k → ⊥
       served c a k e =
           reading-not-refused r c k (sym (ap (λ (o : Outcome). o.answer) (accepted-of-true n least most r c g a).run_is) ∙ e)
 
-      pub feed-served : (s : List ℕ) (k : Refusal) → (feed_of r t w s).answer ≡ Says.Refused k → ⊥
+      pub feed-served : (s : List ℕ) (k : Refusal) → (feed_of r t w s).answer ≡ Err k → ⊥
       feed-served s = served (feed t w s) (accepted-feed w s long)
 
-      pub close-served : (k : Refusal) → (close_of r t w).answer ≡ Says.Refused k → ⊥
+      pub close-served : (k : Refusal) → (close_of r t w).answer ≡ Err k → ⊥
       close-served = served (close t w) (accepted-close w long)
 
       pub good-of-feed : (s : List ℕ) → Good n (feed_of r t w s).reader
@@ -113,6 +113,6 @@ module _ (b : List ℕ) (l : Loaded) (loaded : LoadsAs b l) (t : Table) (e : l.t
   book-of-loaded ok = record { bytes = b; loaded = l; gave = loaded; accepted = ok; table = e; entries = refl }
 
   -- with a table that load gave and a buffer of a frame or more start is not refused
-  pub start-quiet : (w : List ℕ) → 96 ≤ length w → (start_of t w).answer ≡ Says.Quiet
+  pub start-quiet : (w : List ℕ) → 96 ≤ length w → (start_of t w).answer ≡ Ok None
   unfolding start_of
   start-quiet w h = rw (start-open-of-room t (length w) (rw e at (loaded-within_limits b l loaded)) h)

@@ -1,4 +1,5 @@
 -- A stream feed by feed: what is unread gives what the whole gives. Assumes nothing.
+use Rattle.std.specs.Prelude.{Ok, Err, Some, None}
 use mathlib.Core.Bool.{Bool, true, false}
 use mathlib.Core.List.{List, ◌++◌}
 use mathlib.Core.Path.{◌≡◌, refl, sym, ap, subst, ◌∙◌}
@@ -11,12 +12,12 @@ use borrow.Author.Tests.{eq-eqb, ne_eqb}
 use Rattle.book.proofs.TruthLaws.{true-not-false}
 use Rattle.table.specs.Table.{Table}
 use Rattle.reader.specs.declared.Reader.{Reader}
-use Rattle.reader.specs.declared.Answer.{Answer}
-use Rattle.reader.specs.declared.Answer.TheVariants as Says
+use Rattle.reader.specs.Answer.{Answer}
 use Rattle.reader.specs.declared.Refusal.{Refusal}
 use Rattle.reader.specs.Machine.{Outcome, feed_of, close_of}
 use Rattle.demand.proofs.FeedLaws.{count-of-feed, some-of-feed, weight, weight-of-feed}
-use Rattle.entries.specs.Entries.{Entry, with_entries}
+use Rattle.entries.specs.declared.entry.Entry.{Entry}
+use Rattle.entries.specs.Entries.{with_entries}
 use Rattle.entries.specs.Feeds.{answer_entries, is_refused, Fed, stopped, entries_then, piece_of, piece_end, feeds, Feeds, streamed, in_out}
 use Rattle.entries.specs.Turn.{Turn, feed_next, turn_of}
 use Rattle.entries.proofs.EntryLaws.{with_entries-append}
@@ -24,16 +25,16 @@ use Rattle.entries.proofs.PieceLaws.{piece_is, piece-some, piece-short}
 
 -- an answer has at most one entry
 one_entry : (a : Answer) (read : ℕ) → length (answer_entries a read) ≤ 1
-one_entry Says.Quiet read = omega arith
-one_entry (Says.Judged v) read = omega arith
-one_entry (Says.Refused n) read = omega arith
+one_entry (Ok None) read = omega arith
+one_entry (Ok (Some v)) read = omega arith
+one_entry (Err n) read = omega arith
 
 entry-weight : (a : Answer) (read : ℕ) → is_refused a ≡ false → 2 * length (answer_entries a read) ≤ weight a
-entry-weight Says.Quiet read e = omega arith
-entry-weight (Says.Judged v) read e = omega arith
-entry-weight (Says.Refused n) read e = true-not-false true refl e
+entry-weight (Ok None) read e = omega arith
+entry-weight (Ok (Some v)) read e = omega arith
+entry-weight (Err n) read e = true-not-false true refl e
 
-served : (a : Answer) → is_refused a ≡ false → (n : Refusal) → a ≡ Says.Refused n → ⊥
+served : (a : Answer) → is_refused a ≡ false → (n : Refusal) → a ≡ Err n → ⊥
 served a e n d = true-not-false true refl (rw d at e)
 
 -- ---- one feed

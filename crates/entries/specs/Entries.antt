@@ -2,25 +2,18 @@
 use Rattle.std.specs.Prelude.{cond, List, [], ◌∷◌, ◌++◌, ℕ, zero, suc, ◌*◌, ◌/◌, ◌%◌, ltb, length}
 use Rattle.std.proofs.lemmas.List.Edits.{sets}
 use Rattle.verdict.specs.declared.Verdict.{Verdict}
-use Rattle.verdict.specs.Verdict.{Shown, shown}
+use Rattle.verdict.specs.declared.Word.TheVariants as Says
+use Rattle.verdict.specs.Verdict.{shown}
 use Rattle.text.specs.Text.{word_number}
+use Rattle.entries.specs.declared.entry.Entry.{Entry}
 
 -- a verdict's fields, or a refusal's, and the bytes of the stream read by then
-pub record Entry : Type 0 where
-  pub word : ℕ
-  pub number : ℕ
-  pub place : ℕ
-  pub read : ℕ
-
-abbrev pub entry_of : Shown → ℕ → Entry
-entry_of x read = record { word = word_number x.word; number = x.number; place = x.place; read = read }
-
 abbrev pub verdict_entry : Verdict → ℕ → Entry
-verdict_entry v read = entry_of (shown v) read
+verdict_entry v read = record { word = (shown v).word; number = (shown v).number; place = (shown v).place; read = read }
 
 -- a refused book with its line, or a refused call with place 0
 abbrev pub refusal_entry : ℕ → ℕ → ℕ → Entry
-refusal_entry number place read = record { word = 2; number = number; place = place; read = read }
+refusal_entry number place read = record { word = Says.Refused; number = number; place = place; read = read }
 
 -- a number in k bytes, the lowest first
 unfoldable pub little : ℕ → ℕ → List ℕ
@@ -29,7 +22,7 @@ little (suc k) n = n % 256 ∷ little k (n / 256)
 
 -- the bytes of an entry
 unfoldable pub bytes_of : Entry → List ℕ
-bytes_of e = e.word ∷ e.number ∷ 0 ∷ 0 ∷ (little 4 e.place ++ little 8 e.read)
+bytes_of e = word_number e.word ∷ e.number ∷ 0 ∷ 0 ∷ (little 4 e.place ++ little 8 e.read)
 
 -- the output with entry i in the 16 bytes from 16 i on, where the output has these
 unfoldable pub with_entry : List ℕ → ℕ → Entry → List ℕ

@@ -1,31 +1,32 @@
 -- A stream that the library starts, feeds in pieces and closes, and the entries of the answers: docs/LIBRARY.md. Stated. Assumes nothing.
+use Rattle.std.specs.Prelude.{Ok, Err, Some, None}
 use Rattle.std.specs.Prelude.{Bool, true, false, cond, List, [], ◌∷◌, ◌++◌, ◌≡◌, ℕ, zero, suc, ◌+◌, ◌-◌, ◌%◌, eqb, ltb, length, take, drop}
 use Rattle.table.specs.Table.{Table}
 use Rattle.reader.specs.declared.Reader.{Reader}
-use Rattle.reader.specs.declared.Answer.{Answer}
-use Rattle.reader.specs.declared.Answer.TheVariants as Says
+use Rattle.reader.specs.Answer.{Answer}
 use Rattle.reader.specs.Refusals.{refusal_number}
 use Rattle.reader.specs.Start.{start_of}
 use Rattle.reader.specs.Machine.{Outcome, feed_of, close_of}
-use Rattle.entries.specs.Entries.{Entry, verdict_entry, refusal_entry, with_entries}
+use Rattle.entries.specs.declared.entry.Entry.{Entry}
+use Rattle.entries.specs.Entries.{verdict_entry, refusal_entry, with_entries}
 
 -- ---- answers
 
 -- the entry of an answer, if it says anything
 abbrev pub answer_entries : Answer → ℕ → List Entry
-answer_entries Says.Quiet read = []
-answer_entries (Says.Judged v) read = verdict_entry v read ∷ []
-answer_entries (Says.Refused n) read = refusal_entry (refusal_number n) 0 read ∷ []
+answer_entries (Ok None) read = []
+answer_entries (Ok (Some v)) read = verdict_entry v read ∷ []
+answer_entries (Err n) read = refusal_entry (refusal_number n) 0 read ∷ []
 
 abbrev pub is_quiet : Answer → Bool
-is_quiet Says.Quiet = true
-is_quiet (Says.Judged v) = false
-is_quiet (Says.Refused n) = false
+is_quiet (Ok None) = true
+is_quiet (Ok (Some v)) = false
+is_quiet (Err n) = false
 
 abbrev pub is_refused : Answer → Bool
-is_refused Says.Quiet = false
-is_refused (Says.Judged v) = false
-is_refused (Says.Refused n) = true
+is_refused (Ok None) = false
+is_refused (Ok (Some v)) = false
+is_refused (Err n) = true
 
 -- ---- feeds
 

@@ -2,9 +2,10 @@
 use Rattle.std.specs.Prelude.{Bool, cond, List, [], ℕ, ◌+◌, length, drop}
 use Rattle.table.specs.Table.{Table}
 use Rattle.reader.specs.declared.Reader.{Reader}
-use Rattle.reader.specs.declared.Answer.{Answer}
+use Rattle.reader.specs.Answer.{Answer}
 use Rattle.reader.specs.Machine.{Outcome, feed_of}
-use Rattle.entries.specs.Entries.{Entry, with_entries}
+use Rattle.entries.specs.declared.entry.Entry.{Entry}
+use Rattle.entries.specs.Entries.{with_entries}
 use Rattle.entries.specs.Feeds.{answer_entries, is_refused, piece_of}
 
 -- the reader and the work buffer after the feed, the bytes of the stream read by then, the output, its entries, and whether the feed was refused

@@ -1,53 +1,80 @@
 // Entries in the output.
-ghost use Rattle.std.specs.Prelude.{◌≡◌, ◌+◌, ◌≤◌, ◌<◌, length};
-ghost use Rattle.text.specs.Put.{Put};
-ghost use Rattle.entries.specs.Entries.{verdict_entry, little, with_entry, with_entries};
+ghost use Rattle.std.specs.Prelude.{◌≡◌, ◌+◌, ◌<◌, length};
+ghost use Rattle.text.specs.Text.{word_number};
+ghost use Rattle.entries.specs.Entries.{verdict_entry, bytes_of, with_entry, with_entries};
 ghost use Rattle.entries.specs.Feeds.{answer_entries};
 
 use reader::Answer;
-use verdict::Verdict;
+use verdict::{Verdict, Word};
 
-// A number in k bytes, the lowest first.
-fn put_little(out: &mut [u8], at: usize, n: usize, k: usize)
-    requires { at + k ≤ length out.old }
-    ensures { Put out.old at (little k n) out.new (at + k) }
+// What is said of a record, a book or a call, and how many bytes of the stream were read by then.
+#[derive(Clone, Copy)]
+pub struct Entry {
+    pub word: Word,
+    pub number: u8,
+    pub place: usize,
+    pub read: usize,
+}
+
+// The byte of a word.
+fn word_number(word: Word) -> u8
+    ensures { result ≡ word_number word }
 {
-    let mut rest = n;
-    let mut i = 0;
-    while i < k {
-        out[at + i] = (rest % 256) as u8;
-        rest = rest / 256;
-        i += 1;
+    match word {
+        Word::Valid => 0,
+        Word::Invalid => 1,
+        Word::Refused => 2,
     }
 }
 
-// Entry i, where the output has its place.
-pub fn put_entry(out: &mut [u8], i: usize, word: u8, number: u8, place: usize, read: usize)
-    ensures { out.new ≡ with_entry out.old i (record { word = word; number = number; place = place; read = read }) }
-{
-    if i < out.len() / 16 {
-        let at = 16 * i;
-        out[at] = word;
-        out[at + 1] = number;
-        out[at + 2] = 0;
-        out[at + 3] = 0;
-        put_little(out, at + 4, place, 4);
-        put_little(out, at + 8, read, 8);
+impl Entry {
+    // A verdict, after so many bytes of the stream.
+    fn of(v: Verdict, read: usize) -> Entry
+        ensures { result ≡ verdict_entry v read }
+    {
+        Entry {
+            word: v.word(),
+            number: v.number(),
+            place: v.place() as usize,
+            read,
+        }
     }
-}
 
-// The entry of a verdict.
-fn put_verdict(out: &mut [u8], i: usize, v: Verdict, read: usize)
-    ensures { out.new ≡ with_entry out.old i (verdict_entry v read) }
-{
-    put_entry(
-        out,
-        i,
-        text::word_of(v),
-        verdict::number_of(v),
-        verdict::place_of(v) as usize,
-        read,
-    )
+    // Its bytes: the numbers begin with their lowest byte.
+    fn bytes(self) -> [u8; 16]
+        ensures { result ≡ bytes_of self }
+    {
+        let p = self.place.to_le_bytes();
+        let r = self.read.to_le_bytes();
+        [
+            word_number(self.word),
+            self.number,
+            0,
+            0,
+            p[0],
+            p[1],
+            p[2],
+            p[3],
+            r[0],
+            r[1],
+            r[2],
+            r[3],
+            r[4],
+            r[5],
+            r[6],
+            r[7],
+        ]
+    }
+
+    // Entry i, where the output has its place.
+    pub fn put(self, out: &mut [u8], i: usize)
+        ensures { out.new ≡ with_entry out.old i self }
+    {
+        if i < out.len() / 16 {
+            let at = 16 * i;
+            out[at..at + 16].copy_from_slice(&self.bytes());
+        }
+    }
 }
 
 // The entry of an answer, if it says anything, and how many entries there are then.
@@ -55,15 +82,16 @@ pub fn put_answer(out: &mut [u8], i: usize, a: Answer, read: usize) -> usize
     requires { i < 18446744073709551615 }
     ensures { (out.new ≡ with_entries out.old i (answer_entries a read)) × (result ≡ i + length (answer_entries a read)) }
 {
-    match a {
-        Answer::Quiet => i,
-        Answer::Judged(v) => {
-            put_verdict(out, i, v, read);
-            i + 1
-        }
-        Answer::Refused(n) => {
-            put_entry(out, i, 2, reader::refusal_number(n), 0, read);
-            i + 1
-        }
-    }
+    let entry = match a {
+        Ok(None) => return i,
+        Ok(Some(v)) => Entry::of(v, read),
+        Err(n) => Entry {
+            word: Word::Refused,
+            number: reader::refusal_number(n),
+            place: 0,
+            read,
+        },
+    };
+    entry.put(out, i);
+    i + 1
 }

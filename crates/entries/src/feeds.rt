@@ -19,21 +19,13 @@ struct Fed {
 fn is_quiet(a: Answer) -> bool
     ensures { result ≡ is_quiet a }
 {
-    match a {
-        Answer::Quiet => true,
-        Answer::Judged(_) => false,
-        Answer::Refused(_) => false,
-    }
+    matches!(a, Ok(None))
 }
 
 fn is_refused(a: Answer) -> bool
     ensures { result ≡ is_refused a }
 {
-    match a {
-        Answer::Quiet => false,
-        Answer::Judged(_) => false,
-        Answer::Refused(_) => true,
-    }
+    a.is_err()
 }
 
 // The end of the piece in which the unread bytes begin.
@@ -81,27 +73,19 @@ fn feed_next<'a>(
     requires { (f.read < length stream.now) × (f.made < 18446744073709551615) }
     ensures { record { reader = result.reader; work = work.new; read = result.read; out = out.new; made = result.made; refused = result.refused } ≡ turn_of (table_in table.now) size stream.now f.reader work.old f.read out.old f.made }
 {
-    let r = f.reader;
-    let read = f.read;
-    let made = f.made;
-    let x = feed_piece(r, table, stream, size, work, read);
-    let next = x.reader;
-    let a = x.answer;
-    let behind = read + x.count;
-    if is_refused(a) {
-        return Fed {
-            reader: next,
-            read: behind,
-            made: made,
-            refused: true,
-        };
-    }
-    let more = entry::put_answer(out, made, a, behind);
+    let x = feed_piece(f.reader, table, stream, size, work, f.read);
+    let read = f.read + x.count;
+    let refused = is_refused(x.answer);
+    let made = if refused {
+        f.made
+    } else {
+        entry::put_answer(out, f.made, x.answer, read)
+    };
     Fed {
-        reader: next,
-        read: behind,
-        made: more,
-        refused: false,
+        reader: x.reader,
+        read,
+        made,
+        refused,
     }
 }
 
@@ -143,14 +127,11 @@ fn feed_close<'a>(
     out: &mut [u8],
 ) -> usize
     requires { r.progress.pos ≡ 0 }
-    ensures { record { work = work.exit.now; out = out.new; made = result } ≡ in_out out.old (streamed (table_in table.now) size r work.entry.now stream.now) }
+    ensures { record { work = work.new; out = out.new; made = result } ≡ in_out out.old (streamed (table_in table.now) size r work.old stream.now) }
 {
     let f = feed_all(r, table, stream, size, work, out);
-    let next = f.reader;
-    let made = f.made;
-    let c = reader::close(next, table, work);
-    let a = c.answer;
-    entry::put_answer(out, made, a, f.read)
+    let c = reader::close(f.reader, table, work);
+    entry::put_answer(out, f.made, c.answer, f.read)
 }
 
 // Starts with a table that is lent, feeds a stream cut at the multiples of a size, and closes. Answers how many entries that gives; each stands in
@@ -163,13 +144,11 @@ pub fn judge<'a>(
     work: &mut [u8],
     out: &mut [u8],
 ) -> usize
-    ensures { record { work = work.exit.now; out = out.new; made = result } ≡ judge_table_of (table_in table.now) stream.now size work.entry.now out.old }
+    ensures { record { work = work.new; out = out.new; made = result } ≡ judge_table_of (table_in table.now) stream.now size work.old out.old }
 {
     let b = Reader::start(table, work);
-    let r = b.reader;
-    let said = b.answer;
-    if is_quiet(said) {
-        return feed_close(r, table, stream, size, work, out);
+    if is_quiet(b.answer) {
+        return feed_close(b.reader, table, stream, size, work, out);
     }
-    entry::put_answer(out, 0, said, 0)
+    entry::put_answer(out, 0, b.answer, 0)
 }

@@ -1,5 +1,6 @@
 -- The entries of an accepted book and a buffer of 96 bytes or more are those of the stream's verdicts, as the stream on paper gives them:
 -- `judges-stream`. Assumes nothing.
+use Rattle.std.specs.Prelude.{Ok, Err, Some, None}
 use mathlib.Core.Bool.{Bool, true, false, cond}
 use mathlib.Core.List.{List, [], ◌∷◌, ◌++◌, append_assoc, append-nil}
 use mathlib.Core.Path.{◌≡◌, refl, sym, ap, subst, ◌∙◌}
@@ -17,8 +18,7 @@ use Rattle.load.specs.Loads.{book_table, LoadsAs}
 use Rattle.frame.specs.Frame.{frame_count}
 use Rattle.verdict.specs.declared.Verdict.{Verdict}
 use Rattle.reader.specs.declared.Reader.{Reader}
-use Rattle.reader.specs.declared.Answer.{Answer}
-use Rattle.reader.specs.declared.Answer.TheVariants as Says
+use Rattle.reader.specs.Answer.{Answer}
 use Rattle.reader.specs.declared.Refusal.{Refusal}
 use Rattle.reader.specs.Start.{start_of}
 use Rattle.reader.specs.Machine.{Outcome, feed_of, close_of}
@@ -29,6 +29,7 @@ use Rattle.demand.specs.Book.{Book}
 use Rattle.demand.specs.Reading.{Reads, ended, fed}
 use Rattle.demand.proofs.FeedLaws.{count-of-feed, some-of-feed, length-of-feed}
 use Rattle.demand.proofs.ReadingLaws.{verdicts-of-reads, book-of-loaded, start-quiet, feed-served, close-served, good-of-feed}
+use Rattle.entries.specs.declared.entry.Entry.{Entry}
 use Rattle.entries.specs.Entries.{Entry as Said}
 use Rattle.entries.specs.Feeds.{answer_entries, is_refused, Fed, stopped, entries_then, piece_of, feeds, closes, streamed}
 use Rattle.fieldtext.specs.Judge.{judges}
@@ -38,16 +39,16 @@ use Rattle.entries.proofs.FeedLaws.{feeds-done, feeds-more}
 
 -- ---- one answer
 
-unrefused : (a : Answer) → ((k : Refusal) → a ≡ Says.Refused k → ⊥) → is_refused a ≡ false
-unrefused Says.Quiet h = refl
-unrefused (Says.Judged v) h = refl
-unrefused (Says.Refused k) h = absurd (h k refl)
+unrefused : (a : Answer) → ((k : Refusal) → a ≡ Err k → ⊥) → is_refused a ≡ false
+unrefused (Ok None) h = refl
+unrefused (Ok (Some v)) h = refl
+unrefused (Err k) h = absurd (h k refl)
 
-shows-answer : (a : Answer) (read : ℕ) (es : List Said) (vs : List Verdict) → ((k : Refusal) → a ≡ Says.Refused k → ⊥) → Shows es vs
+shows-answer : (a : Answer) (read : ℕ) (es : List Said) (vs : List Verdict) → ((k : Refusal) → a ≡ Err k → ⊥) → Shows es vs
     → Shows (answer_entries a read ++ es) (and_then a vs)
-shows-answer Says.Quiet read es vs h x = x
-shows-answer (Says.Judged v) read es vs h x = next v read x
-shows-answer (Says.Refused k) read es vs h x = absurd (h k refl)
+shows-answer (Ok None) read es vs h x = x
+shows-answer (Ok (Some v)) read es vs h x = next v read x
+shows-answer (Err k) read es vs h x = absurd (h k refl)
 
 -- ---- the bytes after a piece
 
@@ -94,7 +95,7 @@ module _ (t : Table) (es : List Entry) (book : Book t es) (n : ℕ) (least : 1 �
         → Shown r w s (closes t (feeds (suc k) t size r w read s)).entries
     shown-of-feed k s some o e x =
         let p : List ℕ = piece_of size read s in
-        let served : (j : Refusal) → o.answer ≡ Says.Refused j → ⊥ = rw e (feed-served t es book n least most r w g long p) in
+        let served : (j : Refusal) → o.answer ≡ Err j → ⊥ = rw e (feed-served t es book n least most r w g long p) in
         let inside : o.count ≤ length p = rw e (count-of-feed r t w p) in
         let f : Fed = feeds k t size o.reader o.work (read + o.count) (drop o.count s) in
         let first : List Said = answer_entries o.answer (read + o.count) in
@@ -145,7 +146,7 @@ module _ (b : List ℕ) (l : Loaded) (loaded : LoadsAs b l) (yes : (loads b).num
   unfolding judges
   judges-stream size w s h =
       let n : ℕ = frame_count (length w) in
-      let start : (start_of table w).answer ≡ Says.Quiet = start-quiet b l loaded table loaded.table w h in
+      let start : (start_of table w).answer ≡ (Ok None) = start-quiet b l loaded table loaded.table w h in
       let begun = begun-of-start table w start in
       let fits : 96 * n ≤ length w = omega arith in
       rw (eq-eqb (loads b).number 0 yes, start)

@@ -1,3 +1,3 @@
-pub mod ScanLaws
+mod ScanLaws
 pub mod PickLaws
 pub mod Examples

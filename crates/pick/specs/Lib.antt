@@ -1,2 +1,1 @@
 pub mod Pick
-pub mod Scan

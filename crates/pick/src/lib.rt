@@ -1,51 +1,24 @@
 // Pick: the record of a stream slice that has verdict n.
 #![tactic(auto)]
 
-ghost use Rattle.std.specs.Prelude.{◌≡◌};
+ghost use Rattle.std.specs.Prelude.{◌≡◌, ◌==◌, ◌+◌, ◌<◌, length, drop, position};
 ghost use Rattle.pick.specs.Pick.{pick_of};
-ghost use Rattle.pick.specs.Scan.{ends_part, is_it, counted, part_start};
 
-// An RS after at least one byte of the part that begins at start.
-fn ends_part(b: u8, start: usize, i: usize) -> bool
-    ensures { result ≡ ends_part b start i }
+const RS: u8 = 0x1E;
+
+// Where the first RS stands, if there is one.
+fn first_rs(s: &[u8]) -> Option<usize>
+    ensures { result ≡ position (λ b. b == 0x1E) s.now }
 {
-    if b == 0x1E {
-        return start < i;
-    }
-    false
+    s.iter().position(|b| *b == RS)
 }
 
-// The part that ended is the one to pick.
-fn is_it(ended: bool, left: usize) -> bool
-    ensures { result ≡ is_it ended left }
+// What follows the byte at a place.
+fn behind(s: &[u8], at: usize) -> &[u8]
+    requires { at < length s.now }
+    ensures { result.now ≡ drop (at + 1) s.now }
 {
-    if ended {
-        return left == 0;
-    }
-    false
-}
-
-// How many records are still to pass, when one may have ended.
-fn count_part(ended: bool, left: usize) -> usize
-    ensures { result ≡ counted ended left }
-{
-    if ended {
-        if 0 < left {
-            return left - 1;
-        }
-        return 0;
-    }
-    left
-}
-
-// Where the part after byte i begins.
-fn part_start(b: u8, start: usize, behind: usize) -> usize
-    ensures { result ≡ part_start b start behind }
-{
-    if b == 0x1E {
-        return behind;
-    }
-    start
+    &s[at + 1..]
 }
 
 // The record that has verdict n, counted from 0, as a part of the caller's slice; an empty part where none has. Ruled out: a pick that counts
@@ -53,21 +26,16 @@ fn part_start(b: u8, start: usize, behind: usize) -> usize
 pub fn pick(s: &[u8], n: usize) -> &[u8]
     ensures { result.now ≡ pick_of s.now n }
 {
-    let mut start = 0;
+    let mut rest = s;
     let mut left = n;
-    let mut i = 0;
-    while i < s.len() {
-        let b = s[i];
-        let ended = ends_part(b, start, i);
-        if is_it(ended, left) {
-            return &s[start..i];
+    while let Some(end) = first_rs(rest) {
+        if 0 < end {
+            if left == 0 {
+                return &rest[..end];
+            }
+            left -= 1;
         }
-        left = count_part(ended, left);
-        start = part_start(b, start, i + 1);
-        i += 1;
+        rest = behind(rest, end);
     }
-    if left == 0 {
-        return &s[start..i];
-    }
-    &s[0..0]
+    if left == 0 { rest } else { &[] }
 }

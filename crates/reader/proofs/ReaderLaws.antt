@@ -1,4 +1,5 @@
 -- Laws of start, feed and close by their gates, in the form of the code's needs. Assumes nothing.
+use Rattle.std.specs.Prelude.{Ok, Err, Some, None}
 use mathlib.Core.Bool.{true}
 use mathlib.Core.List.{List}
 use mathlib.Core.Path.{◌≡◌, sym, ◌∙◌}
@@ -13,7 +14,6 @@ use Rattle.reader.specs.declared.Fed.{Fed}
 use Rattle.reader.specs.declared.Refusal.{Refusal}
 use Rattle.reader.specs.declared.Gate.{Gate}
 use Rattle.reader.specs.declared.Gate.TheVariants as Is
-use Rattle.reader.specs.declared.Answer.TheVariants as Says
 use Rattle.reader.specs.Refusals.{within_reader, start_gate, call_gate}
 use Rattle.reader.specs.Tally.{zero_tally, tallied}
 use Rattle.reader.specs.Start.{fresh_reader, start_of}
@@ -23,13 +23,13 @@ use Rattle.reader.specs.Machine.{Outcome, refusing, feeding, feed_of, closing, c
 
 module _ (t : Table) (w : List ℕ) (a : Gate) (p : a ≡ start_gate t (length w)) (r : Reader) where
   -- a shut gate gives a reader with 0 frames
-  pub start-refused : (k : Refusal) → a ≡ Is.Shut k → r ≡ fresh_reader 0 true zero_tally → record { reader = r; answer = Says.Refused k } ≡ start_of t w
+  pub start-refused : (k : Refusal) → a ≡ Is.Shut k → r ≡ fresh_reader 0 true zero_tally → record { reader = r; answer = Err k } ≡ start_of t w
   unfolding start_of
   start-refused k e f = rw (sym p ∙ e, f)
 
   -- an open gate gives a reader with the frames of the buffer
   pub start-done : (n : ℕ) → a ≡ Is.Open → n ≡ frame_count (length w) → r ≡ fresh_reader n true zero_tally
-      → record { reader = r; answer = Says.Quiet } ≡ start_of t w
+      → record { reader = r; answer = Ok None } ≡ start_of t w
   unfolding start_of
   start-done n e g f = rw (sym p ∙ e, f, g)
 
@@ -56,7 +56,7 @@ module _ (r : Reader) (t : Table) (w : List ℕ) (a : Gate) (p : a ≡ call_gate
       → f ≡ record {
         reader = fresh_reader r.frames true (tallied (judged r.progress r.root) r.tally);
         count = 0;
-        answer = Says.Judged (judged r.progress r.root);
+        answer = Ok (Some (judged r.progress r.root));
       }
       → record { reader = f.reader; count = 0; answer = f.answer; work = w } ≡ close_of r t w
   unfolding close_of closing
@@ -64,6 +64,6 @@ module _ (r : Reader) (t : Table) (w : List ℕ) (a : Gate) (p : a ≡ call_gate
 
   -- a close where nothing was read
   pub close-empty : a ≡ Is.Open → r.progress.pos ≤ 0 → (n : Reader) → n ≡ fresh_reader r.frames true r.tally
-      → record { reader = n; count = 0; answer = Says.Quiet; work = w } ≡ close_of r t w
+      → record { reader = n; count = 0; answer = Ok None; work = w } ≡ close_of r t w
   unfolding close_of closing
   close-empty e h n q = rw (sym p ∙ e, le-ltb 0 r.progress.pos h, q)

@@ -1,4 +1,5 @@
 -- Laws of the loop over a piece, in the form of the code's needs: its invariant, and its two ways out. Assumes nothing.
+use Rattle.std.specs.Prelude.{Ok, Some, None}
 use mathlib.Core.Bool.{Bool, true, false}
 use mathlib.Core.List.{List}
 use mathlib.Core.Path.{◌≡◌, refl, sym, ◌∙◌}
@@ -12,7 +13,6 @@ use Rattle.progress.specs.Memory.{Mem, mem, run_mem}
 use Rattle.piece.specs.Went.{WentTo}
 use Rattle.reader.specs.declared.Reader.{Reader}
 use Rattle.reader.specs.declared.Fed.{Fed}
-use Rattle.reader.specs.declared.Answer.TheVariants as Says
 use Rattle.reader.specs.Tally.{tallied}
 use Rattle.reader.specs.Start.{fresh_reader}
 use Rattle.reader.specs.Machine.{feeding}
@@ -51,11 +51,11 @@ module _ (r : Reader) (t : Table) (w s key : List ℕ) (same : key ≡ r.key) (f
 
   pub piece-ended : (m : Mem) (j : ℕ) (e : Bool) → Left t r.frames s (mem r.progress r.root key w) m j
       → WentTo t r.frames m s j (mem x root kept v) i e → e ≡ true
-      → f ≡ record { reader = fresh_reader r.frames false (tallied (judged x root) r.tally); count = i; answer = Says.Judged (judged x root) } → Gives
+      → f ≡ record { reader = fresh_reader r.frames false (tallied (judged x root) r.tally); count = i; answer = Ok (Some (judged x root)) } → Gives
   unfolding feeding
   piece-ended m j e l g q h = rw (sym same, run-of-ended t r.frames s _ m (mem x root kept v) j i e l g q, h)
 
   pub piece-read : Left t r.frames s (mem r.progress r.root key w) (mem x root kept v) i → length s ≤ i
-      → f ≡ record { reader = record { frames = r.frames; progress = x; root = root; key = kept; tally = r.tally }; count = i; answer = Says.Quiet } → Gives
+      → f ≡ record { reader = record { frames = r.frames; progress = x; root = root; key = kept; tally = r.tally }; count = i; answer = Ok None } → Gives
   unfolding feeding
   piece-read l d h = rw (sym same, sym l.run ∙ run-done t r.frames (mem x root kept v) s i d, h)

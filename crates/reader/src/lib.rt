@@ -1,7 +1,7 @@
 // The reader: start, feed and close.
 #![tactic(auto)]
 
-ghost use Rattle.std.specs.Prelude.{◌≡◌, length, true, [], ◌∷◌};
+ghost use Rattle.std.specs.Prelude.{◌≡◌, length, true, [], ◌∷◌, Ok, Some, None};
 ghost use Rattle.table.specs.Flat.{table_in};
 ghost use Rattle.table.specs.Limits.{within_limits};
 ghost use Rattle.progress.specs.Progress.{judged};
@@ -59,12 +59,7 @@ pub fn refusal_number(n: Refusal) -> u8
 }
 
 // What a call says: nothing, the verdict of a record, or why it is refused.
-#[derive(Clone, Copy)]
-pub enum Answer {
-    Quiet,
-    Judged(Verdict),
-    Refused(Refusal),
-}
+pub type Answer = Result<Option<Verdict>, Refusal>;
 
 #[derive(Clone, Copy)]
 pub struct Started {
@@ -210,7 +205,7 @@ fn count_record(v: Verdict, y: Tally) -> Tally
 
 // A record ends: its verdict, counted, and the reader of the next.
 fn end_record(frames: usize, tally: Tally, x: Progress, root: bool, count: usize, head: bool) -> Fed
-    ensures { result ≡ record { reader = fresh_reader frames head (tallied (judged x root) tally); count = count; answer = Answer.Judged (judged x root) } }
+    ensures { result ≡ record { reader = fresh_reader frames head (tallied (judged x root) tally); count = count; answer = Ok (Some (judged x root)) } }
 {
     let v = progress::judge(x, root);
     let y = count_record(v, tally);
@@ -218,7 +213,7 @@ fn end_record(frames: usize, tally: Tally, x: Progress, root: bool, count: usize
     Fed {
         reader: n,
         count: count,
-        answer: Answer::Judged(v),
+        answer: Ok(Some(v)),
     }
 }
 
@@ -231,7 +226,7 @@ fn read_all(
     key: [u8; 32],
     count: usize,
 ) -> Fed
-    ensures { result ≡ record { reader = record { frames = frames; progress = x; root = root; key = key; tally = tally }; count = count; answer = Answer.Quiet } }
+    ensures { result ≡ record { reader = record { frames = frames; progress = x; root = root; key = key; tally = tally }; count = count; answer = Ok None } }
 {
     let next = Reader {
         frames: frames,
@@ -243,7 +238,7 @@ fn read_all(
     Fed {
         reader: next,
         count: count,
-        answer: Answer::Quiet,
+        answer: Ok(None),
     }
 }
 
@@ -275,13 +270,13 @@ impl Reader {
             let none = fresh_reader(0, true, y);
             return Started {
                 reader: none,
-                answer: Answer::Refused(n),
+                answer: Err(n),
             };
         }
         let r = fresh_reader(frame::frames(work.len()), true, y);
         Started {
             reader: r,
-            answer: Answer::Quiet,
+            answer: Ok(None),
         }
     }
 }
@@ -326,7 +321,7 @@ pub fn feed<'a>(r: Reader, table: &'a [u8; 7920], work: &mut [u8], piece: &'a [u
         return Fed {
             reader: r,
             count: 0,
-            answer: Answer::Refused(n),
+            answer: Err(n),
         };
     }
     read_piece(r, table, work, piece)
@@ -344,7 +339,7 @@ pub fn close<'a>(r: Reader, table: &'a [u8; 7920], work: &'a [u8]) -> Closed
     if let Gate::Shut(n) = gate {
         return Closed {
             reader: r,
-            answer: Answer::Refused(n),
+            answer: Err(n),
         };
     }
     if 0 < x.pos {
@@ -359,6 +354,6 @@ pub fn close<'a>(r: Reader, table: &'a [u8; 7920], work: &'a [u8]) -> Closed
     let n = fresh_reader(frames, true, tally);
     Closed {
         reader: n,
-        answer: Answer::Quiet,
+        answer: Ok(None),
     }
 }

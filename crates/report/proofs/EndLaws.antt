@@ -1,4 +1,5 @@
 -- The first and the last text of the judging program. Assumes nothing.
+use Rattle.std.specs.Prelude.{Ok, Err, Some, None}
 use mathlib.Core.Bool.{true, false}
 use mathlib.Core.List.{List}
 use mathlib.Core.Path.{◌≡◌, sym, ap, ◌∙◌}
@@ -17,15 +18,14 @@ use Rattle.load.proofs.LoadedLaws.{number-of-book, line-of-book}
 use Rattle.text.specs.Text.{line_of, stream_names, book_lines}
 use Rattle.text.specs.Put.{has_room, Written, write}
 use Rattle.reader.specs.declared.Reader.{Reader}
-use Rattle.reader.specs.declared.Answer.{Answer}
-use Rattle.reader.specs.declared.Answer.TheVariants as Says
+use Rattle.reader.specs.Answer.{Answer}
 use Rattle.reader.specs.Machine.{Outcome, close_of}
 use Rattle.report.specs.Report.{in_out, written, closing, finish_of, beginning, Begins}
 
 -- ---- finish
 
 module _ (r : Reader) (t : Table) (w o : List ℕ) where
-  pub finish-none : length o < 64 → record { reader = r; work = w; read = 0; out = o; used = 0; answer = Says.Quiet } ≡ finish_of r t w o
+  pub finish-none : length o < 64 → record { reader = r; work = w; read = 0; out = o; used = 0; answer = Ok None } ≡ finish_of r t w o
   unfolding finish_of has_room
   finish-none h = rw (lt-leb 64 (length o) h)
 
@@ -41,9 +41,9 @@ module _ (r : Reader) (t : Table) (w o : List ℕ) where
       where
         go : (a : Answer) → after ≡ (written a o 0).out → place ≡ (written a o 0).at
             → record { reader = next; work = w; read = 0; out = after; used = place; answer = a } ≡ in_out o (closing (closed a))
-        go Says.Quiet u v = rw (u, v)
-        go (Says.Refused n) u v = rw (u, v)
-        go (Says.Judged x) u v =
+        go (Ok None) u v = rw (u, v)
+        go (Err n) u v = rw (u, v)
+        go (Ok (Some x)) u v =
             let n : place ≡ length (line_of x) = omega (arith, rw (le-leb 64 (length o) has) at v) in
             rw (rw (le-leb 64 (length o) has) at u, n)
 

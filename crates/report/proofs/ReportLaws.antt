@@ -1,4 +1,5 @@
 -- A report feed by feed: what is left of the piece gives what the whole gives. Assumes nothing.
+use Rattle.std.specs.Prelude.{Ok, Err, Some, None}
 use mathlib.Core.Bool.{Bool, true, false}
 use mathlib.Core.List.{List}
 use mathlib.Core.Path.{◌≡◌, refl, sym, ap, subst, ◌∙◌}
@@ -10,10 +11,9 @@ use Rattle.table.specs.Table.{Table}
 use Rattle.verdict.specs.declared.Verdict.{Verdict}
 use Rattle.text.specs.Text.{line_of}
 use Rattle.text.specs.Put.{Put, write, Written}
-use Rattle.text.proofs.PutLaws.{Rest, rest-start, rest_put, rest-done, length-line, put-of-write, length-of-put}
+use Rattle.text.proofs.PutLaws.{Rest, rest-start, rest_put, rest-done, put-of-write, length-of-put}
 use Rattle.reader.specs.declared.Reader.{Reader}
-use Rattle.reader.specs.declared.Answer.{Answer}
-use Rattle.reader.specs.declared.Answer.TheVariants as Says
+use Rattle.reader.specs.Answer.{Answer}
 use Rattle.reader.specs.Machine.{Outcome, feed_of}
 use Rattle.demand.proofs.FeedLaws.{count-of-feed}
 use Rattle.book.proofs.TruthLaws.{true-not-false}
@@ -50,17 +50,17 @@ module _ (t : Table) (s : List ℕ) (r : Reader) (w : List ℕ) (read : ℕ) whe
 
 -- a feed without a verdict is the last, and has no line
 last-stops : (a : Answer) → is_last a ≡ true → (stop : Reported) (go : Verdict → Reported) → by_answer a stop go ≡ stop
-last-stops Says.Quiet e stop go = refl
-last-stops (Says.Refused n) e stop go = refl
-last-stops (Says.Judged v) e stop go = true-not-false false e refl
+last-stops (Ok None) e stop go = refl
+last-stops (Err n) e stop go = refl
+last-stops (Ok (Some v)) e stop go = true-not-false false e refl
 
 last-writes : (a : Answer) → is_last a ≡ true → (o : List ℕ) (at : ℕ) → written a o at ≡ record { out = o; at = at }
-last-writes Says.Quiet e o at = refl
-last-writes (Says.Refused n) e o at = refl
-last-writes (Says.Judged v) e o at = true-not-false false e refl
+last-writes (Ok None) e o at = refl
+last-writes (Err n) e o at = refl
+last-writes (Ok (Some v)) e o at = true-not-false false e refl
 
 module _ (k : ℕ) (t : Table) (r : Reader) (w s : List ℕ) where
-  reports-line : (v : Verdict) → (feed_of r t w s).answer ≡ Says.Judged v
+  reports-line : (v : Verdict) → (feed_of r t w s).answer ≡ Ok (Some v)
       → reports (suc k) t r w s
       ≡ line_then (feed_of r t w s).count v (reports k t (feed_of r t w s).reader (feed_of r t w s).work (drop (feed_of r t w s).count s))
   unfolding reports
@@ -114,12 +114,12 @@ module _ (t : Table) (w₀ s o₀ : List ℕ) (r : Reader) where
 
   module _ (w o : List ℕ) (next : Reader) (read used i : ℕ) (x : Going w o next read used i) where
     -- the output is full
-    pub going-full : most ≤ i → record { reader = next; work = w; read = read; out = o; used = used; answer = Says.Quiet } ≡ report_of r t w₀ s o₀
+    pub going-full : most ≤ i → record { reader = next; work = w; read = read; out = o; used = used; answer = Ok None } ≡ report_of r t w₀ s o₀
     unfolding reports report_of
     going-full h =
         let e : most - i ≡ 0 = omega (arith, h) in
         let p : Put o₀ 0 whole.text o used = rest-done o₀ 0 whole.text o used (rw e at x.text) in
-        report-of o₀ whole next w read o used Says.Quiet (rw e at x.reader) (rw e at x.work) (omega (arith, rw e at x.reads)) p
+        report-of o₀ whole next w read o used (Ok None) (rw e at x.reader) (rw e at x.work) (omega (arith, rw e at x.reads)) p
         (rw e at x.answer)
 
     module _ (more : i < most) (next' : Reader) (w' : List ℕ) (read' : ℕ) (o' : List ℕ) (used' : ℕ) (a : Answer)
@@ -153,15 +153,15 @@ module _ (t : Table) (w₀ s o₀ : List ℕ) (r : Reader) where
           (ap (λ (y : Report). y.work) turn ∙ rw stop at x.work) (ap (λ (y : Report). y.read) turn ∙ rw stop at x.reads) put
           (answer-is ∙ rw stop at x.answer)
 
-      -- a verdict has its line
-      module _ (v : Verdict) (judged : f.answer ≡ Says.Judged v) where
+      -- a verdict has its line, of at most 64 bytes
+      module _ (short : used' ≤ used + 64) (v : Verdict) (judged : f.answer ≡ Ok (Some v)) where
         turn_is : ◌≡◌ {A = Report} (record { reader = next'; work = w'; read = read'; out = o'; used = used'; answer = a }) (record {
           reader = f.reader;
           work = f.work;
           read = read + f.count;
           out = (write o used (line_of v)).out;
           used = (write o used (line_of v)).at;
-          answer = Says.Judged v;
+          answer = Ok (Some v);
         })
         unfolding report_next
         turn_is = rw judged at turn
@@ -187,7 +187,7 @@ module _ (t : Table) (w₀ s o₀ : List ℕ) (r : Reader) where
             (record {
               feeds = omega (arith, more);
               room = length-of-put o used (line_of v) after place put ∙ x.room;
-              lines = omega (arith, put.place, length-line v, x.lines);
+              lines = omega (arith, short, ap (λ (y : Report). y.used) turn_is, x.lines);
               inside = omega (arith, x.inside, length-drop read s, count-of-feed next t w (drop read s));
               reader = rw behind-is at x.reader;
               work = rw behind-is at x.work;
@@ -196,10 +196,10 @@ module _ (t : Table) (w₀ s o₀ : List ℕ) (r : Reader) where
               text = rest_put o₀ 0 whole.text o used (line_of v) rest.text after place (rw behind-is at x.text) put;
             })
 
-      pub going-line : b ≡ false → Going w' o' next' read' used' (i + 1)
-      going-line e = go f.answer refl (ap is_last (sym answer-is) ∙ sym said ∙ e)
+      pub going-line : used' ≤ used + 64 → b ≡ false → Going w' o' next' read' used' (i + 1)
+      going-line short e = go f.answer refl (ap is_last (sym answer-is) ∙ sym said ∙ e)
         where
           go : (y : Answer) → f.answer ≡ y → is_last y ≡ false → Going w' o' next' read' used' (i + 1)
-          go Says.Quiet d z = true-not-false true refl z
-          go (Says.Refused n) d z = true-not-false true refl z
-          go (Says.Judged v) d z = line-going v d
+          go (Ok None) d z = true-not-false true refl z
+          go (Err n) d z = true-not-false true refl z
+          go (Ok (Some v)) d z = line-going short v d

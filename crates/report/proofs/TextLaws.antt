@@ -1,5 +1,6 @@
 -- The judging program prints the line of each verdict of its input, as the stream on paper gives them, wherever the input is cut:
 -- `text-of-stream`, `text-of-program`. Assumes nothing.
+use Rattle.std.specs.Prelude.{Ok, Err, Some, None}
 use mathlib.Core.List.{List, [], ◌++◌, append_assoc, append-nil}
 use mathlib.Core.Path.{◌≡◌, refl, sym, ap, ◌∙◌}
 use Prim.Native.Nat.{ℕ, zero, suc, ◌*◌, ◌≤◌}
@@ -15,8 +16,7 @@ use Rattle.frame.specs.Frame.{frame_count}
 use Rattle.verdict.specs.declared.Verdict.{Verdict}
 use Rattle.text.specs.Text.{line_of, lines_of, stream_names}
 use Rattle.reader.specs.declared.Reader.{Reader}
-use Rattle.reader.specs.declared.Answer.{Answer}
-use Rattle.reader.specs.declared.Answer.TheVariants as Says
+use Rattle.reader.specs.Answer.{Answer}
 use Rattle.reader.specs.Start.{start_of}
 use Rattle.reader.specs.Machine.{Outcome, feed_of, close_of}
 use Rattle.stream.specs.Records.{verdicts_of, and_then, Fresh}
@@ -32,20 +32,20 @@ use Rattle.report.specs.Prints.{Prints, ended as prints-end, reported}
 
 -- the line of a verdict, if the answer is one
 abbrev line_in : Answer → List ℕ
-line_in Says.Quiet = []
-line_in (Says.Refused n) = []
-line_in (Says.Judged v) = line_of v
+line_in (Ok None) = []
+line_in (Err n) = []
+line_in (Ok (Some v)) = line_of v
 
 lines-and_then : (a : Answer) (vs : List Verdict) → line_in a ++ lines_of vs ≡ lines_of (and_then a vs)
 unfolding lines_of
-lines-and_then Says.Quiet vs = refl
-lines-and_then (Says.Refused n) vs = refl
-lines-and_then (Says.Judged v) vs = refl
+lines-and_then (Ok None) vs = refl
+lines-and_then (Err n) vs = refl
+lines-and_then (Ok (Some v)) vs = refl
 
 text-of-closing : (c : Outcome) (a : Answer) → c.answer ≡ a → (closing c).text ≡ line_in a
-text-of-closing c Says.Quiet e = rw e
-text-of-closing c (Says.Refused n) e = rw e
-text-of-closing c (Says.Judged v) e = rw e
+text-of-closing c (Ok None) e = rw e
+text-of-closing c (Err n) e = rw e
+text-of-closing c (Ok (Some v)) e = rw e
 
 -- ---- what a program prints
 
@@ -95,9 +95,9 @@ module _ (t : Table) where
           → (Printed behind.reader behind.work (drop behind.read (drop o.count s) ++ u) x
           → Printed o.reader o.work (drop o.count s ++ u) (behind.text ++ x))
           → Printed r w (s ++ u) ((first a).text ++ x)
-      go Says.Quiet e y more = rw e at (printed-of-feed r w s u x y)
-      go (Says.Refused m) e y more = rw e at (printed-of-feed r w s u x y)
-      go (Says.Judged v) e y more =
+      go (Ok None) e y more = rw e at (printed-of-feed r w s u x y)
+      go (Err m) e y more = rw e at (printed-of-feed r w s u x y)
+      go (Ok (Some v)) e y more =
           rw (e, sym (append_assoc (line_of v) behind.text x)) at
           (printed-of-feed r w s u (behind.text ++ x) (more (rw (drop-drop behind.read o.count s) y)))
 

@@ -1,5 +1,6 @@
 -- What the judging program does with the bytes that arrive, on slices: REQUIREMENT.md, section 8. Derived: `text-of-stream` of the proofs joins it to
 -- the stream on paper. Assumes nothing.
+use Rattle.std.specs.Prelude.{Ok, Err, Some, None}
 use Rattle.std.specs.Prelude.{Bool, true, false, cond, List, [], ◌++◌, ◌≡◌, ℕ, zero, suc, ◌+◌, ◌/◌, eqb, length, drop}
 use Rattle.std.proofs.lemmas.List.Edits.{sets}
 use Rattle.table.specs.Table.{Table}
@@ -9,8 +10,7 @@ use Rattle.verdict.specs.declared.Verdict.{Verdict}
 use Rattle.text.specs.Text.{line_of, stream_names, book_lines}
 use Rattle.text.specs.Put.{room, has_room, Written, write}
 use Rattle.reader.specs.declared.Reader.{Reader}
-use Rattle.reader.specs.declared.Answer.{Answer}
-use Rattle.reader.specs.declared.Answer.TheVariants as Says
+use Rattle.reader.specs.Answer.{Answer}
 use Rattle.reader.specs.Machine.{Outcome, feed_of, close_of}
 
 -- the reader and the work buffer after some feeds, the bytes that they read, the lines of their verdicts, and what the last one answered
@@ -30,13 +30,13 @@ abbrev pub line_then : ℕ → Verdict → Reported → Reported
 line_then i v x = record { reader = x.reader; work = x.work; read = i + x.read; text = line_of v ++ x.text; answer = x.answer }
 
 abbrev pub by_answer : Answer → Reported → (Verdict → Reported) → Reported
-by_answer Says.Quiet stop go = stop
-by_answer (Says.Refused n) stop go = stop
-by_answer (Says.Judged v) stop go = go v
+by_answer (Ok None) stop go = stop
+by_answer (Err n) stop go = stop
+by_answer (Ok (Some v)) stop go = go v
 
 -- at most k feeds, each of what is unread of a piece, until one gives no verdict
 unfoldable pub reports : ℕ → Table → Reader → List ℕ → List ℕ → Reported
-reports zero t r w s = record { reader = r; work = w; read = 0; text = []; answer = Says.Quiet }
+reports zero t r w s = record { reader = r; work = w; read = 0; text = []; answer = Ok None }
 reports (suc k) t r w s =
     by_answer (feed_of r t w s).answer (stops (feed_of r t w s))
     (λ v. line_then (feed_of r t w s).count v (reports k t (feed_of r t w s).reader (feed_of r t w s).work (drop (feed_of r t w s).count s)))
@@ -59,15 +59,15 @@ report_of r t w s o = in_out o (reports (length o / room) t r w s)
 -- ---- one feed of a report
 
 abbrev pub is_last : Answer → Bool
-is_last Says.Quiet = true
-is_last (Says.Refused n) = true
-is_last (Says.Judged v) = false
+is_last (Ok None) = true
+is_last (Err n) = true
+is_last (Ok (Some v)) = false
 
 -- the output with the line of a verdict from a place on, if the answer is one
 abbrev pub written : Answer → List ℕ → ℕ → Written
-written Says.Quiet o at = record { out = o; at = at }
-written (Says.Refused n) o at = record { out = o; at = at }
-written (Says.Judged v) o at = write o at (line_of v)
+written (Ok None) o at = record { out = o; at = at }
+written (Err n) o at = record { out = o; at = at }
+written (Ok (Some v)) o at = write o at (line_of v)
 
 abbrev pub reported : Outcome → ℕ → List ℕ → ℕ → Report
 reported f read o used =
@@ -94,7 +94,7 @@ closing c =
 
 -- a close, and the line of its verdict in the output; without room for the line nothing is done
 unfoldable pub finish_of : Reader → Table → List ℕ → List ℕ → Report
-finish_of r t w o = in_out o (cond (has_room (length o) 0) (closing (close_of r t w)) (record { reader = r; work = w; read = 0; text = []; answer = Says.Quiet }))
+finish_of r t w o = in_out o (cond (has_room (length o) 0) (closing (close_of r t w)) (record { reader = r; work = w; read = 0; text = []; answer = Ok None }))
 
 -- ---- the book
 

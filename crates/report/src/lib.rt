@@ -7,6 +7,7 @@ ghost use Rattle.reader.specs.Machine.{feed_of};
 ghost use Rattle.report.specs.Report.{is_last, written, report_next, report_of, finish_of, Begins};
 
 use reader::{Answer, Reader};
+use text::{RefusedBook, StreamNames};
 
 // What a report gives: the reader, the bytes read of the piece, the bytes written to the output, and what the last feed answered.
 #[derive(Clone, Copy)]
@@ -21,21 +22,17 @@ pub struct Reported {
 fn is_last(a: Answer) -> bool
     ensures { result ≡ is_last a }
 {
-    match a {
-        Answer::Quiet => true,
-        Answer::Refused(_) => true,
-        Answer::Judged(_) => false,
-    }
+    !matches!(a, Ok(Some(_)))
 }
 
 // The line of a verdict, if the answer is one.
 fn write_answer(out: &mut [u8], at: usize, a: Answer) -> usize
-    ensures { record { out = out.exit.now; at = result } ≡ written a out.entry.now at }
+    ensures written { record { out = out.new; at = result } ≡ written a out.old at }
+    ensures short { result ≤ at + 64 }
 {
     match a {
-        Answer::Quiet => at,
-        Answer::Refused(_) => at,
-        Answer::Judged(v) => text::write_verdict(out, at, v),
+        Ok(Some(v)) => text::write(out, at, v),
+        _ => at,
     }
 }
 
@@ -63,20 +60,15 @@ fn report_next<'a>(
     out: &mut [u8],
 ) -> Reported
     requires { x.read ≤ length piece.now }
-    ensures { record { reader = result.reader; work = work.new; read = result.read; out = out.new; used = result.used; answer = result.answer } ≡ report_next (table_in table.now) piece.now x.reader work.old x.read out.old x.used }
+    ensures next { record { reader = result.reader; work = work.new; read = result.read; out = out.new; used = result.used; answer = result.answer } ≡ report_next (table_in table.now) piece.now x.reader work.old x.read out.old x.used }
+    ensures short { result.used ≤ x.used + 64 }
 {
-    let r = x.reader;
-    let read = x.read;
-    let f = feed_rest(r, table, work, piece, read);
-    let behind = read + f.count;
-    let next = f.reader;
-    let a = f.answer;
-    let used = write_answer(out, x.used, a);
+    let f = feed_rest(x.reader, table, work, piece, x.read);
     Reported {
-        reader: next,
-        read: behind,
-        used: used,
-        answer: a,
+        reader: f.reader,
+        read: x.read + f.count,
+        used: write_answer(out, x.used, f.answer),
+        answer: f.answer,
     }
 }
 
@@ -96,23 +88,17 @@ pub fn report<'a>(
         reader: r,
         read: 0,
         used: 0,
-        answer: Answer::Quiet,
+        answer: Ok(None),
     };
-    let mut i = 0;
-    while i < lines {
-        i += 1;
+    for _ in 0..lines {
         x = report_next(x, table, work, piece, out);
-        let a = x.answer;
-        if is_last(a) {
+        if is_last(x.answer) {
             return x;
         }
     }
-    let next = x.reader;
     Reported {
-        reader: next,
-        read: x.read,
-        used: x.used,
-        answer: Answer::Quiet,
+        answer: Ok(None),
+        ..x
     }
 }
 
@@ -126,18 +112,15 @@ pub fn finish<'a>(r: Reader, table: &'a [u8; 7920], work: &'a [u8], out: &mut [u
             reader: r,
             read: 0,
             used: 0,
-            answer: Answer::Quiet,
+            answer: Ok(None),
         };
     }
     let x = reader::close(r, table, work);
-    let next = x.reader;
-    let a = x.answer;
-    let used = write_answer(out, 0, a);
     Reported {
-        reader: next,
+        reader: x.reader,
         read: 0,
-        used: used,
-        answer: a,
+        used: write_answer(out, 0, x.answer),
+        answer: x.answer,
     }
 }
 
@@ -156,15 +139,17 @@ pub fn begin(book: &[u8], table: &mut [u8; 7920], out: &mut [u8]) -> Begun
     let a = load::load(book, table);
     let number = load::number_of(a) as usize;
     if number == 0 {
-        let used = text::write_names(out, 0);
         return Begun {
             accepted: true,
-            used: used,
+            used: text::write(out, 0, StreamNames),
         };
     }
-    let used = text::write_book(out, 0, number, load::line_of(a));
+    let refused = RefusedBook {
+        number,
+        line: load::line_of(a),
+    };
     Begun {
         accepted: false,
-        used: used,
+        used: text::write(out, 0, refused),
     }
 }

@@ -1,6 +1,7 @@
 -- One call: what it does where it is accepted, and that it changes nothing where it is refused. The reader's numbers stay in their bounds whatever
 -- the calls are handed, so that a reader from an accepted start is refused with 23 for the table alone: `never-above-limit`; and so do the counts of a
 -- number: `counts-after-start`. Assumes nothing.
+use Rattle.std.specs.Prelude.{Ok, Err, None}
 use mathlib.Core.Bool.{Bool, true, false}
 use mathlib.Core.List.{List, [], ◌∷◌}
 use mathlib.Core.Path.{◌≡◌, refl, sym, ap, ◌∙◌}
@@ -19,7 +20,6 @@ use Rattle.progress.specs.Fresh.{fresh_progress}
 use Rattle.reader.specs.declared.Reader.{Reader}
 use Rattle.reader.specs.declared.Refusal.{Refusal}
 use Rattle.reader.specs.declared.Refusal.TheVariants as No
-use Rattle.reader.specs.declared.Answer.TheVariants as Says
 use Rattle.reader.specs.declared.Gate.{Gate}
 use Rattle.reader.specs.declared.Gate.TheVariants as Is
 use Rattle.reader.specs.Refusals.{fit_reader, within_reader, start_gate, call_gate, through}
@@ -55,17 +55,17 @@ says-of-saying J n p (feed t w s) = refl
 says-of-saying J n p (close t w) = refl
 
 -- a record that ends, or goes on, is no refusal
-pub reading-not-refused : (r : Reader) (c : Call) (k : Refusal) → (reading r c).answer ≡ Says.Refused k → ⊥
+pub reading-not-refused : (r : Reader) (c : Call) (k : Refusal) → (reading r c).answer ≡ Err k → ⊥
 unfolding feeding closing
 reading-not-refused r (feed t w s) k = go (run_mem t r.frames (memory_of r w) 0 s)
   where
-    go : (e : Ran) → (outcome r e).answer ≡ Says.Refused k → ⊥
+    go : (e : Ran) → (outcome r e).answer ≡ Err k → ⊥
     go e =
-        cond-elim (λ (o : Outcome). o.answer ≡ Says.Refused k → ⊥) e.ended
+        cond-elim (λ (o : Outcome). o.answer ≡ Err k → ⊥) e.ended
         (λ h q. let z : ◌≡◌ {A = ℕ} 0 1 = cc in omega arith)
         (λ h q. let z : ◌≡◌ {A = ℕ} 0 1 = cc in omega arith)
 reading-not-refused r (close t w) k =
-    cond-elim (λ (o : Outcome). o.answer ≡ Says.Refused k → ⊥) (ltb 0 r.progress.pos)
+    cond-elim (λ (o : Outcome). o.answer ≡ Err k → ⊥) (ltb 0 r.progress.pos)
     (λ h q. let z : ◌≡◌ {A = ℕ} 0 1 = cc in omega arith)
     (λ h q. let z : ◌≡◌ {A = ℕ} 0 1 = cc in omega arith)
 
@@ -81,10 +81,10 @@ unchanged-of-refusing : (r : Reader) (w : List ℕ) (k : Refusal) → Unchanged 
 unchanged-of-refusing r w k = record { reader = refl; work = refl; count = refl }
 
 -- a refused call leaves reader and buffer as they were, and reads nothing
-pub unchanged-of-refused : (r : Reader) (c : Call) (k : Refusal) → (run r c).answer ≡ Says.Refused k → Unchanged r (buffer c) (run r c)
+pub unchanged-of-refused : (r : Reader) (c : Call) (k : Refusal) → (run r c).answer ≡ Err k → Unchanged r (buffer c) (run r c)
 unchanged-of-refused r c k =
     rw (run-of-reading r c)
-    (through-elim (λ (o : Outcome). o.answer ≡ Says.Refused k → Unchanged r (buffer c) o) (call_gate (within_reader r) r.frames (table c) (length (buffer c)))
+    (through-elim (λ (o : Outcome). o.answer ≡ Err k → Unchanged r (buffer c) o) (call_gate (within_reader r) r.frames (table c) (length (buffer c)))
     (λ n _ _. unchanged-of-refusing r (buffer c) n)
     (λ _ q. absurd (reading-not-refused r c k q)))
 
@@ -133,7 +133,7 @@ pub record Accepted (n : ℕ) (r : Reader) (c : Call) : Type 0 where
 -- where the paper refuses a call, so does the machine, and both stay as they were
 pub record Refused (n : ℕ) (r : Reader) (c : Call) : Type 0 where
   pub refusal : Refusal
-  pub refused : (run r c).answer ≡ Says.Refused refusal
+  pub refused : (run r c).answer ≡ Err refusal
   pub stays : Unchanged r (buffer c) (run r c)
   pub paper : (J : Judge) (p : Paper) → (says J n p c).paper ≡ p
   pub count : (J : Judge) (p : Paper) → (run r c).count ≡ (says J n p c).count
@@ -173,7 +173,7 @@ module _ (n : ℕ) (least : 1 ≤ n) (most : n ≤ 64) where
     refused-of-shut : (k : Refusal) → gate ≡ Is.Shut k → Refused n r c
     refused-of-shut k o =
         let x : run r c ≡ refusing r (buffer c) k = run-of-shut k o in
-        let y : (J : Judge) (p : Paper) → says J n p c ≡ record { paper = p; count = 0; answer = Says.Refused k } = λ J p. says-of-saying J n p c ∙ rw o in
+        let y : (J : Judge) (p : Paper) → says J n p c ≡ record { paper = p; count = 0; answer = Err k } = λ J p. says-of-saying J n p c ∙ rw o in
         record {
           refusal = k;
           refused = rw x;
@@ -200,13 +200,13 @@ module _ (n : ℕ) (least : 1 ≤ n) (most : n ≤ 64) where
         go false e = rw (refused-of-false e).stays.reader g
 
     -- 23 is for the table
-    limits-of-refused : (run r c).answer ≡ Says.Refused No.AboveLimit → within_limits (table c) ≡ false
+    limits-of-refused : (run r c).answer ≡ Err No.AboveLimit → within_limits (table c) ≡ false
     limits-of-refused e = go gate refl
       where
         go : (a : Gate) → gate ≡ a → within_limits (table c) ≡ false
         go Is.Open o = absurd (reading-not-refused r c No.AboveLimit (sym (ap (λ (x : Outcome). x.answer) (accepted-of-open o).run_is) ∙ e))
         go (Is.Shut k) o =
-            let q : Says.Refused k ≡ Says.Refused No.AboveLimit = sym (ap (λ (x : Outcome). x.answer) (run-of-shut k o)) ∙ e in
+            let q : Err k ≡ Err No.AboveLimit = sym (ap (λ (x : Outcome). x.answer) (run-of-shut k o)) ∙ e in
             let z : k ≡ No.AboveLimit = cc in
             table-of-above-limit n (table c) (length (buffer c)) (o ∙ ap Is.Shut z)
 
@@ -230,17 +230,17 @@ pub record Begun (n : ℕ) (r : Reader) : Type 0 where
   pub fresh : Fresh n r
 
 -- an accepted start gives a reader that may begin, with the frames of its buffer
-pub begun-of-start : (t : Table) (w : List ℕ) → (start_of t w).answer ≡ Says.Quiet → Begun (frame_count (length w)) (start_of t w).reader
+pub begun-of-start : (t : Table) (w : List ℕ) → (start_of t w).answer ≡ Ok None → Begun (frame_count (length w)) (start_of t w).reader
 unfolding start_of
 begun-of-start t w =
-    through-elim (λ (s : Start). s.answer ≡ Says.Quiet → Begun (frame_count (length w)) s.reader) (start_gate t (length w))
+    through-elim (λ (s : Start). s.answer ≡ Ok None → Begun (frame_count (length w)) s.reader) (start_gate t (length w))
     (λ k _ e. let z : ◌≡◌ {A = ℕ} 0 1 = cc in absurd (omega arith))
     (λ o _.
     let h : 96 ≤ length w = room-of-start t (length w) o in
     record { least = omega arith; most = omega arith; fresh = record { frames = refl; progress = refl; root = refl; key = refl } })
 
 -- after an accepted start and any calls the reader is within its bounds
-good-of-start : (t : Table) (w : List ℕ) → (start_of t w).answer ≡ Says.Quiet → (calls : List Call)
+good-of-start : (t : Table) (w : List ℕ) → (start_of t w).answer ≡ Ok None → (calls : List Call)
     → Good (frame_count (length w)) (after (start_of t w).reader calls)
 good-of-start t w e calls =
     let n : ℕ = frame_count (length w) in
@@ -248,14 +248,14 @@ good-of-start t w e calls =
     good-of-calls n b.least b.most calls (start_of t w).reader (good-of-fresh n (start_of t w).reader b.fresh)
 
 -- after an accepted start and any calls, a call refused with 23 has a table with a number above its limit
-pub never-above-limit : (t : Table) (w : List ℕ) → (start_of t w).answer ≡ Says.Quiet → (calls : List Call) (c : Call)
-    → (run (after (start_of t w).reader calls) c).answer ≡ Says.Refused No.AboveLimit → within_limits (table c) ≡ false
+pub never-above-limit : (t : Table) (w : List ℕ) → (start_of t w).answer ≡ Ok None → (calls : List Call) (c : Call)
+    → (run (after (start_of t w).reader calls) c).answer ≡ Err No.AboveLimit → within_limits (table c) ≡ false
 never-above-limit t w e calls c =
     let b = begun-of-start t w e in
     limits-of-refused (frame_count (length w)) b.least b.most (after (start_of t w).reader calls) c (good-of-start t w e calls)
 
 -- after an accepted start and any calls, zeros and places of a number are at most the bytes of its record and 16,777,216, and its exponent is at most
 -- 167,772,169
-pub counts-after-start : (t : Table) (w : List ℕ) → (start_of t w).answer ≡ Says.Quiet → (calls : List Call)
+pub counts-after-start : (t : Table) (w : List ℕ) → (start_of t w).answer ≡ Ok None → (calls : List Call)
     → CountsWithin (after (start_of t w).reader calls).progress.pos (after (start_of t w).reader calls).progress.number
 counts-after-start t w e calls = (good-of-start t w e calls).counts

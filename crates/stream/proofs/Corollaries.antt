@@ -1,5 +1,6 @@
 -- Demand 3 in the customer's words, of a fair stream whose calls hand over bytes and close: `verdicts-of-bytes`, one verdict for each record in
 -- stream order; `same-verdicts-of-same-bytes`, wherever they are cut; `record-alone`, whatever stands before it. Assumes nothing.
+use Rattle.std.specs.Prelude.{Ok, None}
 use mathlib.Core.Bool.{true, false}
 use mathlib.Core.List.{List, [], ◌∷◌, ◌++◌, get_last?}
 use mathlib.Core.Option.{some}
@@ -16,7 +17,6 @@ use Rattle.verdict.specs.Verdict.{Judged}
 use Rattle.verdict.proofs.JudgedLaws.{judged-unique}
 use Rattle.progress.specs.Memory.{Mem}
 use Rattle.reader.specs.declared.Reader.{Reader}
-use Rattle.reader.specs.declared.Answer.TheVariants as Says
 use Rattle.reader.specs.Start.{start_of}
 use Rattle.stream.specs.Paper.{Call, feed, close, Judge, Judges, Paper, opening, nonempty, says}
 use Rattle.stream.specs.Claim.{run, answers, after, closes, Held, nothing, held, Fair}
@@ -28,7 +28,7 @@ use Rattle.stream.proofs.JudgeLaws.{judge_of, judges-exist}
 use Rattle.stream.proofs.RecordLaws.{verdicts_of-append, verdicts_behind-append, verdicts_from, verdicts_behind-of-record, from-close, from-feed}
 
 -- a close that is not refused begins a stream with a fresh reader, whatever the calls before it were handed
-pub fresh-behind-close : (t : Table) (w : List ℕ) → (start_of t w).answer ≡ Says.Quiet → (calls : List Call) (c : Call)
+pub fresh-behind-close : (t : Table) (w : List ℕ) → (start_of t w).answer ≡ Ok None → (calls : List Call) (c : Call)
     → closes (frame_count (length w)) c ≡ true → Fresh (frame_count (length w)) (run (after (start_of t w).reader calls) c).reader
 fresh-behind-close t w e calls c h =
     let b = begun-of-start t w e in

@@ -1,5 +1,6 @@
 -- Demand 3: `demand-3`, from what is known of single bytes. Over the calls of a stream: reader and buffer follow the paper, or the stream has had
 -- no accepted call and the reader is fresh. Assumes nothing.
+use Rattle.std.specs.Prelude.{Ok, Some, None}
 use mathlib.Core.Bool.{Bool, true, false, cond}
 use mathlib.Core.List.{List, [], ◌∷◌}
 use mathlib.Core.Path.{◌≡◌, refl, ap, subst}
@@ -13,7 +14,6 @@ use Rattle.verdict.specs.Track.{Track}
 use Rattle.progress.specs.Progress.{judged}
 use Rattle.progress.specs.Memory.{Mem, fresh_mem, Ran, run_mem}
 use Rattle.reader.specs.declared.Reader.{Reader}
-use Rattle.reader.specs.declared.Answer.TheVariants as Says
 use Rattle.reader.specs.Start.{fresh_reader, start_of}
 use Rattle.reader.specs.Machine.{Outcome, memory_of, ending, going, outcome, feeding, closing}
 use Rattle.stream.specs.Paper.{Call, feed, close, Judge, Judges, Paper, opening, nonempty, Said, goes, says, told}
@@ -35,7 +35,7 @@ module _ {es : List Entry} {Along : Mem → Track es → Type 0} {n : ℕ} where
   alike-of-agrees : (r : Reader) (e : Ran) (said : Said) → Agrees es Along n e said → Alike es Along n (outcome r e) said
   alike-of-agrees r e said a = go e.ended a.answer a.follows
     where
-      go : (b : Bool) → cond b (Says.Judged (judged e.memory.progress e.memory.root)) Says.Quiet ≡ said.answer
+      go : (b : Bool) → cond b (Ok (Some (judged e.memory.progress e.memory.root))) (Ok None) ≡ said.answer
           → Follows es Along n (cond b (fresh_mem false e.memory.work) e.memory) said.paper
           → Alike es Along n (cond b (ending r e.memory e.count false) (going r e.memory e.count)) said
       go true q f = record { count = a.count; answer = q; follows = f }
@@ -69,10 +69,10 @@ module _ {Book : Table → List Entry → Type 0} {Tracks : (es : List Entry) �
 
       go : (b : Bool)
           → Alike es (Tracks es n) n
-          (cond b (ending r (memory_of r w) 0 true) (record { reader = fresh_reader r.frames true r.tally; count = 0; answer = Says.Quiet; work = w }))
-          (record { paper = opening; count = 0; answer = cond b (Says.Judged (J p.head p.part)) Says.Quiet })
+          (cond b (ending r (memory_of r w) 0 true) (record { reader = fresh_reader r.frames true r.tally; count = 0; answer = Ok None; work = w }))
+          (record { paper = opening; count = 0; answer = cond b (Ok (Some (J p.head p.part))) (Ok None) })
       go true =
-          record { count = refl; answer = ap Says.Judged (judged-of-follows facts book n least most J judge (memory_of r w) p.head p.part f); follows = fresh }
+          record { count = refl; answer = ap (λ v. Ok (Some v)) (judged-of-follows facts book n least most J judge (memory_of r w) p.head p.part f); follows = fresh }
       go false = record { count = refl; answer = refl; follows = fresh }
 
   -- ---- one stream

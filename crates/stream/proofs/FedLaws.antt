@@ -1,4 +1,5 @@
 -- A feed of one byte: it leaves the frames as they are, or the byte is sound and does its task. A piece is its bytes. Assumes nothing.
+use Rattle.std.specs.Prelude.{Ok, Some, None}
 use mathlib.Core.Bool.{Bool, true, false, cond}
 use mathlib.Core.List.{List, [], ◌∷◌}
 use mathlib.Core.Logic.{◌⊎◌, inl, inr}
@@ -24,7 +25,6 @@ use Rattle.progress.specs.Memory.{Mem, top_at, perform, advanced_at, step_mem, e
 use Rattle.progress.proofs.MemoryLaws.{length-step_mem, progress-perform, fresh-of-RS}
 use Rattle.reader.specs.declared.Reader.{Reader}
 use Rattle.reader.specs.declared.Refusal.{Refusal}
-use Rattle.reader.specs.declared.Answer.TheVariants as Says
 use Rattle.reader.specs.declared.Gate.{Gate}
 use Rattle.reader.specs.declared.Gate.TheVariants as Is
 use Rattle.reader.specs.Refusals.{within_reader, call_gate}
@@ -98,7 +98,7 @@ module _ (r : Reader) (t : Table) (w : List ℕ) (b : ℕ) where
 
   -- an RS after at least one byte of a record gives its verdict
   pub judged-of-RS : gate_of r t w ≡ Is.Open → eqb b 0x1E ≡ true → ltb 0 r.progress.pos ≡ true
-      → (byte_fed r t w b).answer ≡ Says.Judged (judged r.progress r.root)
+      → (byte_fed r t w b).answer ≡ Ok (Some (judged r.progress r.root))
   judged-of-RS g e p =
       ap (λ (x : Outcome). x.answer) (feed_of-of-open r t w (b ∷ []) g ∙ feeding-of-end (ends_record-of-RS r.progress b e ∙ p))
 
@@ -107,7 +107,7 @@ module _ (r : Reader) (t : Table) (w : List ℕ) (b : ℕ) where
     pub fed-of-other : byte_fed r t w b ≡ going r (step_mem t r.frames (memory_of r w) b) 1
     fed-of-other = feed_of-of-open r t w (b ∷ []) g ∙ feeding-of-byte (ends_record-of-byte r.progress b e)
 
-    pub quiet-of-other : (byte_fed r t w b).answer ≡ Says.Quiet
+    pub quiet-of-other : (byte_fed r t w b).answer ≡ Ok None
     quiet-of-other = ap (λ (x : Outcome). x.answer) fed-of-other
 
     pub progress-of-other : (byte_fed r t w b).reader.progress ≡ (advanced r.progress r.frames b (step_at r w b)).progress
@@ -237,11 +237,11 @@ module _ (r : Reader) (t : Table) (w : List ℕ) where
         (rw (reader-of-call (within_reader r) r.frames t (length w) g) at g)
 
     -- a run after the first byte, counted from that byte on, has the outcome of the byte and then of the rest
-    goes_on : (e : Ran) → outcome r (later 1 e) ≡ then_fed Says.Quiet reached (outcome r e)
+    goes_on : (e : Ran) → outcome r (later 1 e) ≡ then_fed (Ok None) reached (outcome r e)
     goes_on e = go e.ended
       where
         go : (v : Bool) → cond v (ending r e.memory (1 + e.count) false) (going r e.memory (1 + e.count))
-            ≡ then_fed Says.Quiet reached (cond v (ending r e.memory e.count false) (going r e.memory e.count))
+            ≡ then_fed (Ok None) reached (cond v (ending r e.memory e.count false) (going r e.memory e.count))
         go true = refl
         go false = refl
 

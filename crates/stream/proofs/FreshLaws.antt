@@ -1,5 +1,6 @@
 -- An RS sets the level to 0 and gives a fresh reader, whatever the reader was before: REQUIREMENT.md, section 5. `feed-of-RS` says the whole
 -- outcome of a piece that is one RS, `fresh-after-RS` what reader any piece gives whose last byte read is an RS. Assumes nothing.
+use Rattle.std.specs.Prelude.{Ok, None}
 use mathlib.Core.Bool.{Bool, true, false, cond}
 use mathlib.Core.List.{List, [], ◌∷◌}
 use mathlib.Core.Path.{◌≡◌, refl, ap}
@@ -14,7 +15,6 @@ use Rattle.progress.specs.Memory.{Mem, fresh_mem, step_mem, ends_record, Ran, ru
 use Rattle.progress.proofs.MemoryLaws.{fresh-of-RS}
 use Rattle.reader.specs.declared.Reader.{Reader}
 use Rattle.reader.specs.declared.Gate.TheVariants as Is
-use Rattle.reader.specs.declared.Answer.TheVariants as Says
 use Rattle.reader.specs.Refusals.{within_reader, call_gate}
 use Rattle.reader.specs.Start.{fresh_reader}
 use Rattle.reader.specs.Machine.{Outcome, memory_of, ending, going, outcome, feeding, feed_of}
@@ -66,13 +66,13 @@ module _ (r : Reader) (t : Table) (w : List ℕ) (admitted : call_gate (within_r
   -- the record. The buffer stays as it was
   pub feed-of-RS : feed_of r t w (0x1E ∷ [])
       ≡ cond (ltb 0 r.progress.pos) (ending r (memory_of r w) 1 false)
-      (record { reader = fresh_reader r.frames false r.tally; count = 1; answer = Says.Quiet; work = w })
+      (record { reader = fresh_reader r.frames false r.tally; count = 1; answer = Ok None; work = w })
   unfolding feed_of feeding run_mem
   feed-of-RS = rw (admitted, ends_record-of-RS r.progress 0x1E refl) (go (ltb 0 r.progress.pos))
     where
       go : (v : Bool) → outcome r (cond v (record { memory = memory_of r w; count = 1; ended = true })
           (record { memory = step_mem t r.frames (memory_of r w) 0x1E; count = 1; ended = false }))
-          ≡ cond v (ending r (memory_of r w) 1 false) (record { reader = fresh_reader r.frames false r.tally; count = 1; answer = Says.Quiet; work = w })
+          ≡ cond v (ending r (memory_of r w) 1 false) (record { reader = fresh_reader r.frames false r.tally; count = 1; answer = Ok None; work = w })
       go true = refl
       go false = rw (fresh-of-RS t r.frames (memory_of r w) 0x1E refl)
 

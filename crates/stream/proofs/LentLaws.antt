@@ -1,5 +1,6 @@
 -- What feed and close write in the lent buffer, sentence by sentence: `lent` proves all of `Lent`. A byte leaves the frames as they are, or is sound:
 -- `ways-of-byte`. Assumes nothing.
+use Rattle.std.specs.Prelude.{Ok, Err, Some, None}
 use mathlib.Core.Bool.{true}
 use mathlib.Core.List.{List, [], ◌∷◌}
 use mathlib.Core.Logic.{inr, ⊎_elim}
@@ -19,8 +20,7 @@ use Rattle.frame.proofs.LevelLaws.{frame_at-put_frame}
 use Rattle.frame.proofs.OpenLaws.{length-opened}
 use Rattle.progress.specs.Memory.{run_mem}
 use Rattle.reader.specs.declared.Reader.{Reader}
-use Rattle.reader.specs.declared.Answer.{Answer}
-use Rattle.reader.specs.declared.Answer.TheVariants as Says
+use Rattle.reader.specs.Answer.{Answer}
 use Rattle.reader.specs.Machine.{Outcome, memory_of, feeding, feed_of, closing, close_of}
 use Rattle.stream.specs.Paper.{feed}
 use Rattle.reader.proofs.RefusalLaws.{through-elim}
@@ -108,9 +108,9 @@ frames-fed r t w s =
 
 spares-of-two : (P : ℕ → Type 0) (w : List ℕ) (a : Answer) (o q : Outcome) → Spares P w o.work → Spares P o.work q.work
     → Spares P w (then_fed a o q).work
-spares-of-two P w Says.Quiet o q x y = spares-after x y
-spares-of-two P w (Says.Judged v) o q x y = x
-spares-of-two P w (Says.Refused k) o q x y = x
+spares-of-two P w (Ok None) o q x y = spares-after x y
+spares-of-two P w (Ok (Some v)) o q x y = x
+spares-of-two P w (Err k) o q x y = x
 
 piece-past : (t : Table) (n : ℕ) (s : List ℕ) (r : Reader) (w : List ℕ) → r.frames ≡ n → Spares (λ i. 96 * n ≤ i) w (feed_of r t w s).work
 piece-past t n [] r w e = spares-all _ w _ (fed-none r t w).1
@@ -136,10 +136,10 @@ piece-unopened t l (b ∷ s) r w all =
 
     go : (a : Answer) → o.answer ≡ a → Unwritten t l s o.reader o.work
         → frame_at (then_fed a o (feed_of o.reader t o.work s)).work l ≡ frame_at w l
-    go Says.Quiet e rest =
+    go (Ok None) e rest =
         rest (λ p q h. rw (fed-in-two r t w b p, e) at (all (b ∷ p) q (ap (λ (x : List ℕ). b ∷ x) h))) ∙ first
-    go (Says.Judged v) e rest = first
-    go (Says.Refused k) e rest = first
+    go (Ok (Some v)) e rest = first
+    go (Err k) e rest = first
 
 close-leaves : (r : Reader) (t : Table) (w : List ℕ) → (close_of r t w).work ≡ w
 unfolding close_of closing

@@ -1,5 +1,6 @@
 -- A record in a string or a key goes on after a first byte from 80 up and a second byte exactly when a row of RFC 3629 lists the two:
 -- `goes-on-iff-listed`. Assumes nothing.
+use Rattle.std.specs.Prelude.{Ok, None}
 use mathlib.Core.Bool.{Bool, true, false}
 use mathlib.Core.List.{List, [], ◌∷◌}
 use mathlib.Core.Logic.{◌⊎◌, inl, inr, ◌↔◌}
@@ -28,8 +29,7 @@ use Rattle.progress.specs.Act.{first_fault}
 use Rattle.progress.specs.Progress.{sound, advanced}
 use Rattle.pass.proofs.ByteLaws.{bump-below}
 use Rattle.reader.specs.declared.Reader.{Reader}
-use Rattle.reader.specs.declared.Answer.{Answer}
-use Rattle.reader.specs.declared.Answer.TheVariants as Says
+use Rattle.reader.specs.Answer.{Answer}
 use Rattle.reader.specs.declared.Gate.TheVariants as Is
 use Rattle.reader.specs.Machine.{Outcome, feed_of}
 use Rattle.stream.specs.Lent.{level_of, mode_of, faulty_in, byte_fed, then_fed}
@@ -203,7 +203,7 @@ module _ (K : Kind) (r : Reader) (t : Table) (w : List ℕ) (p a b : ℕ) (x : R
   second = byte_fed first.reader t first.work b
 
   -- the piece of both bytes does what the second does after the first
-  two-fed : feed_of r t w (a ∷ b ∷ []) ≡ then_fed Says.Quiet first second
+  two-fed : feed_of r t w (a ∷ b ∷ []) ≡ then_fed (Ok None) first second
   two-fed = fed-in-two r t w a (b ∷ []) ∙ ap (λ (z : Answer). then_fed z first second) (quiet-of-other r t w a x.gate (other-of-high a h))
 
   open-first : gate_of first.reader t first.work ≡ Is.Open

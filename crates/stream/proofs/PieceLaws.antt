@@ -1,4 +1,5 @@
 -- The memory follows the paper: kept by each byte of a piece, an RS included. Assumes nothing.
+use Rattle.std.specs.Prelude.{Ok, Some, None}
 use mathlib.Core.Bool.{Bool, true, false, cond}
 use mathlib.Core.List.{List, [], ◌∷◌, ◌++◌}
 use mathlib.Core.Path.{◌≡◌, refl, sym, ap, ◌∙◌}
@@ -11,8 +12,7 @@ use Rattle.verdict.specs.Track.{Track, track_start, track_byte, track}
 use Rattle.verdict.proofs.JudgedLaws.{judged-iff-track}
 use Rattle.progress.specs.Progress.{judged}
 use Rattle.progress.specs.Memory.{Mem, fresh_mem, step_mem, Ran, run_mem}
-use Rattle.reader.specs.declared.Answer.{Answer}
-use Rattle.reader.specs.declared.Answer.TheVariants as Says
+use Rattle.reader.specs.Answer.{Answer}
 use Rattle.stream.specs.Paper.{Judge, Judges, Paper, nonempty, Said, goes}
 use Rattle.progress.proofs.MemoryLaws.{fresh-of-RS}
 use Rattle.stream.specs.Bytes.{Reading}
@@ -43,7 +43,7 @@ pub record Follows (es : List Entry) (Along : Mem → Track es → Type 0) (n : 
 
 -- the answer to a piece
 abbrev pub heard : Ran → Answer
-heard e = cond e.ended (Says.Judged (judged e.memory.progress e.memory.root)) Says.Quiet
+heard e = cond e.ended (Ok (Some (judged e.memory.progress e.memory.root))) (Ok None)
 
 -- the memory after a piece
 abbrev pub memory_after : Ran → Mem
@@ -113,7 +113,7 @@ module _ {Book : Table → List Entry → Type 0} {Tracks : (es : List Entry) �
         rw (ends_record-of-RS m.progress b e ∙ f.some ∙ u, e, u)
         (record {
           count = refl;
-          answer = ap Says.Judged (judged-of-follows m p.head p.part f);
+          answer = ap (λ v. Ok (Some v)) (judged-of-follows m p.head p.part f);
           follows = follows-of-fresh false m.work f.long;
         })
     agrees-of-byte true e false u =

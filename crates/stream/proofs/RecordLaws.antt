@@ -1,4 +1,5 @@
 -- The parts and verdicts of a stream's bytes, and the paper that goes through them. Assumes nothing.
+use Rattle.std.specs.Prelude.{Ok, Some, None}
 use mathlib.Core.Bool.{Bool, true, false, cond, not, ◌&&◌}
 use mathlib.Core.List.{List, [], ◌∷◌, ◌++◌, append_assoc, append-nil}
 use mathlib.Core.Path.{◌≡◌, refl, sym, ap, ◌∙◌}
@@ -8,7 +9,6 @@ use lib.ListN.{length, drop}
 use lib.Seq.{drop-drop}
 use Rattle.laws.specs.Lists.{all}
 use Rattle.verdict.specs.declared.Verdict.{Verdict}
-use Rattle.reader.specs.declared.Answer.TheVariants as Says
 use Rattle.stream.specs.Paper.{Judge, Paper, nonempty, Said, goes, ends}
 use Rattle.laws.proofs.TestLaws.{true-neq-false}
 use Rattle.stream.specs.Records.{Parts, with_byte, cut_at_rs, no_rs, nonempties, records_of, given, given_all, verdicts_of, verdicts_behind, and_then}
@@ -137,7 +137,7 @@ module _ (J : Judge) where
   unfolding cut_at_rs given_all
   from-close p = rw (append-nil p.part) (go (nonempty p.part))
     where
-      go : (x : Bool) → cond x (J p.head p.part ∷ []) [] ≡ and_then (cond x (Says.Judged (J p.head p.part)) Says.Quiet) []
+      go : (x : Bool) → cond x (J p.head p.part ∷ []) [] ≡ and_then (cond x (Ok (Some (J p.head p.part))) (Ok None)) []
       go true = refl
       go false = refl
 

@@ -1,4 +1,5 @@
 -- The tally counts the verdicts of all calls, refused ones and any streams included: `tally-of-calls`. Assumes nothing.
+use Rattle.std.specs.Prelude.{Ok, Err, Some, None}
 use mathlib.Core.Bool.{Bool, true, false}
 use mathlib.Core.List.{List, [], ◌∷◌}
 use mathlib.Core.Path.{◌≡◌, refl, sym, ap, ◌∙◌}
@@ -10,8 +11,7 @@ use Rattle.progress.specs.Memory.{Mem, Ran, run_mem}
 use Rattle.reader.specs.declared.Tally.{Tally}
 use Rattle.reader.specs.declared.Reader.{Reader}
 use Rattle.reader.specs.declared.Refusal.{Refusal}
-use Rattle.reader.specs.declared.Answer.{Answer}
-use Rattle.reader.specs.declared.Answer.TheVariants as Says
+use Rattle.reader.specs.Answer.{Answer}
 use Rattle.reader.specs.Refusals.{within_reader, call_gate}
 use Rattle.reader.specs.Start.{fresh_reader}
 use Rattle.reader.specs.Machine.{Outcome, refusing, memory_of, ending, going, outcome, feeding, closing}
@@ -43,7 +43,7 @@ module _ (r : Reader) where
   counts-of-reading (close t w) =
       cond-elim (Counts r.tally) (ltb 0 r.progress.pos) (λ h. counts-of-ending (memory_of r w) 0 true) (λ h. none)
     where
-      none : Counts r.tally (record { reader = fresh_reader r.frames true r.tally; count = 0; answer = Says.Quiet; work = w })
+      none : Counts r.tally (record { reader = fresh_reader r.frames true r.tally; count = 0; answer = Ok None; work = w })
       none = record { tally = refl }
 
   counts-of-call : (c : Call) → Counts r.tally (run r c)
@@ -57,9 +57,9 @@ module _ (r : Reader) where
 
 tally_after-and_then : (a : Answer) (vs : List Verdict) (y : Tally) → tally_after (and_then a vs) y ≡ tally_after vs (tally_after (and_then a []) y)
 unfolding tally_after
-tally_after-and_then Says.Quiet vs y = refl
-tally_after-and_then (Says.Judged v) vs y = refl
-tally_after-and_then (Says.Refused k) vs y = refl
+tally_after-and_then (Ok None) vs y = refl
+tally_after-and_then (Ok (Some v)) vs y = refl
+tally_after-and_then (Err k) vs y = refl
 
 -- the reader after any calls has counted every verdict that they gave
 pub tally-of-calls : (cs : List Call) (r : Reader) → (after r cs).tally ≡ tally_after (verdicts_in (answers r cs)) r.tally

@@ -1,4 +1,5 @@
 -- Of a number that is fed where a value is awaited the reader finds `int` exactly where the value is whole: `kind-of-number`. Assumes nothing.
+use Rattle.std.specs.Prelude.{Ok, Err, None}
 use mathlib.Core.Bool.{Bool, true, false, cond}
 use mathlib.Core.List.{List, [], ◌∷◌}
 use mathlib.Core.Logic.{◌↔◌}
@@ -39,8 +40,7 @@ use Rattle.progress.specs.Act.{first_fault, number_in, number_kind}
 use Rattle.pass.proofs.ByteLaws.{bump-below}
 use Rattle.pass.proofs.NumberLaws.{go-other}
 use Rattle.reader.specs.declared.Reader.{Reader}
-use Rattle.reader.specs.declared.Answer.{Answer}
-use Rattle.reader.specs.declared.Answer.TheVariants as Says
+use Rattle.reader.specs.Answer.{Answer}
 use Rattle.reader.specs.declared.Gate.{Gate}
 use Rattle.reader.specs.declared.Gate.TheVariants as Is
 use Rattle.reader.specs.Machine.{Outcome, feed_of}
@@ -66,7 +66,7 @@ data NumberAct : Act → Type 0 where
 module _ (t : Table) (r : Reader) (w : List ℕ) (m : Mode) (d : Decimal) (p b : ℕ) (i : ReadsOn t r w m d p) (n : NumberMode) where
   -- after the byte, with the outcome o
   record Fed (o : Outcome) : Type 0 where
-    quiet : o.answer ≡ Says.Quiet
+    quiet : o.answer ≡ Ok None
     reads_on : ReadsOn t o.reader o.work (M.Number n) (counted bounded n (number_in m d) b) (p + 1)
 
   next-pos : p < longest → bump r.progress.pos ≡ p + 1
@@ -110,7 +110,7 @@ data CountsOf (x : Decimal) : Read → Type 0 where
   counts_of : {k : NumberMode} → T (may_end k) → CountsOf x (reads k x)
 
 -- where the first byte gives no verdict, the reader is that of the rest
-rest-fed : (t : Table) (r : Reader) (w : List ℕ) (b : ℕ) (s : List ℕ) → (byte_fed r t w b).answer ≡ Says.Quiet
+rest-fed : (t : Table) (r : Reader) (w : List ℕ) (b : ℕ) (s : List ℕ) → (byte_fed r t w b).answer ≡ Ok None
     → (feed_of r t w (b ∷ s)).reader ≡ (feed_of (byte_fed r t w b).reader t (byte_fed r t w b).work s).reader
 rest-fed t r w b s e =
     let o : Outcome = byte_fed r t w b in
@@ -163,13 +163,13 @@ kind-iff-read : {x : Decimal} {q : Read} → CountsOf x q → (number_kind x ≡
 kind-iff-read {x} (counts_of {k} h) = rw (true-of-T (may_end k) h) (kind-iff x)
 
 -- a call that says nothing of an empty piece is let in
-pub open-of-quiet : (r : Reader) (t : Table) (w : List ℕ) → (feed_of r t w []).answer ≡ Says.Quiet → gate_of r t w ≡ Is.Open
+pub open-of-quiet : (r : Reader) (t : Table) (w : List ℕ) → (feed_of r t w []).answer ≡ Ok None → gate_of r t w ≡ Is.Open
 open-of-quiet r t w e = go (gate_of r t w) refl
   where
     go : (g : Gate) → gate_of r t w ≡ g → gate_of r t w ≡ Is.Open
     go Is.Open q = q
     go (Is.Shut k) q =
-        let f : (feed_of r t w []).answer ≡ Says.Refused k = ap (λ (o : Outcome). o.answer) (feed_of-of-shut r t w [] k q) in
+        let f : (feed_of r t w []).answer ≡ Err k = ap (λ (o : Outcome). o.answer) (feed_of-of-shut r t w [] k q) in
         let z : ◌≡◌ {A = ℕ} 0 1 = cc in
         absurd (omega arith)
 

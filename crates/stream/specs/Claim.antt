@@ -1,11 +1,11 @@
 -- Demand 3: REQUIREMENT.md, sections 1 and 7. After an accepted start, any list of feeds and closes, refused ones included, each handed the reader
 -- that the one before returned and otherwise any table, buffer and piece. Stated. Assumes nothing.
+use Rattle.std.specs.Prelude.{Ok, None}
 use Rattle.std.specs.Prelude.{Bool, true, false, cond, List, [], ◌∷◌, ◌≡◌, ℕ, T, length}
 use Rattle.table.specs.Table.{Table}
 use Rattle.book.specs.Entry.{Entry}
 use Rattle.frame.specs.Frame.{frame_count}
 use Rattle.reader.specs.declared.Reader.{Reader}
-use Rattle.reader.specs.declared.Answer.TheVariants as Says
 use Rattle.reader.specs.Refusals.{call_gate, is_open}
 use Rattle.reader.specs.Start.{start_of}
 use Rattle.reader.specs.Machine.{Outcome, feed_of, close_of}
@@ -83,5 +83,5 @@ module _ (Book : Table → List Entry → Type 0) where
 
   abbrev pub Demand3 : Type 0
   Demand3 =
-      (t : Table) (w : List ℕ) (calls : List Call) → (start_of t w).answer ≡ Says.Quiet
+      (t : Table) (w : List ℕ) (calls : List Call) → (start_of t w).answer ≡ Ok None
       → Answered (frame_count (length w)) (start_of t w).reader (streams (frame_count (length w)) calls)

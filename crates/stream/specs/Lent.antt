@@ -2,6 +2,7 @@
 -- bytes, RS and close; and that nothing is written past the frames or in the frame of a level that is not open. Each sentence is about `feed_of` and
 -- `close_of`, for every reader, table, buffer and byte, made-up readers and refused calls too. Stated; `lent` of `LentLaws` proves all of `Lent`.
 -- Assumes nothing.
+use Rattle.std.specs.Prelude.{Ok, Err, Some, None}
 use Rattle.std.specs.Prelude.{Bool, true, false, List, [], ◌∷◌, ◌++◌, ◌⊎◌, ◌↔◌, ◌≡◌, ℕ, ◌+◌, ◌*◌, ◌-◌, ◌<◌, ◌≤◌, eqb, length, get_or}
 use Rattle.json_text.specs.Numbers.{Number}
 use Rattle.json_text.specs.declared.string.StringMode.{StringMode}
@@ -29,8 +30,7 @@ use Rattle.progress.specs.declared.Progress.{Progress}
 use Rattle.progress.specs.Act.{number_kind}
 use Rattle.reader.specs.declared.Reader.{Reader}
 use Rattle.reader.specs.declared.Refusal.{Refusal}
-use Rattle.reader.specs.declared.Answer.{Answer}
-use Rattle.reader.specs.declared.Answer.TheVariants as Says
+use Rattle.reader.specs.Answer.{Answer}
 use Rattle.reader.specs.Machine.{Outcome, feed_of, close_of}
 
 -- ---- bytes and frames of the buffer
@@ -98,9 +98,9 @@ is_faulty (Is.Unfinished p) = false
 is_faulty Is.Head = true
 
 abbrev pub says_faulty : Answer → Bool
-says_faulty Says.Quiet = false
-says_faulty (Says.Judged v) = is_faulty v
-says_faulty (Says.Refused k) = false
+says_faulty (Ok None) = false
+says_faulty (Ok (Some v)) = is_faulty v
+says_faulty (Err k) = false
 
 -- the record of a reader has a fault, or is the head: a close would say so
 abbrev pub faulty_in : Reader → Table → List ℕ → Bool
@@ -150,9 +150,9 @@ pub record ByteWrites (r : Reader) (t : Table) (w : List ℕ) (b : ℕ) (o : Out
 
 -- a first feed answers a and has the outcome o, and a second the outcome q: after a verdict or a refusal there is no second, else the counts add up
 abbrev pub then_fed : Answer → Outcome → Outcome → Outcome
-then_fed Says.Quiet o q = record { reader = q.reader; count = o.count + q.count; answer = q.answer; work = q.work }
-then_fed (Says.Judged v) o q = o
-then_fed (Says.Refused k) o q = o
+then_fed (Ok None) o q = record { reader = q.reader; count = o.count + q.count; answer = q.answer; work = q.work }
+then_fed (Ok (Some v)) o q = o
+then_fed (Err k) o q = o
 
 -- the first byte of a piece is fed, and then the rest
 abbrev pub in_two : Table → Outcome → List ℕ → Outcome
@@ -164,7 +164,7 @@ NotOpened r t w s l = (p q : List ℕ) → p ++ q ≡ s → level_of (feed_of r 
 
 -- the call is let in, and the record is not the head, has no fault so far and awaits a value
 pub record AwaitsValue (r : Reader) (t : Table) (w : List ℕ) : Type 0 where
-  pub let_in : (feed_of r t w []).answer ≡ Says.Quiet
+  pub let_in : (feed_of r t w []).answer ≡ Ok None
   pub head : r.progress.head ≡ false
   pub fault : r.progress.fault ≡ F.Sound
   pub mode : mode_of r ≡ M.At P.Value
@@ -185,4 +185,4 @@ pub record Lent : Type 0 where
   pub unopened : (r : Reader) (t : Table) (w s : List ℕ) (l : ℕ) → NotOpened r t w s l → frame_at (feed_of r t w s).work l ≡ frame_at w l
   -- a close writes nothing, even where it ends a number, and a refused call writes nothing
   pub close : (r : Reader) (t : Table) (w : List ℕ) → (close_of r t w).work ≡ w
-  pub refused : (r : Reader) (t : Table) (w s : List ℕ) (k : Refusal) → (feed_of r t w s).answer ≡ Says.Refused k → (feed_of r t w s).work ≡ w
+  pub refused : (r : Reader) (t : Table) (w s : List ℕ) (k : Refusal) → (feed_of r t w s).answer ≡ Err k → (feed_of r t w s).work ≡ w

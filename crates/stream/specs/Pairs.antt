@@ -1,5 +1,6 @@
 -- The first two bytes of a UTF-8 sequence, fed to a reader: RFC 3629, section 4, and REQUIREMENT.md, section 2. Each sentence is about `feed_of` and
 -- `close_of`, for every reader, table and buffer, made-up readers too. Stated; `goes-on-iff-listed` of `PairLaws` proves `Pairs`. Assumes nothing.
+use Rattle.std.specs.Prelude.{Ok, None}
 use Rattle.std.specs.Prelude.{false, List, [], ◌∷◌, ◌↔◌, ◌≡◌, ℕ, ◌+◌, ◌≤◌}
 use Rattle.json_text.specs.Rows.{Listed}
 use Rattle.json_text.specs.declared.string.StringMode.TheVariants as S
@@ -9,7 +10,6 @@ use Rattle.table.specs.Table.{Table}
 use Rattle.verdict.specs.Verdict.{longest}
 use Rattle.progress.specs.declared.Fault.TheVariants as F
 use Rattle.reader.specs.declared.Reader.{Reader}
-use Rattle.reader.specs.declared.Answer.TheVariants as Says
 use Rattle.reader.specs.Machine.{Outcome, feed_of}
 use Rattle.stream.specs.Lent.{mode_of, faulty_in}
 
@@ -20,7 +20,7 @@ pub data AwaitsChar : Mode → Type 0 where
 
 -- the call is let in, and the record is not the head, has no fault so far, awaits a character, and may have two bytes more
 pub record InString (r : Reader) (t : Table) (w : List ℕ) : Type 0 where
-  pub let_in : (feed_of r t w []).answer ≡ Says.Quiet
+  pub let_in : (feed_of r t w []).answer ≡ Ok None
   pub head : r.progress.head ≡ false
   pub fault : r.progress.fault ≡ F.Sound
   pub mode : AwaitsChar (mode_of r)
@@ -28,7 +28,7 @@ pub record InString (r : Reader) (t : Table) (w : List ℕ) : Type 0 where
 
 -- after a feed the record goes on: the feed gave no verdict, and a close right after it would tell of no fault
 abbrev pub GoesOn : Table → Outcome → Type 0
-GoesOn t o = (o.answer ≡ Says.Quiet) × (faulty_in o.reader t o.work ≡ false)
+GoesOn t o = (o.answer ≡ (Ok None)) × (faulty_in o.reader t o.work ≡ false)
 
 -- after a first byte from 80 up and any second byte the record goes on exactly when a row lists the two
 abbrev pub Pairs : Type 0

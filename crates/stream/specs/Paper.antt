@@ -1,4 +1,5 @@
 -- The stream on paper: REQUIREMENT.md, section 7. It is told what start and each call after it are handed, the reader aside. Stated. Assumes nothing.
+use Rattle.std.specs.Prelude.{Ok, Err, Some, None}
 use Rattle.std.specs.Prelude.{Bool, true, false, cond, List, [], ◌∷◌, ◌++◌, ◌≡◌, ℕ, ◌+◌, eqb, length}
 use Rattle.table.specs.Table.{Table}
 use Rattle.book.specs.Entry.{Entry}
@@ -6,8 +7,7 @@ use Rattle.verdict.specs.declared.Verdict.{Verdict}
 use Rattle.verdict.specs.declared.Verdict.TheVariants as Is
 use Rattle.verdict.specs.Verdict.{Judged}
 use Rattle.reader.specs.declared.Refusal.{Refusal}
-use Rattle.reader.specs.declared.Answer.{Answer}
-use Rattle.reader.specs.declared.Answer.TheVariants as Says
+use Rattle.reader.specs.Answer.{Answer}
 use Rattle.reader.specs.Refusals.{call_gate, through}
 
 -- a call after start: its table, its buffer, and a feed's piece
@@ -51,24 +51,24 @@ pub record Said : Type 0 where
 -- a feed goes through its piece; i bytes of it are read. A byte other than RS joins the part. An RS first gives a nonempty part its
 -- verdict and empties it, then ends the head; after a verdict the feed ends
 unfoldable pub goes : Judge → Paper → ℕ → List ℕ → Said
-goes J p i [] = record { paper = p; count = i; answer = Says.Quiet }
+goes J p i [] = record { paper = p; count = i; answer = Ok None }
 goes J p i (b ∷ s) =
     cond (eqb b 0x1E)
     (cond (nonempty p.part)
-    (record { paper = record { head = false; part = [] }; count = i + 1; answer = Says.Judged (J p.head p.part) })
+    (record { paper = record { head = false; part = [] }; count = i + 1; answer = Ok (Some (J p.head p.part)) })
     (goes J (record { head = false; part = [] }) (i + 1) s))
     (goes J (record { head = p.head; part = p.part ++ (b ∷ []) }) (i + 1) s)
 
 -- a close gives a nonempty part its verdict, else none, empties it, and is in the head again
 abbrev pub ends : Judge → Paper → Said
 ends J p =
-    record { paper = opening; count = 0; answer = cond (nonempty p.part) (Says.Judged (J p.head p.part)) Says.Quiet }
+    record { paper = opening; count = 0; answer = cond (nonempty p.part) (Ok (Some (J p.head p.part))) (Ok None) }
 
 -- a call that the rules refuse, n frames being counted at start, changes nothing, reads nothing and gives no verdict. The paper has no reader, so
 -- none is out of its bounds
 abbrev pub refuses : ℕ → Paper → Table → List ℕ → Said → Said
 refuses n p t w said =
-    through (call_gate true n t (length w)) (λ (k : Refusal). record { paper = p; count = 0; answer = Says.Refused k }) said
+    through (call_gate true n t (length w)) (λ (k : Refusal). record { paper = p; count = 0; answer = Err k }) said
 
 abbrev pub says : Judge → ℕ → Paper → Call → Said
 says J n p (feed t w s) = refuses n p t w (goes J p 0 s)

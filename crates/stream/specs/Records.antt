@@ -1,5 +1,6 @@
 -- A stream by its bytes: RS splits it into parts, each nonempty one a record with one verdict, and calls hand its bytes over piece by piece:
 -- REQUIREMENT.md, sections 6 and 7. Stated. Assumes nothing.
+use Rattle.std.specs.Prelude.{Ok, Err, Some, None}
 use Rattle.std.specs.Prelude.{Bool, true, false, cond, not, List, [], ◌∷◌, ◌++◌, ◌≡◌, ℕ, eqb, drop, replicate}
 use Rattle.laws.specs.Lists.{all}
 use Rattle.table.specs.Table.{Table}
@@ -8,8 +9,7 @@ use Rattle.verdict.specs.declared.Verdict.{Verdict}
 use Rattle.progress.specs.Fresh.{fresh_progress}
 use Rattle.reader.specs.declared.Tally.{Tally}
 use Rattle.reader.specs.declared.Reader.{Reader}
-use Rattle.reader.specs.declared.Answer.{Answer}
-use Rattle.reader.specs.declared.Answer.TheVariants as Says
+use Rattle.reader.specs.Answer.{Answer}
 use Rattle.reader.specs.Tally.{tallied}
 use Rattle.stream.specs.Paper.{Call, feed, close, Heard, Judge, nonempty}
 use Rattle.stream.specs.Claim.{run, accepted, nothing, Fair}
@@ -62,9 +62,9 @@ verdicts_behind J s = given J false (cut_at_rs s).first (given_all J (cut_at_rs 
 -- ---- what calls answer, and the bytes that they hand over
 
 abbrev pub and_then : Answer → List Verdict → List Verdict
-and_then Says.Quiet vs = vs
-and_then (Says.Judged v) vs = v ∷ vs
-and_then (Says.Refused k) vs = vs
+and_then (Ok None) vs = vs
+and_then (Ok (Some v)) vs = v ∷ vs
+and_then (Err k) vs = vs
 
 -- the verdicts among answers
 unfoldable pub verdicts_in : List Heard → List Verdict

@@ -1,18 +1,22 @@
 -- Bytes put into a buffer one after the other. Assumes nothing.
-use mathlib.Core.Bool.{Bool, true, false, cond}
-use mathlib.Core.List.{List, [], ◌∷◌, ◌++◌}
-use mathlib.Core.Path.{◌≡◌, refl, sym, ap, subst, ◌∙◌}
+use mathlib.Core.Bool.{Bool, true, false}
+use mathlib.Core.List.{List, [], ◌∷◌, ◌++◌, append_assoc}
+use mathlib.Core.Path.{◌≡◌, refl, sym, ap, ◌∙◌}
 use Prim.Native.Nat.{ℕ, suc, ◌+◌, ◌-◌, ◌≤◌, ◌<◌}
 use native.Mathlib.Omega.{arith}
-use lib.Dec.{ltb, leb, ltb→lt}
-use lib.ListN.{length, get_or, drop, set, length-append, drop_of_length-le}
-use lib.Seq.{sets, length-sets, drop-cons}
+use lib.Dec.{leb}
+use lib.ListN.{length, take, drop, set, length-append}
+use lib.Seq.{sets, length-sets, drop-drop}
+use Rattle.std.proofs.lemmas.List.Edits.{sets-eq}
+use borrow.Rule.Slice.PartMut.{put_mid}
 use borrow.Author.Tests.{le-leb, lt-leb, leb-true, leb-false}
 use Rattle.laws.specs.Ascii.{ascii}
-use Rattle.laws.proofs.TabLaws.{T-of-every}
 use Rattle.verdict.specs.declared.Verdict.{Verdict}
-use Rattle.verdict.specs.Verdict.{Word, valid, invalid, refused, shown}
-use Rattle.text.specs.Text.{powers, digit, digit_if, digits, decimal, space, LF, word_text, word_number, line_of, book_lines}
+use Rattle.verdict.specs.declared.Word.{Word}
+use Rattle.verdict.specs.declared.Word.TheVariants as Says
+use Rattle.verdict.specs.Verdict.{shown}
+use Rattle.std.specs.Fmt.{decimal}
+use Rattle.text.specs.Text.{space, LF, word_text, line_of, book_lines}
 use Rattle.text.specs.Put.{Put, has_room, Written, write}
 
 sets-append : (o : List ℕ) (at : ℕ) (xs ys : List ℕ) → sets o at (xs ++ ys) ≡ sets (sets o at xs) (at + length xs) ys
@@ -56,96 +60,22 @@ put_then o at xs ys mid m now behind p q =
 pub put_byte : (o : List ℕ) (at b : ℕ) → Put o at (b ∷ []) (set o at b) (at + 1)
 put_byte o at b = record { bytes = refl; place = refl }
 
+-- bytes copied into the part of the buffer that they fill
+pub put-copied : (o bs now : List ℕ) (at : ℕ) → at + length bs ≤ length o → now ≡ bs → Put o at bs (put_mid at (at + length bs - at) o now) (at + length bs)
+put-copied o bs now at h e =
+    let k : at + length bs - at ≡ length bs = omega arith in
+    record {
+      bytes = rw (e, k, drop-drop (length bs) at o) (sym (append_assoc (take at o) bs (drop (at + length bs) o)) ∙ sym (sets-eq bs o at h));
+      place = refl;
+    }
+
 pub length-of-put : (o : List ℕ) (at : ℕ) (bs now : List ℕ) (behind : ℕ) → Put o at bs now behind → length now ≡ length o
 length-of-put o at bs now behind p = rw p.bytes (length-sets o at bs)
 
 pub place-le : (o : List ℕ) (at : ℕ) (bs now : List ℕ) (behind n : ℕ) → Put o at bs now behind → length bs ≤ n → behind ≤ at + n
 place-le o at bs now behind n p h = omega (arith, p.place, h)
 
--- ---- the bytes of a slice
-
-drop-next : (ps : List ℕ) (i : ℕ) → i < length ps → drop i ps ≡ get_or ps i 0 ∷ drop (i + 1) ps
-drop-next ps i h = let e : suc i ≡ i + 1 = omega arith in drop-cons ps i 0 h ∙ ap (λ j. get_or ps i 0 ∷ drop j ps) e
-
-pub bytes-start : (o : List ℕ) (at : ℕ) (bs : List ℕ) → Rest o at bs o (at + 0) (drop 0 bs)
-bytes-start o at bs = let e : at + 0 ≡ at = omega arith in rw e (rest-start o at bs)
-
-module _ (o : List ℕ) (at : ℕ) (bs now : List ℕ) (i : ℕ) where
-  pub bytes-done : length bs ≤ i → Rest o at bs now (at + i) (drop i bs) → Put o at bs now (at + i)
-  bytes-done h x = rest-done o at bs now (at + i) (rw (drop_of_length-le bs h) at x)
-
-  pub bytes-more : i < length bs → Rest o at bs now (at + i) (drop i bs) → Rest o at bs (set now (at + i) (get_or bs i 0)) (at + (i + 1)) (drop (i + 1) bs)
-  bytes-more h x =
-      let d : at + i + 1 ≡ at + (i + 1) = omega arith in
-      rw d at (rest_put o at bs now (at + i) (get_or bs i 0 ∷ []) (drop (i + 1) bs) (set now (at + i) (get_or bs i 0)) (at + i + 1)
-      (rw (drop-next bs i h) at x) (put_byte now (at + i) (get_or bs i 0)))
-
--- ---- digits
-
-module _ (o : List ℕ) (at n p : ℕ) where
-  pub put-digit-of : (d : ℕ) → p ≤ n → d ≡ digit n p → Put o at (digit_if n p) (set o at d) (at + 1)
-  unfolding digit_if
-  put-digit-of d h e = rw (e, le-leb p n h) (put_byte o at (digit n p))
-
-  pub put-no-digit : n < p → Put o at (digit_if n p) o at
-  unfolding digit_if
-  put-no-digit h = rw (lt-leb p n h) (record { bytes = refl; place = omega arith })
-
-pub power-positive : (i : ℕ) → i < 19 → 0 < get_or powers i 0
-power-positive i h = ltb→lt 0 (get_or powers i 0) (T-of-every (λ k. ltb 0 (get_or powers k 0)) 19 tt i h)
-
--- the digit of one power more
-module _ (o : List ℕ) (at n : ℕ) (now : List ℕ) (place i : ℕ) where
-  more : (ps bs after : List ℕ) (behind : ℕ) → i < length ps → Rest o at bs now place (digits (drop i ps) n)
-      → Put now place (digit_if n (get_or ps i 0)) after behind → Rest o at bs after behind (digits (drop (i + 1) ps) n)
-  unfolding digits
-  more ps bs after behind h x p =
-      rest_put o at bs now place (digit_if n (get_or ps i 0)) (digits (drop (i + 1) ps) n) after behind
-      (subst (λ qs. Rest o at bs now place (digits qs n)) (drop-next ps i h) x) p
-
-  pub digits_more : (after : List ℕ) (behind : ℕ) → i < 19 → Rest o at (decimal n) now place (digits (drop i powers) n)
-      → Put now place (digit_if n (get_or powers i 0)) after behind → Rest o at (decimal n) after behind (digits (drop (i + 1) powers) n)
-  digits_more after behind h x p = more powers (decimal n) after behind h x p
-
--- the digit of the ones is the last to put
-pub digits_last : (o : List ℕ) (at n : ℕ) (now : List ℕ) (place i d : ℕ) → 19 ≤ i → i ≤ 19 → Rest o at (decimal n) now place (digits (drop i powers) n)
-    → d ≡ digit n 1 → Put o at (decimal n) (set now place d) (place + 1)
-unfolding digits
-digits_last o at n now place i d l h x e =
-    let z : i ≡ 19 = omega (arith, l, h) in
-    rest-last o at (decimal n) now place (set now place d) (place + 1) (digit n 1 ∷ []) (rw z at x) (rw e (put_byte now place (digit n 1)))
-
-pub digits-start : (o : List ℕ) (at n : ℕ) → Rest o at (decimal n) o at (digits powers n)
-unfolding decimal
-digits-start o at n = rest-start o at (digits powers n)
-
 -- ---- lines
-
--- the word that a number stands for
-module _ (o : List ℕ) (at : ℕ) (now : List ℕ) (behind : ℕ) (x : Word) (w : ℕ) (e : w ≡ word_number x) where
-  pub put-valid : w ≡ 0 → Put o at (ascii "valid") now behind → Put o at (word_text x) now behind
-  put-valid d p = go x (sym e ∙ d)
-    where
-      go : (x : Word) → word_number x ≡ 0 → Put o at (word_text x) now behind
-      go valid n = p
-      go invalid n = absurd (omega (arith, n))
-      go refused n = absurd (omega (arith, n))
-
-  pub put-invalid : w ≡ 1 → Put o at (ascii "invalid") now behind → Put o at (word_text x) now behind
-  put-invalid d p = go x (sym e ∙ d)
-    where
-      go : (x : Word) → word_number x ≡ 1 → Put o at (word_text x) now behind
-      go valid n = absurd (omega (arith, n))
-      go invalid n = p
-      go refused n = absurd (omega (arith, n))
-
-  pub put_refused : (w ≡ 0 → ⊥) → (w ≡ 1 → ⊥) → Put o at (ascii "refused") now behind → Put o at (word_text x) now behind
-  put_refused f g p = go x e
-    where
-      go : (x : Word) → w ≡ word_number x → Put o at (word_text x) now behind
-      go valid n = absurd (f n)
-      go invalid n = absurd (g n)
-      go refused n = p
 
 -- six parts one after the other
 module _ (o : List ℕ) (at : ℕ) (a b c d e f : List ℕ) where
@@ -214,32 +144,7 @@ put-of-write o at bs now behind h e =
 
 -- ---- lengths
 
-length_digits : (ps : List ℕ) (n : ℕ) → length (digits ps n) ≤ length ps + 1
-unfolding digits digit_if
-length_digits [] n = omega arith
-length_digits (p ∷ ps) n = go (leb p n) (length_digits ps n)
-  where
-    go : (x : Bool) → length (digits ps n) ≤ length ps + 1 → length (cond x (digit n p ∷ []) [] ++ digits ps n) ≤ suc (length ps) + 1
-    go true h = omega (arith, h)
-    go false h = omega (arith, h)
-
-length-word : (w : Word) → length (word_text w) ≤ 7
-length-word valid = omega arith
-length-word invalid = omega arith
-length-word refused = omega arith
-
--- a verdict's line has room
-pub length-line : (v : Verdict) → length (line_of v) ≤ 64
-unfolding line_of decimal
-length-line v =
-    let n = digits powers (shown v).number in
-    let p = digits powers (shown v).place in
-    omega (
-      arith,
-      length-word (shown v).word,
-      length_digits powers (shown v).number,
-      length_digits powers (shown v).place,
-      length-append (word_text (shown v).word) (space ++ (n ++ (space ++ (p ++ LF)))),
-      length-append n (space ++ (p ++ LF)),
-      length-append p LF,
-    )
+pub length-word : (w : Word) → length (word_text w) ≤ 7
+length-word Says.Valid = omega arith
+length-word Says.Invalid = omega arith
+length-word Says.Refused = omega arith

@@ -1,5 +1,6 @@
 // Records around the limits of length and depth, which are made here: the verdicts of each, after a label with its length, or with its levels
 // and the bytes of the buffer.
+use crate::long::Text;
 use crate::{long, nest};
 
 // Any tree of arrays, and of objects with the key a; strings and numbers in arrays.
@@ -18,40 +19,47 @@ fn object_book(t: &mut [u8; 7920]) {
     );
 }
 
+// The most bytes of a record, and one less.
+const LONGEST: u32 = 16777216;
+
+const SHORTER: u32 = 16777215;
+
 // Records that are JSON as long as they are not too long.
 fn sound_ones(rt: &impl Print, t: &[u8; 7920]) {
-    long::run_three(rt, t, b"string", b"\x1e[\"a\"]", 3, 4);
-    long::run_two(rt, t, b"blanks-before", b"\x1e []", 1, 2);
-    long::run_two(rt, t, b"blanks-behind", b"\x1e[]\n", 3, 4);
-    long::run_two(rt, t, b"number", b"\x1e1", 1, 2);
-    long::run_three(rt, t, b"array", b"\x1e[1,1]", 2, 4);
+    Text::new(b"\x1e[\"", b"a", b"\"]").run(rt, t, b"string", SHORTER);
+    Text::new(b"\x1e", b" ", b"[]").run(rt, t, b"blanks-before", LONGEST);
+    Text::new(b"\x1e[]", b"\n", b"").run(rt, t, b"blanks-behind", LONGEST);
+    Text::new(b"\x1e", b"1", b"").run(rt, t, b"number", LONGEST);
+    Text::new(b"\x1e[", b"1,", b"1]").run(rt, t, b"array", SHORTER);
 }
+
+// An RS, and the openings of 64 levels.
+const DEEP: [u8; 65] = *b"\x1e[[[[[[[[[[[[[[[[[[[[[[[[[[[[[[[[[[[[[[[[[[[[[[[[[[[[[[[[[[[[[[[[";
 
 // Records whose last byte is a fault, that are lost from the first bytes on, or that break off.
 fn broken_ones(rt: &impl Print, t: &[u8; 7920]) {
-    long::run_two(rt, t, b"malformed-last", b"\x1e[ x", 2, 3);
-    long::run_two(rt, t, b"malformed-first", b"\x1ex ", 2, 3);
-    long::run_two(
-        rt,
-        t,
-        b"too-deep-last",
-        b"\x1e[[[[[[[[[[[[[[[[[[[[[[[[[[[[[[[[[[[[[[[[[[[[[[[[[[[[[[[[[[[[[[[[ [",
-        65,
-        66,
-    );
-    long::run_two(rt, t, b"too-deep-first", b"\x1e[", 1, 2);
-    long::run_two(rt, t, b"broken-off", b"\x1e[\"a", 3, 4);
+    Text::new(b"\x1e[", b" ", b"x").run(rt, t, b"malformed-last", LONGEST);
+    Text::new(b"\x1ex", b" ", b"").run(rt, t, b"malformed-first", LONGEST);
+    Text::new(&DEEP, b" ", b"[").run(rt, t, b"too-deep-last", LONGEST);
+    Text::new(b"\x1e", b"[", b"").run(rt, t, b"too-deep-first", LONGEST);
+    Text::new(b"\x1e[\"", b"a", b"").run(rt, t, b"broken-off", LONGEST);
 }
 
-// Buffers of k frames to the byte, with all but a byte of one more, and beyond 64 frames.
-fn buffers(rt: &impl Print, t: &[u8; 7920], u: &[u8; 7920]) {
-    nest::run_two(rt, t, u, 96, 191, 1);
-    nest::run_two(rt, t, u, 192, 287, 1);
-    nest::run_two(rt, t, u, 5952, 6047, 61);
-    nest::run_two(rt, t, u, 6048, 6143, 62);
-    nest::run_two(rt, t, u, 6144, 6239, 63);
-    nest::run_two(rt, t, u, 6240, 12288, 63);
-}
+// Buffers of k frames to the byte, with all but a byte of one more, and beyond 64 frames: the bytes of each, and the least number of levels.
+const BUFFERS: [(usize, usize); 12] = [
+    (96, 1),
+    (191, 1),
+    (192, 1),
+    (287, 1),
+    (5952, 61),
+    (6047, 61),
+    (6048, 62),
+    (6143, 62),
+    (6144, 63),
+    (6239, 63),
+    (6240, 63),
+    (12288, 63),
+];
 
 // All of them.
 pub fn run(rt: &impl Print) {
@@ -59,7 +67,9 @@ pub fn run(rt: &impl Print) {
     array_book(&mut t);
     let mut u = [0u8; 7920];
     object_book(&mut u);
-    buffers(rt, &t, &u);
+    for (size, least) in BUFFERS {
+        nest::run(rt, &t, &u, size, least);
+    }
     nest::run_texts(rt, &t);
     nest::pairs(rt, &t);
     sound_ones(rt, &t);

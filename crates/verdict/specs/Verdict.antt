@@ -5,14 +5,12 @@ use Rattle.json_text.specs.Grammar.{Text, FaultAt}
 use Rattle.json_text.specs.Levels.{open_levels}
 use Rattle.book.specs.Entry.{Entry}
 use Rattle.runs.specs.Runs.{Valid}
+use Rattle.verdict.specs.declared.Word.{Word}
+use Rattle.verdict.specs.declared.Word.TheVariants as Says
 use Rattle.verdict.specs.declared.Verdict.{Verdict}
 use Rattle.verdict.specs.declared.Verdict.TheVariants as Is
 
 -- ---- the words and numbers of each verdict
-
--- valid, invalid or refused
-pub data Word : Type 0 where
-  valid invalid refused : Word
 
 pub record Shown : Type 0 where
   pub word : Word
@@ -28,13 +26,13 @@ longest = 16777216
 
 -- number and place are 0 unless refused
 abbrev pub shown : Verdict → Shown
-shown Is.Valid = shows valid 0 0
-shown Is.Invalid = shows invalid 0 0
-shown (Is.Malformed p) = shows refused 11 p
-shown (Is.TooDeep p) = shows refused 12 p
-shown Is.TooLong = shows refused 13 longest
-shown (Is.Unfinished p) = shows refused 14 p
-shown Is.Head = shows refused 15 0
+shown Is.Valid = shows Says.Valid 0 0
+shown Is.Invalid = shows Says.Invalid 0 0
+shown (Is.Malformed p) = shows Says.Refused 11 p
+shown (Is.TooDeep p) = shows Says.Refused 12 p
+shown Is.TooLong = shows Says.Refused 13 longest
+shown (Is.Unfinished p) = shows Says.Refused 14 p
+shown Is.Head = shows Says.Refused 15 0
 
 -- ---- the faults of a part
 

@@ -4,7 +4,15 @@
 ghost use Rattle.std.specs.Prelude.{◌≡◌};
 ghost use Rattle.verdict.specs.Verdict.{shown};
 
-#[derive(Clone, Copy)]
+// The word of a verdict.
+#[derive(Clone, Copy, PartialEq, Eq)]
+pub enum Word {
+    Valid,
+    Invalid,
+    Refused,
+}
+
+#[derive(Clone, Copy, PartialEq, Eq)]
 pub enum Verdict {
     Valid,
     Invalid,
@@ -20,32 +28,39 @@ pub enum Verdict {
     Head,
 }
 
-// The number of a verdict.
-pub fn number_of(v: Verdict) -> u8
-    ensures { result ≡ (shown v).number }
-{
-    match v {
-        Verdict::Valid => 0,
-        Verdict::Invalid => 0,
-        Verdict::Malformed(_) => 11,
-        Verdict::TooDeep(_) => 12,
-        Verdict::TooLong => 13,
-        Verdict::Unfinished(_) => 14,
-        Verdict::Head => 15,
+impl Verdict {
+    pub fn word(self) -> Word
+        ensures { result ≡ (shown self).word }
+    {
+        match self {
+            Verdict::Valid => Word::Valid,
+            Verdict::Invalid => Word::Invalid,
+            _ => Word::Refused,
+        }
     }
-}
 
-// The place of a verdict.
-pub fn place_of(v: Verdict) -> u32
-    ensures { result ≡ (shown v).place }
-{
-    match v {
-        Verdict::Valid => 0,
-        Verdict::Invalid => 0,
-        Verdict::Malformed(p) => p,
-        Verdict::TooDeep(p) => p,
-        Verdict::TooLong => 16777216,
-        Verdict::Unfinished(p) => p,
-        Verdict::Head => 0,
+    // 0 unless refused
+    pub fn number(self) -> u8
+        ensures { result ≡ (shown self).number }
+    {
+        match self {
+            Verdict::Valid | Verdict::Invalid => 0,
+            Verdict::Malformed(_) => 11,
+            Verdict::TooDeep(_) => 12,
+            Verdict::TooLong => 13,
+            Verdict::Unfinished(_) => 14,
+            Verdict::Head => 15,
+        }
+    }
+
+    // 0 where a verdict has no place
+    pub fn place(self) -> u32
+        ensures { result ≡ (shown self).place }
+    {
+        match self {
+            Verdict::Malformed(p) | Verdict::TooDeep(p) | Verdict::Unfinished(p) => p,
+            Verdict::TooLong => 16777216,
+            Verdict::Valid | Verdict::Invalid | Verdict::Head => 0,
+        }
     }
 }

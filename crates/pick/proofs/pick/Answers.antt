@@ -1,19 +1,28 @@
 -- `pick` meets its contract: what is left of the slice gives what the whole gives. Assumes nothing.
-use Rattle.pick.proofs.ScanLaws.{scan-start, scan-found, scan-more, scan-last, scan-none}
-use borrow.Author.Rules.{rules}
+use Rattle.std.proofs.Common.{rules}
+use lib.ListN.{length-drop}
+use Rattle.pick.proofs.ScanLaws.{inside, pick-behind, pick-found, pick-passed, pick-last, pick-none}
+use Rattle.pick.proofs.pick.Goals.{then-end-gt0+else-left-eq0, else-end-gt0}
 use Rattle.pick.proofs.pick.Goals as goal
 
-pub loop-i-init : goal.loop-i-init
-loop-i-init c = scan-start _ _
-
-pub returns-then-is_it : goal.returns-then-is_it
-returns-then-is_it c = search (rules, scan-found)
-
-pub loop-i-preserved : goal.loop-i-preserved
-loop-i-preserved c = search (rules, scan-more)
+pub loop-end-init : goal.loop-end-init
+loop-end-init c = search rules
 
 pub returns-then-left-eq0 : goal.returns-then-left-eq0
-returns-then-left-eq0 c = search (rules, scan-last)
+returns-then-left-eq0 c = search (rules, pick-found)
 
-pub returns : goal.returns
-returns c = search (rules, scan-none)
+pub loop-end-smaller : goal.loop-end-smaller
+loop-end-smaller c = search (rules, length-drop, inside)
+
+pub loop-end-preserved : goal.loop-end-preserved
+loop-end-preserved c =
+    elim c.if-end-gt0.branch [
+      | then-end-gt0+else-left-eq0 w ↦ search (rules, pick-passed)
+      | else-end-gt0 w ↦ search (rules, pick-behind)
+    ]
+
+pub returns-then-left-eq0-2 : goal.returns-then-left-eq0-2
+returns-then-left-eq0-2 c = search (rules, pick-last)
+
+pub returns-else-left-eq0-2 : goal.returns-else-left-eq0-2
+returns-else-left-eq0-2 c = search (rules, pick-none)

@@ -4,14 +4,14 @@ use Rattle.report.proofs.ReportLaws.{going_start, going-full, going-last, going-
 use borrow.Author.Rules.{rules}
 use Rattle.report.proofs.report.Goals as goal
 
-pub loop-i-init : goal.loop-i-init
-loop-i-init c = (refl, refl, refl, going_start _ _ _ _ _)
+pub loop-init : goal.loop-init
+loop-init c = (refl, refl, refl, going_start _ _ _ _ _)
 
 pub returns-then-is_last : goal.returns-then-is_last
 returns-then-is_last c = search (rules, going-last)
 
-pub loop-i-preserved : goal.loop-i-preserved
-loop-i-preserved c = (search rules, search rules, search rules, search (rules, going-line))
+pub loop-preserved : goal.loop-preserved
+loop-preserved c = (search rules, search rules, search rules, search (rules, going-line))
 
 pub returns : goal.returns
 returns c = search (rules, going-full)

@@ -1,15 +1,12 @@
 -- `report` meets its contract: the feeds still to come give what all give. Assumes nothing.
 use mathlib.Core.Path.{◌≡◌}
-use Prim.Native.Nat.{◌-◌, ◌/◌}
+use Prim.Native.Nat.{◌/◌}
 use lib.ListN.{length}
 use Rattle.table.specs.Flat.{table_in}
 use Rattle.report.proofs.ReportLaws.{Going}
 use Rattle.report.proofs.report.Given as goal
 
-abbrev pub invariant-loop-i : goal.invariant-loop-i
-invariant-loop-i l =
+abbrev pub invariant-loop : goal.invariant-loop
+invariant-loop l =
     (l.lines ≡ length l.initial.out / 64) × (length l.work ≡ length l.initial.work) × (length l.out ≡ length l.initial.out)
-    × Going (table_in l.table) l.initial.work l.piece l.initial.out l.initial.x.reader l.work l.out l.x.reader l.x.read l.x.used l.i
-
-abbrev pub decreases-loop-i : goal.decreases-loop-i
-decreases-loop-i l = l.lines - l.i
+    × Going (table_in l.table) l.initial.work l.piece l.initial.out l.initial.x.reader l.work l.out l.x.reader l.x.read l.x.used l.counter

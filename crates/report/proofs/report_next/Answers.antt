@@ -3,5 +3,5 @@ use Rattle.report.proofs.ReportLaws.{next_of}
 use borrow.Author.Rules.{rules}
 use Rattle.report.proofs.report_next.Goals as goal
 
-pub returns : goal.returns
-returns c = search (rules, next_of)
+pub returns-clause-next : goal.returns-clause-next
+returns-clause-next c = search (rules, next_of)

@@ -6,5 +6,5 @@ use Rattle.text.proofs.has_room.Goals as goal
 pub returns-then-at-len : goal.returns-then-at-len
 returns-then-at-len c = search (rules, room-some)
 
-pub returns : goal.returns
-returns c = search (rules, room-none)
+pub returns-else-at-len : goal.returns-else-at-len
+returns-else-at-len c = search (rules, room-none)

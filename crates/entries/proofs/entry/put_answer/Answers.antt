@@ -1,14 +1,15 @@
--- `entry::put_answer` meets its contract, answer by answer. Assumes nothing.
-use Rattle.entries.proofs.AnswerLaws.{answer-quiet, answer-verdict, answer-refusal}
+-- `put_answer` meets its contract, answer by answer. Assumes nothing.
+use Rattle.std.proofs.Common.{rules}
+use Rattle.entries.proofs.EntryLaws.{answer-entry, answer-quiet}
+use Rattle.entries.proofs.entry.put_answer.Goals.{in-Ok-Some, in-Err}
 use Rattle.entries.proofs.entry.put_answer.Goals as goal
 
-pub returns-in-Quiet : goal.returns-in-Quiet
-returns-in-Quiet c = answer-quiet _ _ _ _ c.in-Quiet.is
+pub returns-in-Ok-None : goal.returns-in-Ok-None
+returns-in-Ok-None c = search (rules, answer-quiet)
 
-pub returns-in-Judged : goal.returns-in-Judged
-returns-in-Judged c = answer-verdict _ _ _ _ _ _ c.in-Judged.is c.put_verdict.ensures
-
-pub returns-in-Refused : goal.returns-in-Refused
-returns-in-Refused c =
-    answer-refusal _ _ _ _ _ _ _ c.in-Refused.is c.refusal_number.ensures
-    c.put_entry.ensures
+pub returns : goal.returns
+returns c =
+    elim c.match-a.branch [
+      | in-Ok-Some w ↦ answer-entry _ _ _ _ _ _ (search rules) c.put.ensures
+      | in-Err w ↦ answer-entry _ _ _ _ _ _ (search rules) c.put.ensures
+    ]

@@ -1,10 +1,15 @@
 -- `feeds::feed_next` meets its contract: a feed, then its entry. Assumes nothing.
+use Rattle.std.proofs.Common.{rules}
 use Rattle.entries.proofs.FeedLaws.{turn-refused, turn-put}
-use borrow.Author.Rules.{rules}
+use Rattle.entries.specs.Turn.{turn_of}
+use Rattle.entries.specs.Entries.{with_entries}
+use Rattle.entries.proofs.feeds.feed_next.Goals.{then-refused, else-refused}
 use Rattle.entries.proofs.feeds.feed_next.Goals as goal
 
-pub returns-then-is_refused : goal.returns-then-is_refused
-returns-then-is_refused c = search (rules, turn-refused)
-
 pub returns : goal.returns
-returns c = search (rules, turn-put)
+unfolding turn_of with_entries
+returns c =
+    elim c.if-refused.branch [
+      | then-refused w ↦ search (rules, turn-refused)
+      | else-refused w ↦ search (rules, turn-put)
+    ]

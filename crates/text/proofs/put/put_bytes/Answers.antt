@@ -1,14 +1,6 @@
--- `put::put_bytes` meets its contract: what is left to put gives what the whole gives. Assumes nothing.
-use mathlib.Core.Path.{refl}
-use Rattle.text.proofs.PutLaws.{bytes-start, bytes-more, bytes-done}
-use borrow.Author.Rules.{rules}
+-- `put::put_bytes` meets its contract: the bytes are copied into the part that they fill. Assumes nothing.
+use Rattle.text.proofs.PutLaws.{put-copied}
 use Rattle.text.proofs.put.put_bytes.Goals as goal
 
-pub loop-i-init : goal.loop-i-init
-loop-i-init c = (search rules, refl, bytes-start _ _ _)
-
-pub loop-i-preserved : goal.loop-i-preserved
-loop-i-preserved c = (search rules, search rules, search (rules, bytes-more))
-
 pub returns : goal.returns
-returns c = search (rules, bytes-done)
+returns c = put-copied _ _ _ _ c.requires c.copy_from_slice.ensures.after

@@ -1,8 +1,0 @@
--- `put::put_book` meets its contract: five parts one after the other. Assumes nothing.
-use Rattle.text.proofs.PutLaws.{book-put}
-use Rattle.text.proofs.put.put_book.Goals as goal
-
-pub returns : goal.returns
-returns c =
-    book-put _ _ _ _ _ _ _ _ _ _ _ _ _ _ c.put_bytes-a.ensures c.put_decimal-b.ensures.put c.put-c.ensures
-    c.put_decimal-d.ensures.put c.put.ensures

@@ -1,9 +1,0 @@
--- `nest::open_levels` is safe and ends: it goes up the levels. Assumes nothing.
-use Rattle.std.proofs.Common.{◌-◌, ◌≤◌}
-use Rattle.vectors_text.proofs.nest.open_levels.Given as goal
-
-abbrev pub invariant-loop-i : goal.invariant-loop-i
-invariant-loop-i l = l.i ≤ l.levels
-
-abbrev pub decreases-loop-i : goal.decreases-loop-i
-decreases-loop-i l = l.levels - l.i

@@ -37,26 +37,19 @@ faulted x f =
 
 -- the registers of the open character after byte b
 abbrev pub bits_in : Mode → ℕ → ℕ → ℕ
-bits_in (M.At p) bits b = bits
 bits_in (M.Key s) bits b = bits_after s bits b
 bits_in (M.Text s) bits b = bits_after s bits b
-bits_in (M.Number n) bits b = bits
-bits_in (M.Word w i) bits b = bits
+bits_in _ bits b = bits
 
 abbrev pub high_in : Mode → ℕ → ℕ → ℕ → ℕ
-high_in (M.At p) bits high b = high
 high_in (M.Key s) bits high b = high_after s bits high b
 high_in (M.Text s) bits high b = high_after s bits high b
-high_in (M.Number n) bits high b = high
-high_in (M.Word w i) bits high b = high
+high_in _ bits high b = high
 
 -- the character of a key that byte b finishes
 abbrev pub char_in : Mode → ℕ → ℕ → ℕ → ℕ
-char_in (M.At p) bits high b = 0
 char_in (M.Key s) bits high b = char_of s bits high b
-char_in (M.Text s) bits high b = 0
-char_in (M.Number n) bits high b = 0
-char_in (M.Word w i) bits high b = 0
+char_in _ bits high b = 0
 
 -- the record after byte b, at mode m
 abbrev pub moved : Progress → ℕ → Mode → ℕ → ℕ → Progress
@@ -93,11 +86,8 @@ advanced x n b st = cond (eqb b 0x1E) (advance (fresh_progress false) To.Begin) 
 
 -- the verdict with nothing open, after pos bytes: after a value the record is valid where the root fits rule 0
 abbrev pub whole_at : Awaited → ℕ → Bool → Verdict
-whole_at P.Value pos root = Is.Unfinished pos
-whole_at P.First pos root = Is.Unfinished pos
-whole_at P.Key pos root = Is.Unfinished pos
-whole_at P.Colon pos root = Is.Unfinished pos
 whole_at P.After pos root = cond root Is.Valid Is.Invalid
+whole_at _ pos root = Is.Unfinished pos
 
 -- a number that may end is a whole text, and invalid as a scalar root
 unfoldable pub whole_number : NumberMode → ℕ → Verdict
@@ -105,10 +95,8 @@ whole_number n pos = cond (may_end n) Is.Invalid (Is.Unfinished pos)
 
 abbrev pub whole_in : Mode → ℕ → Bool → Verdict
 whole_in (M.At p) pos root = whole_at p pos root
-whole_in (M.Key s) pos root = Is.Unfinished pos
-whole_in (M.Text s) pos root = Is.Unfinished pos
 whole_in (M.Number n) pos root = whole_number n pos
-whole_in (M.Word w i) pos root = Is.Unfinished pos
+whole_in _ pos root = Is.Unfinished pos
 
 -- a record with an open value is not finished
 unfoldable pub whole : Progress → Bool → Verdict

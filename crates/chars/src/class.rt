@@ -58,6 +58,7 @@ const CLASSES: [Class; 256] = [
 ];
 
 // The class of each byte. A constant is built anew wherever it is used, so a caller with many bytes makes this once and lends it.
+#[derive(Drop)]
 pub struct Classes {
     table: [Class; 256],
     ghost told: { table ≡ class_table },

@@ -239,6 +239,7 @@ fn word_step(w: Word, i: u8, b: u8) -> Step
 }
 
 // What byte b does in mode m, with the innermost open value of kind top.
+#[inline(always)]
 pub fn step(classes: &Classes, m: Mode, top: Top, b: u8) -> Step
     ensures { result ≡ step_of m top b }
 {

@@ -30,13 +30,6 @@ never q = let z : ◌≡◌ {A = ℕ} 0 1 = cc in absurd (omega arith)
 
 -- ---- what the tests tell
 
--- v is what was found of b
-pub true-of-test : (b v : Bool) → v ≡ b → v ≡ true → b ≡ true
-true-of-test b v e h = sym e ∙ h
-
-pub false-of-test : (b v : Bool) → v ≡ b → v ≡ false → b ≡ false
-false-of-test b v e h = sym e ∙ h
-
 passes-by : (a : Act) (b : ℕ) (v : Bool) → eqb b 0x1E ≡ v → cond v false (is_quiet a) ≡ true → (b ≡ 0x1E → ⊥) × (is_quiet a ≡ true)
 passes-by a b true p q = never q
 passes-by a b false p q = (eqb-false b 0x1E p, q)
@@ -118,10 +111,6 @@ module _ (t : Table) (n : ℕ) (x : Progress) (root : Bool) (key w : List ℕ) (
       ∙ quiet-acted st.act x n b st.mode told.1))
 
 -- ---- how far a piece is read
-
--- a place in the piece up to the end, counted from the start
-pub count_fits : (len from pos end i : ℕ) → end ≡ from + min (len - from) (16777216 - pos) → pos ≤ 4294967295 → i ≤ end → pos + (i - from) ≤ 4294967295
-count_fits len from pos end i e p h = omega arith
 
 -- the bytes from a place in the piece to the end make no record too long
 pub rest-fits : (len from pos end i : ℕ) → end ≡ from + min (len - from) (16777216 - pos) → from ≤ i → i < end → pos + (i - from) + (end - i) ≤ 16777216

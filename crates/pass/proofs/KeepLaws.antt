@@ -22,7 +22,7 @@ use Rattle.laws.specs.Count.{bump}
 use Rattle.progress.specs.Progress.{advance, char_in, moved, advanced}
 use Rattle.progress.specs.Memory.{mem, top_at, perform, step_mem}
 use Rattle.progress.proofs.ActLaws.{length-kept_in}
-use Rattle.pass.specs.Pass.{plain_class, awaits_char, registers_of, with_bits, is_reading, keeps_in, keeps_chars, placed, StaysFor, KeptTo}
+use Rattle.pass.specs.Pass.{plain_class, awaits_char, with_bits, is_reading, keeps_in, keeps_chars, placed, StaysFor, KeptTo}
 use Rattle.pass.proofs.ByteLaws.{advanced-acted, bump-below, never, next-run, reads-told}
 use Rattle.pass.proofs.StayLaws.{char-awaited, both-true, stayed-part, plain-below, plain-char, plain-lead, plain_other}
 
@@ -67,9 +67,6 @@ key-place : (x : Progress) (m : Mode) (bits p len q more b : ℕ) (root : Bool) 
     ≡ mem (placed x m (with_bits x 0) q more) root next w
 key-place x m bits p len q more b root key next w e f g h k = rw (e, f, h, k, g)
 
-pub kept-none : (x : Progress) (s : List ℕ) (from : ℕ) (key : List ℕ) → from ≤ length s → KeptTo x s from key x from key
-kept-none x s from key h = record { low = omega arith; high = h; length = refl; same = λ t n root w. refl }
-
 module _ (x : Progress) (s : List ℕ) (from : ℕ) (old : List ℕ) (o : keeps_chars x ≡ true) where
   -- a plain character of a key is kept
   pub keep-on : (bits p len i q more : ℕ) (key next : List ℕ) → KeptTo x s from old (placed x x.mode (with_bits x bits) p len) i key
@@ -94,14 +91,6 @@ module _ (x : Progress) (s : List ℕ) (from : ℕ) (old : List ℕ) (o : keeps_
       }
 
 -- ---- the loop, up to the end of the piece or of the longest record
-
-pub kept-start : (x : Progress) (s : List ℕ) (from : ℕ) (key : List ℕ) → from ≤ length s
-    → KeptTo x s from key (placed x x.mode (registers_of x) (x.pos + (from - from)) x.len) from key
-kept-start x s from key h = let z : x.pos + (from - from) ≡ x.pos = omega arith in rw z (kept-none x s from key h)
-
--- the record y as it was put together
-pub kept_at : (x : Progress) (s : List ℕ) (from : ℕ) (old : List ℕ) (y z : Progress) (at : ℕ) (key : List ℕ) → y ≡ z → KeptTo x s from old z at key → KeptTo x s from old y at key
-kept_at x s from old y z at key e r = rw e r
 
 module _ (x : Progress) (s : List ℕ) (from end : ℕ) (old : List ℕ) (o : keeps_chars x ≡ true) (w : from ≤ length s)
     (d : end ≡ from + min (length s - from) (16777216 - x.pos)) where

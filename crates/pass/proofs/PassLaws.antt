@@ -126,11 +126,6 @@ module _ (x : Progress) (top : Top) (s : List ℕ) (o : is_reading x ≡ true) w
             (quiet_step t n x root key w b told.0 told.1 v st (e ∙ ap (λ (k : Top). step_of x.mode k b) (sym z)) c));
       }
 
--- of a record that is not read no byte is passed over
-pub out-unread : (x : Progress) (top : Top) (s : List ℕ) (from : ℕ) (st : Option Step) → from ≤ length s
-    → MatchOption st (from ≡ length s) (λ z. (from < length s) × (z ≡ step_of x.mode top (get_or s from 0))) → PassedTo x top s from x from st
-out-unread x top s from st h e = record { runs = runs_none x top s from h; step = e }
-
 -- ---- the loop, up to the end of the piece or of the longest record
 
 pub stands-first : (x : Progress) (top : Top) (s : List ℕ) (from end : ℕ) (g : Registers) → from ≤ length s

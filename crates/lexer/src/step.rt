@@ -173,6 +173,7 @@ fn at_first(top: Top, b: u8) -> Step
 }
 
 // Between tokens.
+#[inline(always)]
 fn place_step(p: Awaited, top: Top, b: u8) -> Step
     ensures { result ≡ place_step p top b }
 {

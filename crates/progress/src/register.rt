@@ -7,6 +7,7 @@ use json_text::lexer::Mode;
 use whole::Decimal;
 
 // The bits of the open character after byte b.
+#[inline(always)]
 pub fn bits_in(m: Mode, bits: u32, b: u8) -> u32
     ensures { result ≡ bits_in m bits b }
 {

@@ -1,4 +1,5 @@
 -- Keeping the characters of a key gives what reading them one by one gives: laws in the form of the needs of `keep`. Assumes nothing.
+use Rattle.std.specs.Prelude.{None}
 use mathlib.Core.Bool.{Bool, true, false}
 use mathlib.Core.List.{List}
 use mathlib.Core.Path.{◌≡◌, refl, sym, ap, ◌∙◌}
@@ -14,7 +15,6 @@ use Rattle.json_text.specs.declared.lexer.Mode.{Mode}
 use Rattle.json_text.specs.declared.lexer.Mode.TheVariants as M
 use Rattle.json_text.specs.declared.lexer.Act.TheVariants as A
 use Rattle.table.specs.Table.{Table}
-use Rattle.progress.specs.declared.Fault.TheVariants as F
 use Rattle.progress.specs.declared.Progress.{Progress}
 use Rattle.progress.specs.declared.Advanced.{Advanced}
 use Rattle.progress.specs.Act.{kept_key_len, key_task, kept_in}
@@ -46,7 +46,7 @@ unfolding key_task kept_in
 key-char y t b root key w true e l = simp (e, l)
 key-char y t b root key w false e l = simp e
 
-key_step-kept : (t : Table) (n : ℕ) (y : Progress) (root : Bool) (key w : List ℕ) (b : ℕ) → y.mode ≡ M.Key S.Char → y.head ≡ false → y.fault ≡ F.Sound
+key_step-kept : (t : Table) (n : ℕ) (y : Progress) (root : Bool) (key w : List ℕ) (b : ℕ) → y.mode ≡ M.Key S.Char → y.head ≡ false → y.fault ≡ None
     → y.pos < 16777216 → b < 256 → plain_class (class_of b) ≡ true
     → step_mem t n (mem y root key w) b ≡ mem (moved y b (M.Key S.Char) y.level (kept_key_len y.len b)) root (kept_in key y.len b) w
 unfolding step_mem

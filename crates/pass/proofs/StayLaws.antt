@@ -1,4 +1,5 @@
 -- Bytes that leave the mode as it is, one by one and passed over at once. Assumes nothing.
+use Rattle.std.specs.Prelude.{None}
 use mathlib.Core.Bool.{Bool, true, false, cond, ◌&&◌}
 use mathlib.Core.List.{List}
 use mathlib.Core.Path.{◌≡◌, refl, sym, ap, subst, ◌∙◌}
@@ -35,7 +36,6 @@ use Rattle.json_text.specs.declared.lexer.Act.TheVariants as A
 use Rattle.whole.specs.declared.Decimal.{Decimal}
 use Rattle.whole.specs.Count.{counted_from}
 use Rattle.table.specs.Table.{Table}
-use Rattle.progress.specs.declared.Fault.TheVariants as F
 use Rattle.progress.specs.declared.Progress.{Progress}
 use Rattle.progress.specs.Act.{number_before, number_to}
 use Rattle.laws.specs.Count.{bump}
@@ -224,7 +224,7 @@ passes-quietly : (a : Act) (b : ℕ) → is_quiet a ≡ true → (b ≡ 0x1E →
 unfolding passes
 passes-quietly a b q r = rw (ne_eqb b 0x1E r, q)
 
-module _ (t : Table) (n : ℕ) (x : Progress) (m : Mode) (high : ℕ) (len : ℕ) (root : Bool) (key w s : List ℕ) (h : x.head ≡ false) (f : x.fault ≡ F.Sound) where
+module _ (t : Table) (n : ℕ) (x : Progress) (m : Mode) (high : ℕ) (len : ℕ) (root : Bool) (key w s : List ℕ) (h : x.head ≡ false) (f : x.fault ≡ None) where
   stay-one : (bits : ℕ) (d : Decimal) (p i : ℕ) → i < length s → p < 16777216 → get_or s i 0 < 256
       → stays_in m (get_or s i 0) ≡ true
       → run_mem t n (mem (placed x m (registers (bits_in m bits 0x20) high (number_over m d s i 1)) (p + 1) len) root key w) (i + 1) (drop (i + 1) s)

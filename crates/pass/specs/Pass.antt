@@ -1,5 +1,6 @@
 -- Bytes that only move a reader on, and what passing over them means: the run over the rest of a piece is the run over the whole of it. Derived:
 -- `pass_on` and `stay-on` of `PassLaws` and `keep-on` of `KeepLaws` join them to `step_mem` of crate progress. Assumes nothing.
+use Rattle.std.specs.Prelude.{None}
 use Rattle.std.specs.Prelude.{Bool, true, false, cond, List, ◌≡◌, ℕ, ◌+◌, ◌-◌, ◌≤◌, ◌<◌, eqb, length, get_or, drop, Option, MatchOption}
 use Rattle.json_text.specs.Bytes.{is_blank}
 use Rattle.json_text.specs.Numbers.{is_digit}
@@ -21,7 +22,6 @@ use Rattle.whole.specs.declared.Decimal.{Decimal}
 use Rattle.whole.specs.Count.{bounded, counted_from}
 use Rattle.table.specs.Table.{Table}
 use Rattle.progress.specs.declared.Fault.{Fault}
-use Rattle.progress.specs.declared.Fault.TheVariants as F
 use Rattle.progress.specs.declared.Progress.{Progress}
 use Rattle.progress.specs.Act.{number_before}
 use Rattle.progress.specs.Progress.{bits_in, high_in}
@@ -119,8 +119,8 @@ passes a ends b = cond ends false (cond (eqb b 0x1E) false (is_quiet a))
 
 -- ---- the record
 
-abbrev pub is_sound : Fault → Bool
-is_sound F.Sound = true
+abbrev pub is_sound : Option Fault → Bool
+is_sound None = true
 is_sound _ = false
 
 -- the bytes of a record are more than counted: it is not the head, and has no fault so far

@@ -9,7 +9,7 @@ use chars::class::Classes;
 use json_text::lexer::{Act, Mode, Step, Top};
 use json_text::number::{NumberMode, NumberMove};
 use json_text::string::StringMode;
-use progress::{Fault, Progress, key, register};
+use progress::{Progress, key, register};
 use whole::Decimal;
 
 mod stay; // stay.rt: bytes that leave the mode as it is
@@ -114,7 +114,7 @@ fn passes(a: Act, ends: bool, b: u8) -> bool
 fn reads_on(x: Progress) -> bool
     ensures { result ≡ is_reading x }
 {
-    !x.head && matches!(x.fault, Fault::Sound)
+    !x.head && x.fault.is_none()
 }
 
 // The record is read, and stands where a character of a key is awaited.

@@ -1,5 +1,6 @@
 -- What an act of the lexer does to the open record, part by part: the first fault, the levels, the characters kept of the key, the number, the task. Derived:
 -- `acted` of `Progress` puts the parts together, and `tracks-step` of crate follows joins that to the track of crate verdict. Assumes nothing.
+use Rattle.std.specs.Prelude.{Option, Some, None}
 use Rattle.std.specs.Prelude.{Bool, true, false, cond, List, ℕ, ◌+◌, ◌-◌, ltb, set}
 use Rattle.json_text.specs.declared.word.Word.{Word}
 use Rattle.json_text.specs.declared.word.Word.TheVariants as W
@@ -18,8 +19,8 @@ use Rattle.progress.specs.declared.Task.{Task}
 use Rattle.progress.specs.declared.Task.TheVariants as To
 
 -- a value that is opened where n frames are: too deep, or one level more
-unfoldable pub open_fault : ℕ → ℕ → Fault
-open_fault level n = cond (ltb level n) F.Sound F.TooDeep
+unfoldable pub open_fault : ℕ → ℕ → Option Fault
+open_fault level n = cond (ltb level n) None (Some F.TooDeep)
 
 unfoldable pub open_level : ℕ → ℕ → ℕ
 open_level level n = cond (ltb level n) (level + 1) level
@@ -35,11 +36,11 @@ unfoldable pub kept_in : List ℕ → ℕ → ℕ → List ℕ
 kept_in key len c = cond (ltb len 32) (set key len c) key
 
 -- the fault of an act, if it is one
-abbrev pub first_fault : Act → ℕ → ℕ → Fault
-first_fault A.Fault level n = F.Malformed
+abbrev pub first_fault : Act → ℕ → ℕ → Option Fault
+first_fault A.Fault level n = Some F.Malformed
 first_fault A.OpenArray level n = open_fault level n
 first_fault A.OpenObject level n = open_fault level n
-first_fault _ level n = F.Sound
+first_fault _ level n = None
 
 -- how many values are open after an act
 abbrev pub level_after : Act → ℕ → ℕ → ℕ

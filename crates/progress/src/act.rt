@@ -10,13 +10,13 @@ use table::kind::Scalar;
 use whole::Decimal;
 
 // A value that is opened is too deep where the buffer has no frame for it.
-fn open_fault(level: usize, frames: usize) -> Fault
+fn open_fault(level: usize, frames: usize) -> Option<Fault>
     ensures { result ≡ open_fault level frames }
 {
     if level < frames {
-        Fault::Sound
+        None
     } else {
-        Fault::TooDeep
+        Some(Fault::TooDeep)
     }
 }
 
@@ -90,13 +90,13 @@ fn closing(ends: bool, d: Decimal) -> Task
 }
 
 // The fault of an act, if it is one.
-pub fn first_fault(a: Act, level: usize, frames: usize) -> Fault
+pub fn first_fault(a: Act, level: usize, frames: usize) -> Option<Fault>
     ensures { result ≡ first_fault a level frames }
 {
     match a {
-        Act::Fault => Fault::Malformed,
+        Act::Fault => Some(Fault::Malformed),
         Act::OpenArray | Act::OpenObject => open_fault(level, frames),
-        _ => Fault::Sound,
+        _ => None,
     }
 }
 

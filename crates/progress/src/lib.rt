@@ -15,10 +15,9 @@ pub mod key; // key.rt: the characters kept of the open key
 pub mod register; // register.rt: the registers of the open character and the open number
 pub mod ending; // ending.rt: the verdict of a record without a fault that ends
 
-// The first fault of a record, if there is one.
+// A fault of a record.
 #[derive(Clone, Copy)]
 pub enum Fault {
-    Sound,
     Malformed,
     TooDeep,
     TooLong,
@@ -39,7 +38,8 @@ pub struct Progress {
     pub number: Decimal,
     // where the next byte stands
     pub mode: Mode,
-    pub fault: Fault,
+    // the first fault, if there is one
+    pub fault: Option<Fault>,
     // before the first RS of the stream
     pub head: bool,
     // how many characters of the open key are kept; 33 where it can be no key of a book
@@ -77,7 +77,7 @@ pub fn fresh(head: bool) -> Progress
 {
     Progress {
         mode: Mode::At(Awaited::Value),
-        fault: Fault::Sound,
+        fault: None,
         head: head,
         level: 0,
         pos: 0,
@@ -107,7 +107,7 @@ fn faulted(x: Progress, f: Fault) -> Advanced
     ensures { result ≡ faulted x f }
 {
     counted(Progress {
-        fault: f,
+        fault: Some(f),
         place: x.pos,
         ..x
     })
@@ -135,7 +135,7 @@ fn acted(x: Progress, frames: usize, b: u8, st: Step) -> Advanced
     ensures { result ≡ acted st.act st.ends x frames b st.mode }
 {
     match act::first_fault(st.act, x.level, frames) {
-        Fault::Sound => {
+        None => {
             let c = register::char_in(x.mode, x.bits, x.high, b);
             let level = act::level_after(st.act, x.level, frames);
             Advanced {
@@ -143,7 +143,7 @@ fn acted(x: Progress, frames: usize, b: u8, st: Step) -> Advanced
                 task: act::task_of(st.act, st.ends, x.number, x.len, c),
             }
         }
-        f => faulted(x, f),
+        Some(f) => faulted(x, f),
     }
 }
 
@@ -170,7 +170,7 @@ pub fn advance(x: Progress, frames: usize, b: u8, st: Step) -> Advanced
         };
     }
     match x.fault {
-        Fault::Sound if !x.head => sound(x, frames, b, st),
+        None if !x.head => sound(x, frames, b, st),
         _ => counted(x),
     }
 }
@@ -183,9 +183,9 @@ pub fn judge(x: Progress, root: bool) -> Verdict
         return Verdict::Head;
     }
     match x.fault {
-        Fault::Sound => ending::whole(x, root),
-        Fault::Malformed => Verdict::Malformed(x.place),
-        Fault::TooDeep => Verdict::TooDeep(x.place),
-        Fault::TooLong => Verdict::TooLong,
+        None => ending::whole(x, root),
+        Some(Fault::Malformed) => Verdict::Malformed(x.place),
+        Some(Fault::TooDeep) => Verdict::TooDeep(x.place),
+        Some(Fault::TooLong) => Verdict::TooLong,
     }
 }

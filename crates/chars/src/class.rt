@@ -1,81 +1,77 @@
-// The class of each byte, read from a table of class numbers.
+// The class of each byte, read from a table.
 ghost use Rattle.std.specs.Prelude.{◌≡◌};
-ghost use Rattle.json_text.specs.Classes.{class_of, class_number};
-ghost use Rattle.chars.specs.Table.{class_table, class_for, class_at};
+ghost use Rattle.json_text.specs.Classes.{class_of};
+ghost use Rattle.chars.specs.Table.{class_table};
 
 use json_text::class::Class;
+use json_text::class::Class::{
+    Backslash, Break, Control, Digit, LeadC2, LeadE0, LeadE1, LeadED, LeadEE, LeadF0, LeadF1,
+    LeadF4, Never, Other, Quote, Space, Structure, Tail,
+};
 
-// The class number of each byte, sixteen bytes to a line. The last four lines have the first bytes of UTF-8 sequences by the rows of RFC 3629,
-// section 4: 0a is C2-DF (UTF8-2); 0b is E0, 0c E1-EC, 0d ED, 0e EE-EF (UTF8-3); 0f is F0, 10 F1-F3, 11 F4 (UTF8-4).
-const CLASSES: [u8; 256] = *b"\
-\x01\x01\x01\x01\x01\x01\x01\x01\x01\x02\x02\x01\x01\x02\x01\x01\
-\x01\x01\x01\x01\x01\x01\x01\x01\x01\x01\x01\x01\x01\x01\x01\x01\
-\x03\x08\x04\x08\x08\x08\x08\x08\x08\x08\x08\x08\x06\x08\x08\x08\
-\x07\x07\x07\x07\x07\x07\x07\x07\x07\x07\x06\x08\x08\x08\x08\x08\
-\x08\x08\x08\x08\x08\x08\x08\x08\x08\x08\x08\x08\x08\x08\x08\x08\
-\x08\x08\x08\x08\x08\x08\x08\x08\x08\x08\x08\x06\x05\x06\x08\x08\
-\x08\x08\x08\x08\x08\x08\x08\x08\x08\x08\x08\x08\x08\x08\x08\x08\
-\x08\x08\x08\x08\x08\x08\x08\x08\x08\x08\x08\x06\x08\x06\x08\x08\
-\x09\x09\x09\x09\x09\x09\x09\x09\x09\x09\x09\x09\x09\x09\x09\x09\
-\x09\x09\x09\x09\x09\x09\x09\x09\x09\x09\x09\x09\x09\x09\x09\x09\
-\x09\x09\x09\x09\x09\x09\x09\x09\x09\x09\x09\x09\x09\x09\x09\x09\
-\x09\x09\x09\x09\x09\x09\x09\x09\x09\x09\x09\x09\x09\x09\x09\x09\
-\x00\x00\x0a\x0a\x0a\x0a\x0a\x0a\x0a\x0a\x0a\x0a\x0a\x0a\x0a\x0a\
-\x0a\x0a\x0a\x0a\x0a\x0a\x0a\x0a\x0a\x0a\x0a\x0a\x0a\x0a\x0a\x0a\
-\x0b\x0c\x0c\x0c\x0c\x0c\x0c\x0c\x0c\x0c\x0c\x0c\x0c\x0d\x0e\x0e\
-\x0f\x10\x10\x10\x11\x00\x00\x00\x00\x00\x00\x00\x00\x00\x00\x00";
+// The class of each byte, sixteen bytes to a row. The first bytes of UTF-8 sequences have theirs by the rows of RFC 3629, section 4.
+const CLASSES: [Class; 256] = [
+    // 00
+    Control, Control, Control, Control, Control, Control, Control, Control, Control, Break, Break,
+    Control, Control, Break, Control, Control,
+    // 10
+    Control, Control, Control, Control, Control, Control, Control, Control, Control, Control,
+    Control, Control, Control, Control, Control, Control,
+    // 20
+    Space, Other, Quote, Other, Other, Other, Other, Other, Other, Other, Other, Other, Structure,
+    Other, Other, Other,
+    // 30
+    Digit, Digit, Digit, Digit, Digit, Digit, Digit, Digit, Digit, Digit, Structure, Other, Other,
+    Other, Other, Other,
+    // 40
+    Other, Other, Other, Other, Other, Other, Other, Other, Other, Other, Other, Other, Other,
+    Other, Other, Other,
+    // 50
+    Other, Other, Other, Other, Other, Other, Other, Other, Other, Other, Other, Structure,
+    Backslash, Structure, Other, Other,
+    // 60
+    Other, Other, Other, Other, Other, Other, Other, Other, Other, Other, Other, Other, Other,
+    Other, Other, Other,
+    // 70
+    Other, Other, Other, Other, Other, Other, Other, Other, Other, Other, Other, Structure, Other,
+    Structure, Other, Other,
+    // 80
+    Tail, Tail, Tail, Tail, Tail, Tail, Tail, Tail, Tail, Tail, Tail, Tail, Tail, Tail, Tail, Tail,
+    // 90
+    Tail, Tail, Tail, Tail, Tail, Tail, Tail, Tail, Tail, Tail, Tail, Tail, Tail, Tail, Tail, Tail,
+    // A0
+    Tail, Tail, Tail, Tail, Tail, Tail, Tail, Tail, Tail, Tail, Tail, Tail, Tail, Tail, Tail, Tail,
+    // B0
+    Tail, Tail, Tail, Tail, Tail, Tail, Tail, Tail, Tail, Tail, Tail, Tail, Tail, Tail, Tail, Tail,
+    // C0
+    Never, Never, LeadC2, LeadC2, LeadC2, LeadC2, LeadC2, LeadC2, LeadC2, LeadC2, LeadC2, LeadC2,
+    LeadC2, LeadC2, LeadC2, LeadC2,
+    // D0
+    LeadC2, LeadC2, LeadC2, LeadC2, LeadC2, LeadC2, LeadC2, LeadC2, LeadC2, LeadC2, LeadC2, LeadC2,
+    LeadC2, LeadC2, LeadC2, LeadC2,
+    // E0
+    LeadE0, LeadE1, LeadE1, LeadE1, LeadE1, LeadE1, LeadE1, LeadE1, LeadE1, LeadE1, LeadE1, LeadE1,
+    LeadE1, LeadED, LeadEE, LeadEE,
+    // F0
+    LeadF0, LeadF1, LeadF1, LeadF1, LeadF4, Never, Never, Never, Never, Never, Never, Never, Never,
+    Never, Never, Never,
+];
 
-// The table. A constant is built anew wherever it is used, so a caller with many bytes takes it once and lends it.
-pub fn classes() -> [u8; 256]
-    ensures { result ≡ class_table }
-{
-    CLASSES
+// The class of each byte. A constant is built anew wherever it is used, so a caller with many bytes makes this once and lends it.
+#[derive(Drop)]
+pub struct Classes {
+    table: [Class; 256],
+    ghost told: { table ≡ class_table },
 }
 
-// The number of a byte's class.
-pub fn class_number(b: u8) -> u8
-    ensures { result ≡ class_number (class_of b) }
-{
-    let table = classes();
-    table[b as usize]
-}
-
-// The class with a number; Never for a number that no class has.
-pub fn class_for(n: u8) -> Class
-    ensures { result ≡ class_for n }
-{
-    match n {
-        1 => Class::Control,
-        2 => Class::Break,
-        3 => Class::Space,
-        4 => Class::Quote,
-        5 => Class::Backslash,
-        6 => Class::Structure,
-        7 => Class::Digit,
-        8 => Class::Other,
-        9 => Class::Tail,
-        10 => Class::LeadC2,
-        11 => Class::LeadE0,
-        12 => Class::LeadE1,
-        13 => Class::LeadED,
-        14 => Class::LeadEE,
-        15 => Class::LeadF0,
-        16 => Class::LeadF1,
-        17 => Class::LeadF4,
-        _ => Class::Never,
+impl Classes {
+    pub fn new() -> Self {
+        Classes { table: CLASSES }
     }
-}
 
-// The class of a byte.
-pub fn class_of(b: u8) -> Class
-    ensures { result ≡ class_of b }
-{
-    class_for(class_number(b))
-}
-
-// The class that a lent table gives to a byte.
-pub fn class_in(table: &[u8; 256], b: u8) -> Class
-    ensures { result ≡ class_at table.now b }
-{
-    class_for(table[b as usize])
+    pub fn of(&self, b: u8) -> Class
+        ensures { result ≡ class_of b }
+    {
+        self.table[b as usize]
+    }
 }

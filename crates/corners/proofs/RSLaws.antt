@@ -11,7 +11,7 @@ use Rattle.json_text.specs.Numbers.{is_digit, is_digit_1_9, is_e}
 use Rattle.json_text.specs.Tree.{Json}
 use Rattle.json_text.specs.Classes.{is_break, is_structure, high_class, class_of}
 use Rattle.json_text.specs.Grammar.{Text, spelling}
-use Rattle.json_text.specs.Lexer.{unescape, escape_move, hex_of, any_hex, unit1, unit_d, low1, low2, only, ranged, string_move, or_exp, after_minus, after_zero, after_int, after_frac, after_e, after_exp, digit_only, word_of, letter_move, value_start, at_value, at_first_element, at_first_key, at_key, at_colon, after_root, after_element, after_pair, step_of}
+use Rattle.json_text.specs.Lexer.{unescape, escape_move, hex_of, only, ranged, string_move, or_exp, after_minus, after_zero, after_int, after_frac, after_e, after_exp, digit_only, word_of, letter_move, value_start, at_value, at_first_element, at_first_key, at_key, at_colon, after_root, after_element, after_pair, step_of}
 use Rattle.json_text.specs.Machine.{State, fault, at, step, run, start, result, top_of}
 use Rattle.json_text.specs.declared.string.StringMode.{StringMode}
 use Rattle.json_text.specs.declared.string.StringMode.TheVariants as S
@@ -33,7 +33,7 @@ use Rattle.corners.proofs.TookLaws.{run-append}
 -- ---- by the mode
 
 in_string : (s : StringMode) → string_move s 0x1E ≡ SM.Fault
-unfolding class_of is_break is_structure high_class is_digit within unescape escape_move hex_of any_hex unit1 unit_d low1 low2 only ranged
+unfolding class_of is_break is_structure high_class is_digit within unescape escape_move hex_of only ranged
 in_string S.Char = refl
 in_string S.Escape = refl
 in_string S.Unit1 = refl

@@ -1,4 +1,5 @@
 -- What a byte leaves of any memory: whether the record is the head, and the count of bytes. Assumes nothing.
+use Rattle.std.specs.Prelude.{Option, Some, None}
 use mathlib.Core.Bool.{Bool, false}
 use mathlib.Core.Path.{◌≡◌, refl}
 use Prim.Native.Nat.{ℕ, suc, ◌≤◌, ◌<◌}
@@ -14,7 +15,6 @@ use Rattle.json_text.specs.declared.lexer.Step.{Step}
 use Rattle.table.specs.Table.{Table}
 use Rattle.verdict.specs.Verdict.{longest}
 use Rattle.progress.specs.declared.Fault.{Fault}
-use Rattle.progress.specs.declared.Fault.TheVariants as F
 use Rattle.progress.specs.declared.Progress.{Progress}
 use Rattle.progress.specs.declared.Advanced.{Advanced}
 use Rattle.progress.specs.Act.{first_fault}
@@ -41,20 +41,16 @@ pub record Counts (x y : Progress) : Type 0 where
   pub head : y.head ≡ x.head
 
 module _ (x : Progress) (n b : ℕ) where
-  counts-acted_by : (f : Fault) (a : Act) (e : Bool) (m : Mode) → Counts x (acted_by f a e x n b m).progress
-  counts-acted_by F.Sound a e m = record { pos = refl; head = refl }
-  counts-acted_by F.Malformed a e m = record { pos = refl; head = refl }
-  counts-acted_by F.TooDeep a e m = record { pos = refl; head = refl }
-  counts-acted_by F.TooLong a e m = record { pos = refl; head = refl }
+  counts-acted_by : (f : Option Fault) (a : Act) (e : Bool) (m : Mode) → Counts x (acted_by f a e x n b m).progress
+  counts-acted_by None a e m = record { pos = refl; head = refl }
+  counts-acted_by (Some f) a e m = record { pos = refl; head = refl }
 
-  counts-by_fault : (f : Fault) (st : Step) → Counts x (advanced_by_fault f x n b st).progress
+  counts-by_fault : (f : Option Fault) (st : Step) → Counts x (advanced_by_fault f x n b st).progress
   unfolding sound
-  counts-by_fault F.Sound st =
+  counts-by_fault None st =
       cond-elim (λ (a : Advanced). Counts x a.progress) (ltb x.pos longest) (λ _. counts-acted_by (first_fault st.act x.level n) st.act st.ends st.mode)
       (λ _. record { pos = refl; head = refl })
-  counts-by_fault F.Malformed st = record { pos = refl; head = refl }
-  counts-by_fault F.TooDeep st = record { pos = refl; head = refl }
-  counts-by_fault F.TooLong st = record { pos = refl; head = refl }
+  counts-by_fault (Some f) st = record { pos = refl; head = refl }
 
   counts-advanced : (st : Step) → eqb b 0x1E ≡ false → Counts x (advanced x n b st).progress
   unfolding advanced

@@ -1,5 +1,6 @@
 -- What the memory of a reader shows of the machine that finds verdicts: the frames its stack, the kept characters its key, the counts its number.
 -- Derived, nothing to believe: `tracks-step` and `judged-part` in proofs/ join it to the track of crate verdict. Assumes nothing.
+use Rattle.std.specs.Prelude.{Some, None}
 use Rattle.std.specs.Prelude.{Bool, true, false, not, ◌⊎◌, ◌≡◌, ℕ, suc, ◌*◌, ◌≤◌, ◌<◌, T, eqb, ltb, length, take}
 use mathlib.Core.List.{List, [], ◌∷◌, Memᴰ}
 use Rattle.laws.specs.Lists.{all, any}
@@ -68,7 +69,7 @@ ShowsNumber (M.Word x j) y r i = T true
 
 abbrev pub lex_at : Mode → ℕ → ℕ → ℕ → ℕ → ℕ → Decimal → ℕ → Progress
 lex_at m level pos place bits high d len =
-    record { mode = m; fault = F.Sound; head = false; level = level; pos = pos; place = place; bits = bits; high = high; number = d; len = len }
+    record { mode = m; fault = None; head = false; level = level; pos = pos; place = place; bits = bits; high = high; number = d; len = len }
 
 -- ---- what is known of a record with a fault
 
@@ -76,9 +77,9 @@ lex_at m level pos place bits high d len =
 abbrev pub FaultIs : Verdict → Progress → Type 0
 FaultIs Is.Valid x = ⊥
 FaultIs Is.Invalid x = ⊥
-FaultIs (Is.Malformed p) x = (x.fault ≡ F.Malformed) × (x.place ≡ p)
-FaultIs (Is.TooDeep p) x = (x.fault ≡ F.TooDeep) × (x.place ≡ p)
-FaultIs Is.TooLong x = x.fault ≡ F.TooLong
+FaultIs (Is.Malformed p) x = (x.fault ≡ Some F.Malformed) × (x.place ≡ p)
+FaultIs (Is.TooDeep p) x = (x.fault ≡ Some F.TooDeep) × (x.place ≡ p)
+FaultIs Is.TooLong x = x.fault ≡ Some F.TooLong
 FaultIs (Is.Unfinished p) x = ⊥
 FaultIs Is.Head x = ⊥
 

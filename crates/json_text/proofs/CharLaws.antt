@@ -2,20 +2,21 @@
 -- numbers of the RFCs. Assumes nothing.
 use mathlib.Core.Bool.{Bool, true, false, not}
 use mathlib.Core.List.{List, [], ◌∷◌}
-use mathlib.Core.Path.{◌≡◌, refl}
+use mathlib.Core.Path.{◌≡◌, refl, sym, ap, subst}
 use Prim.Native.Nat.{ℕ, ◌+◌, ◌-◌, ◌*◌, ◌%◌, ◌≤◌, ◌<◌}
 use native.Mathlib.Nat.{lt_of_not-le}
 use native.Mathlib.Omega.{arith}
 use lib.Dec.{T, eqb, T_not}
 use borrow.Author.Tests.{lt-ltb, le-ltb, eqb-true, eqb-false}
+use Rattle.std.specs.Prelude.{Some}
 use Rattle.json_text.specs.Bytes.{within}
 use Rattle.json_text.specs.Utf8.{is_tail, six_more, Utf8, row_c2_df, row_e0, row_e1_ec, row_ed, row_ee_ef, row_f0, row_f1_f3, row_f4}
-use Rattle.json_text.specs.Strings.{Escaped, quotation_mark, reverse_solidus, solidus, backspace, form_feed, line_feed, carriage_return, tab, hex_more, CodeUnit, code_unit, paired, Char, unescaped, multibyte, escaped, unit, surrogates, Chars, closing_quote, chars}
-use Rattle.json_text.specs.Lexer.{unescape, hex_of, lead_bits, tail_bits, hex_bits, pair_of, bits_after, high_after, char_of}
+use Rattle.json_text.specs.Strings.{Escaped, quotation_mark, reverse_solidus, solidus, backspace, form_feed, line_feed, carriage_return, tab, Hex, hex_more, code_unit, paired, Char, unescaped, multibyte, escaped, unit, surrogates, Chars, closing_quote, chars}
+use Rattle.json_text.specs.Lexer.{unescape, escaped_char, hex_of, lead_bits, tail_bits, hex_bits, pair_of, bits_after, high_after, char_of}
 use Rattle.json_text.specs.declared.string.StringMode.{StringMode}
 use Rattle.json_text.specs.declared.string.StringMode.TheVariants as S
 use Rattle.json_text.proofs.ByteLaws.{low-of-within, high-of-within, within-of-le, outside-of-not-within}
-use Rattle.json_text.proofs.StringLaws.{value-of-hex, lt-of-hex, hex-of-lt, Goes, backslash, lead-C2, lead-E0, lead-E1, lead-ED, lead-EE, lead-F0}
+use Rattle.json_text.proofs.StringLaws.{value-of-hex, lt-of-hex, Goes, backslash, lead-C2, lead-E0, lead-E1, lead-ED, lead-EE, lead-F0}
 use Rattle.json_text.proofs.StringLaws.{lead-F1, lead-F4, second-E0, second-E1, second-ED, second-EE, second-F0, second-F1, second-F4, tail-2}
 use Rattle.json_text.proofs.StringLaws.{letter-u, digit-1, digit-1_d}
 use Rattle.json_text.proofs.StringLaws.{digit-2, digit-2-below, digit-2-high, digit-3, high-3, high-4, low-backslash, low-u, low-1, low-2, low-3}
@@ -72,55 +73,55 @@ bits-F : (a : ℕ) → 0xF0 ≤ a → lead_bits a ≡ a - 0xF0
 unfolding lead_bits
 bits-F a lo = simp (le-ltb a 0xC0 (omega arith), le-ltb a 0xE0 (omega arith), le-ltb a 0xF0 lo)
 
--- a hexadecimal digit more
-hex-of-bits : (x h : ℕ) → x < 0x1000 → h < 16 → hex_bits x h ≡ hex_more x h
-unfolding hex_bits hex_more
-hex-of-bits x h p q =
-    let e : x % 0x1000 ≡ x = omega arith in
-    let f : h % 16 ≡ h = omega arith in
-    simp (e, f)
-
-hex-lt : (x h n : ℕ) → x < n → h < 16 → hex_more x h < n * 16
+-- the number of a code unit
+unit-number : {a b c d w x y z : ℕ} → Hex a w → Hex b x → Hex c y → Hex d z
+    → hex_bits (hex_bits (hex_bits (hex_bits 0 (hex_of a)) (hex_of b)) (hex_of c)) (hex_of d) ≡ hex_more (hex_more (hex_more w x) y) z
 unfolding hex_more
-hex-lt x h n p q = omega arith
+unit-number p q u v =
+    let hw = lt-of-hex p in let hx = lt-of-hex q in let hy = lt-of-hex u in let hz = lt-of-hex v in
+    rw (value-of-hex p, value-of-hex q, value-of-hex u, value-of-hex v) (omega arith)
 
-module _ (w x y z : ℕ) (hw : w < 16) (hx : x < 16) (hy : y < 16) (hz : z < 16) where
-  -- the number of a code unit
-  unit-number : hex_bits (hex_bits (hex_bits w x) y) z ≡ hex_more (hex_more (hex_more w x) y) z
-  unit-number =
-      let p = hex-lt w x 16 hw hx in
-      let q = hex-lt (hex_more w x) y 256 p hy in
-      rw (hex-of-bits w x (omega arith) hx) (rw (hex-of-bits (hex_more w x) y (omega arith) hy) (hex-of-bits (hex_more (hex_more w x) y) z q hz))
-
+module _ {a b c d w x y z : ℕ} (p : Hex a w) (q : Hex b x) (u : Hex c y) (v : Hex d z) where
   unit-sum : hex_more (hex_more (hex_more w x) y) z ≡ w * 0x1000 + x * 0x100 + y * 16 + z
   unit-sum = unfold hex_more in omega arith
 
   -- whether a code unit is a surrogate is settled by its first two digits
   no_surrogate : (w ≡ 13 → ⊥) → T (not (within 0xD800 0xDFFF (hex_more (hex_more (hex_more w x) y) z)))
-  no_surrogate n = rw unit-sum (outside-of-not-within 0xD800 0xDFFF _ (λ l h. n (omega arith)))
+  no_surrogate n =
+      let hw = lt-of-hex p in let hx = lt-of-hex q in let hy = lt-of-hex u in let hz = lt-of-hex v in
+      rw unit-sum (outside-of-not-within 0xD800 0xDFFF _ (λ l h. n (omega arith)))
 
   no-surrogate-below : w ≡ 13 → x < 8 → T (not (within 0xD800 0xDFFF (hex_more (hex_more (hex_more w x) y) z)))
-  no-surrogate-below e h = rw unit-sum (outside-of-not-within 0xD800 0xDFFF _ (λ l g. omega arith))
+  no-surrogate-below e h =
+      let hy = lt-of-hex u in let hz = lt-of-hex v in
+      rw unit-sum (outside-of-not-within 0xD800 0xDFFF _ (λ l g. omega arith))
 
   high-surrogate : w ≡ 13 → 8 ≤ x → x < 12 → T (within 0xD800 0xDBFF (hex_more (hex_more (hex_more w x) y) z))
-  high-surrogate e l h = rw unit-sum (within-of-le 0xD800 0xDBFF _ (omega arith) (omega arith))
+  high-surrogate e l h =
+      let hy = lt-of-hex u in let hz = lt-of-hex v in
+      rw unit-sum (within-of-le 0xD800 0xDBFF _ (omega arith) (omega arith))
 
   low-surrogate : w ≡ 13 → 12 ≤ x → T (within 0xDC00 0xDFFF (hex_more (hex_more (hex_more w x) y) z))
-  low-surrogate e l = rw unit-sum (within-of-le 0xDC00 0xDFFF _ (omega arith) (omega arith))
+  low-surrogate e l =
+      let hx = lt-of-hex q in let hy = lt-of-hex u in let hz = lt-of-hex v in
+      rw unit-sum (within-of-le 0xDC00 0xDFFF _ (omega arith) (omega arith))
 
   -- the first two digits of a code unit: after a D one below 8 where it is no surrogate; D and 8 to B of a high one, D and C to F of a low one
   below-of-no-surrogate : w ≡ 13 → T (not (within 0xD800 0xDFFF (hex_more (hex_more (hex_more w x) y) z))) → (8 ≤ x → ⊥)
   below-of-no-surrogate e n l =
+      let hx = lt-of-hex q in let hy = lt-of-hex u in let hz = lt-of-hex v in
       T_not (within 0xD800 0xDFFF (w * 0x1000 + x * 0x100 + y * 16 + z)) (rw unit-sum at n) (within-of-le 0xD800 0xDFFF _ (omega arith) (omega arith))
 
   second-of-high : T (within 0xD800 0xDBFF (hex_more (hex_more (hex_more w x) y) z)) → (w ≡ 13) × (8 ≤ x) × (x < 12)
   second-of-high h =
+      let hx = lt-of-hex q in let hy = lt-of-hex u in let hz = lt-of-hex v in
       let lo = low-of-within 0xD800 0xDBFF _ (rw unit-sum at h) in
       let hi = high-of-within 0xD800 0xDBFF _ (rw unit-sum at h) in
       (omega arith, omega arith, omega arith)
 
   second-of-low : T (within 0xDC00 0xDFFF (hex_more (hex_more (hex_more w x) y) z)) → (w ≡ 13) × (12 ≤ x)
   second-of-low h =
+      let hx = lt-of-hex q in let hy = lt-of-hex u in let hz = lt-of-hex v in
       let lo = low-of-within 0xDC00 0xDFFF _ (rw unit-sum at h) in
       let hi = high-of-within 0xDC00 0xDFFF _ (rw unit-sum at h) in
       (omega arith, omega arith)
@@ -139,7 +140,7 @@ pair-number u v h g =
 
 -- ---- from the grammar
 
-value-of-escaped : {b c : ℕ} → Escaped b c → unescape b ≡ c
+value-of-escaped : {b c : ℕ} → Escaped b c → unescape b ≡ Some c
 unfolding unescape
 value-of-escaped quotation_mark = refl
 value-of-escaped reverse_solidus = refl
@@ -184,55 +185,33 @@ module _ {t cs r : List ℕ} (K : (x h : ℕ) → Continues S.Char x h t cs r) w
       (rw (← bits-F 0xF4 (omega arith)) (goes lead-F4 (goes (second-F4 p) (goes (tail-2 q) (ends (tail-1 u) (K _ _))))))
 
   -- four digits of a code unit that is no surrogate
-  unit-continues : (a b c d x h : ℕ) → hex_of a < 16 → hex_of b < 16 → hex_of c < 16 → hex_of d < 16
-      → T (not (within 0xD800 0xDFFF (hex_more (hex_more (hex_more (hex_of a) (hex_of b)) (hex_of c)) (hex_of d))))
-      → Continues S.Unit1 x h (a ∷ b ∷ c ∷ d ∷ t) (hex_more (hex_more (hex_more (hex_of a) (hex_of b)) (hex_of c)) (hex_of d) ∷ cs) r
-  unit-continues a b c d x h p q u v n =
-      rw (← unit-number (hex_of a) (hex_of b) (hex_of c) (hex_of d) p q u v) (go (eqb (hex_of a) 13) refl)
+  unit-continues : {a b c d w x y z : ℕ} → Hex a w → Hex b x → Hex c y → Hex d z
+      → T (not (within 0xD800 0xDFFF (hex_more (hex_more (hex_more w x) y) z))) → (i h : ℕ)
+      → Continues S.Unit1 i h (a ∷ b ∷ c ∷ d ∷ t) (hex_more (hex_more (hex_more w x) y) z ∷ cs) r
+  unit-continues {a} {b} {c} {d} {w} {x} {y} {z} p q u v n i h = rw (← unit-number p q u v) (go (eqb w 13) refl)
     where
-      go : (y : Bool) → eqb (hex_of a) 13 ≡ y
-          → Continues S.Unit1 x h (a ∷ b ∷ c ∷ d ∷ t) (hex_bits (hex_bits (hex_bits (hex_of a) (hex_of b)) (hex_of c)) (hex_of d) ∷ cs) r
-      go true e = goes (digit-1_d (eqb-true (hex_of a) 13 e)) (goes (digit-2-below below) (goes (digit-3 u) (ends (digit-4 v) (K _ _))))
-        where
-          below : hex_of b < 8
-          below = lt_of_not-le (below-of-no-surrogate (hex_of a) (hex_of b) (hex_of c) (hex_of d) p q u v (eqb-true (hex_of a) 13 e) n)
-      go false e = goes (digit-1 p (eqb-false (hex_of a) 13 e)) (goes (digit-2 q) (goes (digit-3 u) (ends (digit-4 v) (K _ _))))
-
-  -- eight digits of a surrogate pair
-  pair-continues : (a b c d e f g i x h : ℕ) → hex_of a < 16 → hex_of b < 16 → hex_of c < 16 → hex_of d < 16
-      → hex_of e < 16 → hex_of f < 16 → hex_of g < 16 → hex_of i < 16
-      → (u v : ℕ) → u ≡ hex_more (hex_more (hex_more (hex_of a) (hex_of b)) (hex_of c)) (hex_of d)
-      → v ≡ hex_more (hex_more (hex_more (hex_of e) (hex_of f)) (hex_of g)) (hex_of i)
-      → T (within 0xD800 0xDBFF u) → T (within 0xDC00 0xDFFF v)
-      → Continues S.Unit1 x h (a ∷ b ∷ c ∷ d ∷ 0x5C ∷ 0x75 ∷ e ∷ f ∷ g ∷ i ∷ t) (paired u v ∷ cs) r
-  pair-continues a b c d e f g i x h ha hb hc hd he hf hg hi u v eu ev p q =
-      let H = second-of-high (hex_of a) (hex_of b) (hex_of c) (hex_of d) ha hb hc hd (rw eu at p) in
-      let L = second-of-low (hex_of e) (hex_of f) (hex_of g) (hex_of i) he hf hg hi (rw ev at q) in
-      rw (← pair-number u v p q)
-      (rw (eu, ev)
-      (rw (← unit-number (hex_of a) (hex_of b) (hex_of c) (hex_of d) ha hb hc hd)
-      (rw (← unit-number (hex_of e) (hex_of f) (hex_of g) (hex_of i) he hf hg hi)
-      (goes (digit-1_d H.0) (goes (digit-2-high H.1 H.2) (goes (high-3 hc) (goes (high-4 hd)
-      (goes low-backslash (goes low-u (goes (low-1 L.0) (goes (low-2 L.1 hf) (goes (low-3 hg) (ends (low-4 hi) (K _ _))))))))))))))
+      go : (k : Bool) → eqb w 13 ≡ k
+          → Continues S.Unit1 i h (a ∷ b ∷ c ∷ d ∷ t) (hex_bits (hex_bits (hex_bits (hex_bits 0 (hex_of a)) (hex_of b)) (hex_of c)) (hex_of d) ∷ cs) r
+      go true e =
+          let f = eqb-true w 13 e in
+          goes (digit-1_d (subst (Hex a) f p)) (goes (digit-2-below q (lt_of_not-le (below-of-no-surrogate p q u v f n))) (goes (digit-3 u) (ends (digit-4 v) (K _ _))))
+      go false e = goes (digit-1 p (eqb-false w 13 e)) (goes (digit-2 q) (goes (digit-3 u) (ends (digit-4 v) (K _ _))))
 
   char-continues : {s : List ℕ} {c : ℕ} → Char s c t → (x h : ℕ) → Continues S.Char x h s (c ∷ cs) r
   char-continues (unescaped p) x h = ends (plain p) (K _ _)
   char-continues (multibyte u) x h = utf8-continues u x h
-  char-continues (escaped {b} p) x h =
-      let e = value-of-escaped p in
-      rw (← e) (goes backslash (ends (after-backslash {b = b} (rw e p)) (K _ _)))
-  char-continues (unit (code_unit {a} {b} {c} {d} p q u v) n) x h =
-      let e = value-of-hex p in let f = value-of-hex q in let g = value-of-hex u in let i = value-of-hex v in
-      rw (← e, ← f, ← g, ← i)
+  char-continues (escaped {b} {c} p) x h = goes backslash (escaped-ends (value-of-escaped p))
+    where
+      escaped-ends : {i g : ℕ} → unescape b ≡ Some c → Continues S.Escape i g (b ∷ t) (c ∷ cs) r
+      escaped-ends {i} {g} e = subst (λ (o : ℕ). Continues S.Escape i g (b ∷ t) (o ∷ cs) r) (ap escaped_char e) (ends (after-backslash p) (K _ _))
+  char-continues (unit (code_unit p q u v) n) x h = goes backslash (goes letter-u (unit-continues p q u v n _ _))
+  char-continues (surrogates (code_unit p q u v) (code_unit p' q' u' v') m n) x h =
+      let H = second-of-high p q u v m in
+      let L = second-of-low p' q' u' v' n in
+      rw (← pair-number _ _ m n, ← unit-number p q u v, ← unit-number p' q' u' v')
       (goes backslash (goes letter-u
-      (unit-continues a b c d _ _ (rw e (lt-of-hex p)) (rw f (lt-of-hex q)) (rw g (lt-of-hex u)) (rw i (lt-of-hex v))
-      (rw (← e, ← f, ← g, ← i) at n))))
-  char-continues (surrogates (code_unit {a} {b} {c} {d} p q u v) (code_unit {a = a'} {b = b'} {c = c'} {d = d'} p' q' u' v') m n) x h =
-      let e = value-of-hex p in let f = value-of-hex q in let g = value-of-hex u in let i = value-of-hex v in
-      let e' = value-of-hex p' in let f' = value-of-hex q' in let g' = value-of-hex u' in let i' = value-of-hex v' in
-      goes backslash (goes letter-u
-      (pair-continues a b c d a' b' c' d' _ _ (rw e (lt-of-hex p)) (rw f (lt-of-hex q)) (rw g (lt-of-hex u)) (rw i (lt-of-hex v))
-      (rw e' (lt-of-hex p')) (rw f' (lt-of-hex q')) (rw g' (lt-of-hex u')) (rw i' (lt-of-hex v')) _ _ (rw (e, f, g, i)) (rw (e', f', g', i')) m n))
+      (goes (digit-1_d (subst (Hex _) H.0 p)) (goes (digit-2-high q H.1 H.2) (goes (high-3 u) (goes (high-4 v)
+      (goes low-backslash (goes low-u (goes (low-1 (subst (Hex _) L.0 p')) (goes (low-2 q' L.1) (goes (low-3 u') (ends (low-4 v') (K _ _)))))))))))))
 
 -- each string of the grammar is one by the modes, whatever the registers hold
 pub continues-of-chars : {s cs r : List ℕ} → Chars s cs r → (x h : ℕ) → Continues S.Char x h s cs r
@@ -244,35 +223,30 @@ continues-of-chars (chars c k) x h = char-continues (λ y g. continues-of-chars 
 utf8-chars : {s t cs r : List ℕ} {c d : ℕ} → Utf8 s c t → d ≡ c → Chars t cs r → Chars s (d ∷ cs) r
 utf8-chars u e k = rw e (chars (multibyte u) k)
 
-module _ (a b c d : ℕ) (ha : hex_of a < 16) (hb : hex_of b < 16) (hc : hex_of c < 16) (hd : hex_of d < 16) where
-  -- the code unit of four digits
-  unit-of-digits : (t : List ℕ) → CodeUnit (0x5C ∷ 0x75 ∷ a ∷ b ∷ c ∷ d ∷ t) (hex_more (hex_more (hex_more (hex_of a) (hex_of b)) (hex_of c)) (hex_of d)) t
-  unit-of-digits t = code_unit (hex-of-lt a ha) (hex-of-lt b hb) (hex-of-lt c hc) (hex-of-lt d hd)
+unit-chars : {a b c d w x y z : ℕ} {t cs r : List ℕ} → Hex a w → Hex b x → Hex c y → Hex d z
+    → T (not (within 0xD800 0xDFFF (hex_more (hex_more (hex_more w x) y) z))) → Chars t cs r
+    → Chars (0x5C ∷ 0x75 ∷ a ∷ b ∷ c ∷ d ∷ t) (hex_bits (hex_bits (hex_bits (hex_bits 0 (hex_of a)) (hex_of b)) (hex_of c)) (hex_of d) ∷ cs) r
+unit-chars p q u v n k = rw (unit-number p q u v) (chars (unit (code_unit p q u v) n) k)
 
-  unit-chars : {t cs r : List ℕ} → T (not (within 0xD800 0xDFFF (hex_more (hex_more (hex_more (hex_of a) (hex_of b)) (hex_of c)) (hex_of d)))) → Chars t cs r
-      → Chars (0x5C ∷ 0x75 ∷ a ∷ b ∷ c ∷ d ∷ t) (hex_bits (hex_bits (hex_bits (hex_of a) (hex_of b)) (hex_of c)) (hex_of d) ∷ cs) r
-  unit-chars {t} n k = rw (unit-number (hex_of a) (hex_of b) (hex_of c) (hex_of d) ha hb hc hd) (chars (unit (unit-of-digits t) n) k)
-
-pair-chars : (a b c d e f g i : ℕ) → hex_of a ≡ 13 → 8 ≤ hex_of b → hex_of b < 12 → hex_of c < 16 → hex_of d < 16
-    → hex_of e ≡ 13 → 12 ≤ hex_of f → hex_of f < 16 → hex_of g < 16 → hex_of i < 16 → {t cs r : List ℕ} → Chars t cs r
+pair-chars : {a b c d e f g i x y z m k l : ℕ} {t cs r : List ℕ} → Hex a 13 → Hex b x → 8 ≤ x → x < 12 → Hex c y → Hex d z
+    → Hex e 13 → Hex f m → 12 ≤ m → Hex g k → Hex i l → Chars t cs r
     → Chars (0x5C ∷ 0x75 ∷ a ∷ b ∷ c ∷ d ∷ 0x5C ∷ 0x75 ∷ e ∷ f ∷ g ∷ i ∷ t)
-    (pair_of (hex_bits (hex_bits (hex_bits (hex_of a) (hex_of b)) (hex_of c)) (hex_of d))
-    (hex_bits (hex_bits (hex_bits (hex_of e) (hex_of f)) (hex_of g)) (hex_of i)) ∷ cs) r
-pair-chars a b c d e f g i ea lb hb hc hd ee lf hf hg hi {t} k =
-    let ha : hex_of a < 16 = omega arith in
-    let hb' : hex_of b < 16 = omega arith in
-    let he : hex_of e < 16 = omega arith in
-    let H = high-surrogate (hex_of a) (hex_of b) (hex_of c) (hex_of d) ha hb' hc hd ea lb hb in
-    let L = low-surrogate (hex_of e) (hex_of f) (hex_of g) (hex_of i) he hf hg hi ee lf in
-    rw (unit-number (hex_of a) (hex_of b) (hex_of c) (hex_of d) ha hb' hc hd)
-    (rw (unit-number (hex_of e) (hex_of f) (hex_of g) (hex_of i) he hf hg hi)
-    (rw (pair-number _ _ H L) (chars (surrogates (unit-of-digits a b c d ha hb' hc hd _) (unit-of-digits e f g i he hf hg hi t) H L) k)))
+    (pair_of (hex_bits (hex_bits (hex_bits (hex_bits 0 (hex_of a)) (hex_of b)) (hex_of c)) (hex_of d))
+    (hex_bits (hex_bits (hex_bits (hex_bits 0 (hex_of e)) (hex_of f)) (hex_of g)) (hex_of i)) ∷ cs) r
+pair-chars p q l h u v p' q' l' u' v' k =
+    let H = high-surrogate p q u v refl l h in
+    let L = low-surrogate p' q' u' v' refl l' in
+    rw (unit-number p q u v, unit-number p' q' u' v', pair-number _ _ H L) (chars (surrogates (code_unit p q u v) (code_unit p' q' u' v') H L) k)
+
+escaped-chars : {b c : ℕ} {t cs r : List ℕ} → Escaped b c → unescape b ≡ Some c → Chars t cs r → Chars (0x5C ∷ b ∷ t) (escaped_char (unescape b) ∷ cs) r
+escaped-chars {b} {c} {t} {cs} {r} p e k =
+    subst (λ (o : ℕ). Chars (0x5C ∷ b ∷ t) (o ∷ cs) r) (sym (ap escaped_char e)) (chars (escaped p) k)
 
 -- each string by the modes is one of the grammar
 pub chars-of-continues : {x h : ℕ} {s cs r : List ℕ} → Continues S.Char x h s cs r → Chars s cs r
 chars-of-continues closes = closing_quote
 chars-of-continues (ends (plain p) k) = chars (unescaped p) (chars-of-continues k)
-chars-of-continues (goes backslash (ends (after-backslash p) k)) = chars (escaped p) (chars-of-continues k)
+chars-of-continues (goes backslash (ends (after-backslash p) k)) = escaped-chars p (value-of-escaped p) (chars-of-continues k)
 chars-of-continues (goes (lead-C2 {b = a} p) (ends (second-C2 {b} q) k)) =
     let e = high-of-within 0xC2 0xDF a p in
     utf8-chars (row_c2_df p q) (rw (bits-C2 a p) (six-of-tail (a - 0xC0) b (omega arith) q)) (chars-of-continues k)
@@ -304,34 +278,28 @@ chars-of-continues (goes lead-F4 (goes (second-F4 {b} p) (goes (tail-2 {b = c} q
     utf8-chars (row_f4 p q u)
     (rw (bits-F 0xF4 (omega arith)) (three-bytes 4 b c d (omega arith) (tail-of-within 0x80 0x8F b (omega arith) (omega arith) p) q u))
     (chars-of-continues k)
-chars-of-continues (goes backslash (goes letter-u (goes (digit-1 {b = a} ha n)
-    (goes (digit-2 {b} hb) (goes (digit-3 {b = c} hc) (ends (digit-4 {b = d} hd) k)))))) =
-    unit-chars a b c d ha hb hc hd (no_surrogate (hex_of a) (hex_of b) (hex_of c) (hex_of d) ha hb hc hd n) (chars-of-continues k)
-chars-of-continues (goes backslash (goes letter-u (goes (digit-1_d {b = a} ea)
-    (goes (digit-2-below {b} hb) (goes (digit-3 {b = c} hc) (ends (digit-4 {b = d} hd) k)))))) =
-    let ha : hex_of a < 16 = omega arith in
-    let hb' : hex_of b < 16 = omega arith in
-    unit-chars a b c d ha hb' hc hd (no-surrogate-below (hex_of a) (hex_of b) (hex_of c) (hex_of d) ha hb' hc hd ea hb) (chars-of-continues k)
-chars-of-continues (goes backslash (goes letter-u (goes (digit-1_d {b = a} ea)
-    (goes (digit-2-high {b} lb hb) (goes (high-3 {b = c} hc) (goes (high-4 {b = d} hd)
-    (goes low-backslash (goes low-u (goes (low-1 {b = e} ee)
-    (goes (low-2 {b = f} lf hf) (goes (low-3 {b = g} hg) (ends (low-4 {b = i} hi) k)))))))))))) =
-    pair-chars a b c d e f g i ea lb hb hc hd ee lf hf hg hi (chars-of-continues k)
+chars-of-continues (goes backslash (goes letter-u (goes (digit-1 p n) (goes (digit-2 q) (goes (digit-3 u) (ends (digit-4 v) k)))))) =
+    unit-chars p q u v (no_surrogate p q u v n) (chars-of-continues k)
+chars-of-continues (goes backslash (goes letter-u (goes (digit-1_d p) (goes (digit-2-below q l) (goes (digit-3 u) (ends (digit-4 v) k)))))) =
+    unit-chars p q u v (no-surrogate-below p q u v refl l) (chars-of-continues k)
+chars-of-continues (goes backslash (goes letter-u (goes (digit-1_d p) (goes (digit-2-high q l h) (goes (high-3 u) (goes (high-4 v)
+    (goes low-backslash (goes low-u (goes (low-1 p') (goes (low-2 q' l') (goes (low-3 u') (ends (low-4 v') k)))))))))))) =
+    pair-chars p q l h u v p' q' l' u' v' (chars-of-continues k)
 chars-of-continues (goes backslash (goes letter-u (ends y k))) = elim y [ ]
 chars-of-continues (goes backslash (goes letter-u (goes (digit-1 ha n) (ends y k)))) = elim y [ ]
 chars-of-continues (goes backslash (goes letter-u (goes (digit-1 ha n) (goes (digit-2 hb) (ends y k))))) = elim y [ ]
 chars-of-continues (goes backslash (goes letter-u (goes (digit-1 ha n) (goes (digit-2 hb) (goes (digit-3 hc) (goes y k)))))) = elim y [ ]
 chars-of-continues (goes backslash (goes letter-u (goes (digit-1_d ea) (ends y k)))) = elim y [ ]
-chars-of-continues (goes backslash (goes letter-u (goes (digit-1_d ea) (goes (digit-2-below hb) (ends y k))))) = elim y [ ]
-chars-of-continues (goes backslash (goes letter-u (goes (digit-1_d ea) (goes (digit-2-below hb) (goes (digit-3 hc) (goes y k)))))) = elim y [ ]
-chars-of-continues (goes backslash (goes letter-u (goes (digit-1_d ea) (goes (digit-2-high lb hb) (ends y k))))) = elim y [ ]
-chars-of-continues (goes backslash (goes letter-u (goes (digit-1_d ea) (goes (digit-2-high lb hb) (goes (high-3 hc) (ends y k)))))) = elim y [ ]
-chars-of-continues (goes backslash (goes letter-u (goes (digit-1_d ea) (goes (digit-2-high lb hb) (goes (high-3 hc) (goes (high-4 hd) (ends y k))))))) = elim y [ ]
-chars-of-continues (goes backslash (goes letter-u (goes (digit-1_d ea) (goes (digit-2-high lb hb) (goes (high-3 hc) (goes (high-4 hd) (goes low-backslash (ends y k)))))))) = elim y [ ]
-chars-of-continues (goes backslash (goes letter-u (goes (digit-1_d ea) (goes (digit-2-high lb hb) (goes (high-3 hc) (goes (high-4 hd) (goes low-backslash (goes low-u (ends y k))))))))) = elim y [ ]
-chars-of-continues (goes backslash (goes letter-u (goes (digit-1_d ea) (goes (digit-2-high lb hb) (goes (high-3 hc) (goes (high-4 hd) (goes low-backslash (goes low-u (goes (low-1 ee) (ends y k)))))))))) = elim y [ ]
-chars-of-continues (goes backslash (goes letter-u (goes (digit-1_d ea) (goes (digit-2-high lb hb) (goes (high-3 hc) (goes (high-4 hd) (goes low-backslash (goes low-u (goes (low-1 ee) (goes (low-2 lf hf) (ends y k))))))))))) = elim y [ ]
-chars-of-continues (goes backslash (goes letter-u (goes (digit-1_d ea) (goes (digit-2-high lb hb) (goes (high-3 hc) (goes (high-4 hd) (goes low-backslash (goes low-u (goes (low-1 ee) (goes (low-2 lf hf) (goes (low-3 hg) (goes y k)))))))))))) = elim y [ ]
+chars-of-continues (goes backslash (goes letter-u (goes (digit-1_d ea) (goes (digit-2-below hb lb) (ends y k))))) = elim y [ ]
+chars-of-continues (goes backslash (goes letter-u (goes (digit-1_d ea) (goes (digit-2-below hb lb) (goes (digit-3 hc) (goes y k)))))) = elim y [ ]
+chars-of-continues (goes backslash (goes letter-u (goes (digit-1_d ea) (goes (digit-2-high hb lb gb) (ends y k))))) = elim y [ ]
+chars-of-continues (goes backslash (goes letter-u (goes (digit-1_d ea) (goes (digit-2-high hb lb gb) (goes (high-3 hc) (ends y k)))))) = elim y [ ]
+chars-of-continues (goes backslash (goes letter-u (goes (digit-1_d ea) (goes (digit-2-high hb lb gb) (goes (high-3 hc) (goes (high-4 hd) (ends y k))))))) = elim y [ ]
+chars-of-continues (goes backslash (goes letter-u (goes (digit-1_d ea) (goes (digit-2-high hb lb gb) (goes (high-3 hc) (goes (high-4 hd) (goes low-backslash (ends y k)))))))) = elim y [ ]
+chars-of-continues (goes backslash (goes letter-u (goes (digit-1_d ea) (goes (digit-2-high hb lb gb) (goes (high-3 hc) (goes (high-4 hd) (goes low-backslash (goes low-u (ends y k))))))))) = elim y [ ]
+chars-of-continues (goes backslash (goes letter-u (goes (digit-1_d ea) (goes (digit-2-high hb lb gb) (goes (high-3 hc) (goes (high-4 hd) (goes low-backslash (goes low-u (goes (low-1 ee) (ends y k)))))))))) = elim y [ ]
+chars-of-continues (goes backslash (goes letter-u (goes (digit-1_d ea) (goes (digit-2-high hb lb gb) (goes (high-3 hc) (goes (high-4 hd) (goes low-backslash (goes low-u (goes (low-1 ee) (goes (low-2 hf lf) (ends y k))))))))))) = elim y [ ]
+chars-of-continues (goes backslash (goes letter-u (goes (digit-1_d ea) (goes (digit-2-high hb lb gb) (goes (high-3 hc) (goes (high-4 hd) (goes low-backslash (goes low-u (goes (low-1 ee) (goes (low-2 hf lf) (goes (low-3 hg) (goes y k)))))))))))) = elim y [ ]
 chars-of-continues (goes (lead-C2 p) (goes y k)) = elim y [ ]
 chars-of-continues (goes lead-E0 (ends y k)) = elim y [ ]
 chars-of-continues (goes lead-E0 (goes (second-E0 p) (goes y k))) = elim y [ ]

@@ -11,7 +11,7 @@ use Rattle.json_text.specs.Tree.{Json}
 use Rattle.json_text.specs.TreeMeaning.{tree_meaning}
 use Rattle.json_text.specs.Grammar.{spelling, Text, Begins, FaultAt}
 use Rattle.json_text.specs.Classes.{class_of, high_class, is_break, is_structure}
-use Rattle.json_text.specs.Lexer.{unescape, escape_move, hex_of, any_hex, unit1, unit_d, low1, low2, only, ranged, lead_bits, tail_bits, hex_bits, pair_of, or_exp, after_minus, after_zero, after_int, after_frac, after_e, after_exp, digit_only, letter_move, value_start, at_value, at_first_element, at_first_key, at_key, at_colon, after_root, after_element, after_pair}
+use Rattle.json_text.specs.Lexer.{unescape, escape_move, hex_of, only, ranged, lead_bits, tail_bits, pair_of, or_exp, after_minus, after_zero, after_int, after_frac, after_e, after_exp, digit_only, letter_move, value_start, at_value, at_first_element, at_first_key, at_key, at_colon, after_root, after_element, after_pair}
 use Rattle.json_text.specs.Machine.{start, step, run, result, place_from}
 use Rattle.json_text.specs.Examples.{Row, faults, unfinished, tells, rows}
 use Rattle.json_text.proofs.Faults.{fault_at-of-place, begins-of-no-place}
@@ -42,8 +42,8 @@ Says (tells p v) = Text p v × ((w : Json) → Text p w → v ≡ w)
 
 -- the machine finds what each row says
 rows-found : map found rows ≡ map said rows
-unfolding within is_blank is_digit is_digit_1_9 is_e spelling class_of high_class is_break is_structure unescape escape_move hex_of any_hex unit1
-    unit_d low1 low2 only ranged lead_bits tail_bits hex_bits pair_of or_exp after_minus after_zero after_int after_frac after_e after_exp digit_only
+unfolding within is_blank is_digit is_digit_1_9 is_e spelling class_of high_class is_break is_structure unescape escape_move hex_of
+    only ranged lead_bits tail_bits pair_of or_exp after_minus after_zero after_int after_frac after_e after_exp digit_only
     letter_move value_start at_value at_first_element at_first_key at_key at_colon after_root after_element after_pair step place_from
 rows-found = refl
 

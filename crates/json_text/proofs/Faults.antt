@@ -13,11 +13,11 @@ use lib.Seq.{take-take}
 use Rattle.laws.proofs.TestLaws.{true-neq-false, none-neq-some}
 use Rattle.json_text.specs.Bytes.{within, is_blank}
 use Rattle.json_text.specs.Numbers.{is_digit_1_9}
-use Rattle.json_text.specs.Strings.{line_feed}
+use Rattle.json_text.specs.Strings.{Hex, hex_digit, hex_upper, line_feed}
 use Rattle.json_text.specs.Tree.{null_word}
 use Rattle.json_text.specs.Meaning.{Meaning, fold}
 use Rattle.json_text.specs.Grammar.{spelling, Begins, FaultAt}
-use Rattle.json_text.specs.Lexer.{bits_after, high_after, hex_of, unescape, word_of, letter_move, value_start, at_value, at_first_element, at_first_key, at_key, at_colon, after_element, after_pair}
+use Rattle.json_text.specs.Lexer.{bits_after, high_after, word_of, letter_move, value_start, at_value, at_first_element, at_first_key, at_key, at_colon, after_element, after_pair}
 use Rattle.json_text.specs.Machine.{later, Stack, bare, whole, in_array, in_object, finish, Token, State, fault, at, start, step, run, is_fault, Accepts, place_from}
 use Rattle.json_text.specs.declared.string.StringMode.{StringMode}
 use Rattle.json_text.specs.declared.string.StringMode.TheVariants as S
@@ -42,17 +42,12 @@ use Rattle.json_text.proofs.Sound.{Reads, reads, text-of-accepted}
 data CompletedString (m : StringMode) (x h : ℕ) (r : List ℕ) : Type 0 where
   completed-string : (s cs : List ℕ) → Continues m x h s cs r → CompletedString m x h r
 
--- the digit 0
-zero-hex : hex_of 0x30 < 16
-zero-hex = unfold hex_of in omega arith
+-- the digits 0 and D
+zero-hex : Hex 0x30 0
+zero-hex = unfold within in hex_digit tt
 
-zero-not-D : hex_of 0x30 ≡ 13 → ⊥
-unfolding hex_of
-zero-not-D e = omega arith
-
--- the digits D and C
-D-hex : hex_of 0x44 ≡ 13
-D-hex = unfold hex_of in refl
+D-hex : Hex 0x44 13
+D-hex = unfold within in hex_upper tt
 
 module _ (r : List ℕ) where
   -- from the mode m on some bytes complete the string, whatever the registers hold
@@ -88,8 +83,8 @@ module _ (r : List ℕ) where
   from-low3 = more {b = 0x30} (low-3 zero-hex) (last {b = 0x30} (low-4 zero-hex))
 
   from-low2 : FromMode S.Low2
-  unfolding hex_of
-  from-low2 = more {b = 0x43} (low-2 (omega arith) (omega arith)) from-low3
+  unfolding within
+  from-low2 = more {b = 0x43} (low-2 {h = 12} (hex_upper tt) (omega arith)) from-low3
 
   from-low1 : FromMode S.Low1
   from-low1 = more {b = 0x44} (low-1 D-hex) from-low2
@@ -104,12 +99,12 @@ module _ (r : List ℕ) where
   from-high4 = more {b = 0x30} (high-4 zero-hex) from-low-backslash
 
   complete-string : (m : StringMode) → FromMode m
-  unfolding FromMode hex_of unescape within
+  unfolding FromMode within
   complete-string S.Char = λ x h. completed-string (0x22 ∷ r) _ closes
   complete-string S.Escape = last {b = 0x6E} (after-backslash line_feed)
-  complete-string S.Unit1 = more {b = 0x30} (digit-1 zero-hex zero-not-D) from-unit2
+  complete-string S.Unit1 = more {b = 0x30} (digit-1 zero-hex (λ e. omega arith)) from-unit2
   complete-string S.Unit2 = from-unit2
-  complete-string S.UnitD = more {b = 0x30} (digit-2-below (omega arith)) from-unit3
+  complete-string S.UnitD = more {b = 0x30} (digit-2-below zero-hex (omega arith)) from-unit3
   complete-string S.Unit3 = from-unit3
   complete-string S.Unit4 = last {b = 0x30} (digit-4 zero-hex)
   complete-string S.High3 = more {b = 0x30} (high-3 zero-hex) from-high4

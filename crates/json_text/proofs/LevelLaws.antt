@@ -11,11 +11,11 @@ use borrow.Author.Tests.{ne_eqb}
 use Rattle.laws.proofs.TestLaws.{T-or-elim, cond-elim, cond_byte, true-neq-false}
 use Rattle.json_text.specs.Bytes.{within, is_blank}
 use Rattle.json_text.specs.Numbers.{is_digit, is_digit_1_9, is_e}
-use Rattle.json_text.specs.Strings.{is_unescaped}
+use Rattle.json_text.specs.Strings.{is_unescaped, Hex, hex_digit, hex_upper, hex_lower}
 use Rattle.json_text.specs.Meaning.{Meaning}
 use Rattle.json_text.specs.Grammar.{spelling}
 use Rattle.json_text.specs.Levels.{is_opening, is_closing, Scan, outside, in_string, in_escape, scan_byte, scan, levels_of, open_levels}
-use Rattle.json_text.specs.Lexer.{hex_of, letter_move, word_of, value_start, at_value, at_first_element, at_first_key, at_key, at_colon, after_root, after_element, after_pair, after_value, key_step, text_step, number_step, word_step}
+use Rattle.json_text.specs.Lexer.{letter_move, word_of, value_start, at_value, at_first_element, at_first_key, at_key, at_colon, after_root, after_element, after_pair, after_value, key_step, text_step, number_step, word_step}
 use Rattle.json_text.specs.Machine.{Stack, bare, whole, in_array, in_object, top_of, depth, finish, Token, State, fault, at, start, take, step, run, is_fault, depth_of}
 use Rattle.json_text.specs.declared.string.StringMode.{StringMode}
 use Rattle.json_text.specs.declared.string.StringMode.TheVariants as S
@@ -138,14 +138,10 @@ string_scan S.Tail1 n = in_string n
 above-in-string : (n lo hi b : ℕ) → 0x80 ≤ lo → T (within lo hi b) → scan_byte (in_string n) b ≡ in_string n
 above-in-string n lo hi b p h = let l = low-of-within lo hi b h in in-string-stays n b (λ e. omega arith) (λ e. omega arith)
 
-hex-in-string : (n b : ℕ) → hex_of b < 16 → scan_byte (in_string n) b ≡ in_string n
-hex-in-string n b h = in-string-stays n b (λ e. quote (rw e at h)) (λ e. backslash (rw e at h))
-  where
-    quote : hex_of 0x22 < 16 → ⊥
-    quote h = unfold hex_of in omega arith
-
-    backslash : hex_of 0x5C < 16 → ⊥
-    backslash h = unfold hex_of in omega arith
+hex-in-string : (n : ℕ) {b h : ℕ} → Hex b h → scan_byte (in_string n) b ≡ in_string n
+hex-in-string n (hex_digit {b} h) = let g = high-of-within 0x30 0x39 b h in let l = low-of-within 0x30 0x39 b h in in-string-stays n b (λ e. omega arith) (λ e. omega arith)
+hex-in-string n (hex_upper {b} h) = let g = high-of-within 0x41 0x46 b h in let l = low-of-within 0x41 0x46 b h in in-string-stays n b (λ e. omega arith) (λ e. omega arith)
+hex-in-string n (hex_lower {b} h) = let l = low-of-within 0x61 0x66 b h in in-string-stays n b (λ e. omega arith) (λ e. omega arith)
 
 unescaped-in-string : (n b : ℕ) → T (is_unescaped b) → scan_byte (in_string n) b ≡ in_string n
 unfolding is_unescaped
@@ -176,26 +172,26 @@ goes-in-string d (String.second-F1 {b} h) = above-in-string d 0x80 0xBF b (omega
 goes-in-string d (String.second-F4 {b} h) = above-in-string d 0x80 0x8F b (omega arith) h
 goes-in-string d (String.tail-2 {b} h) = above-in-string d 0x80 0xBF b (omega arith) h
 goes-in-string d String.letter-u = refl
-goes-in-string d (String.digit-1 {b} h e) = hex-in-string d b h
-goes-in-string d (String.digit-1_d {b} e) = hex-in-string d b (omega arith)
-goes-in-string d (String.digit-2 {b} h) = hex-in-string d b h
-goes-in-string d (String.digit-2-below {b} h) = hex-in-string d b (omega arith)
-goes-in-string d (String.digit-2-high {b} l h) = hex-in-string d b (omega arith)
-goes-in-string d (String.digit-3 {b} h) = hex-in-string d b h
-goes-in-string d (String.high-3 {b} h) = hex-in-string d b h
-goes-in-string d (String.high-4 {b} h) = hex-in-string d b h
+goes-in-string d (String.digit-1 h e) = hex-in-string d h
+goes-in-string d (String.digit-1_d h) = hex-in-string d h
+goes-in-string d (String.digit-2 h) = hex-in-string d h
+goes-in-string d (String.digit-2-below h l) = hex-in-string d h
+goes-in-string d (String.digit-2-high h l g) = hex-in-string d h
+goes-in-string d (String.digit-3 h) = hex-in-string d h
+goes-in-string d (String.high-3 h) = hex-in-string d h
+goes-in-string d (String.high-4 h) = hex-in-string d h
 goes-in-string d String.low-backslash = refl
 goes-in-string d String.low-u = refl
-goes-in-string d (String.low-1 {b} e) = hex-in-string d b (omega arith)
-goes-in-string d (String.low-2 {b} l h) = hex-in-string d b h
-goes-in-string d (String.low-3 {b} h) = hex-in-string d b h
+goes-in-string d (String.low-1 h) = hex-in-string d h
+goes-in-string d (String.low-2 h l) = hex-in-string d h
+goes-in-string d (String.low-3 h) = hex-in-string d h
 
 ends-in-string : {m : StringMode} {b : ℕ} (d : ℕ) → String.Ends m b → scan_byte (string_scan m d) b ≡ in_string d
 unfolding string_scan scan_byte
 ends-in-string d (String.plain {b} h) = unescaped-in-string d b h
 ends-in-string d (String.after-backslash x) = refl
-ends-in-string d (String.digit-4 {b} h) = hex-in-string d b h
-ends-in-string d (String.low-4 {b} h) = hex-in-string d b h
+ends-in-string d (String.digit-4 h) = hex-in-string d h
+ends-in-string d (String.low-4 h) = hex-in-string d h
 ends-in-string d (String.second-C2 {b} h) = above-in-string d 0x80 0xBF b (omega arith) h
 ends-in-string d (String.tail-1 {b} h) = above-in-string d 0x80 0xBF b (omega arith) h
 

@@ -1,86 +1,59 @@
 -- What the lexer's string modes do, as relations: hexadecimal digits, the moves inside a character, and the bytes that finish one.
 -- `moved` and `move-of-goes`, `move-of-ends` join them to `string_move`. Assumes nothing.
 use mathlib.Core.Bool.{Bool, true, false, not, ◌||◌}
-use mathlib.Core.Path.{◌≡◌, refl}
+use mathlib.Core.Path.{◌≡◌, refl, subst}
 use Prim.Native.Nat.{ℕ, suc, ◌+◌, ◌-◌, ◌≤◌, ◌<◌}
 use native.Mathlib.Omega.{arith}
-use lib.Dec.{T, eqb, leb, ltb, eqb→eq, leb→le, ltb→lt, nltb→le, T_not}
-use borrow.Author.Tests.{lt-ltb, le-ltb, le-leb, lt-leb, eq-eqb, ne_eqb}
+use lib.Dec.{T, eqb, ltb, eqb→eq, ltb→lt, nltb→le, T_not}
+use borrow.Author.Tests.{lt-ltb, le-ltb, eq-eqb, ne_eqb}
+use Rattle.std.specs.Prelude.{Option, Some, None}
 use Rattle.laws.specs.Tab.{tab as row, every}
-use Rattle.laws.proofs.TestLaws.{T-or-elim, cond-elim, cond_byte}
+use Rattle.laws.proofs.TestLaws.{T-or-elim, cond-elim, cond_byte, cond_yes, cond_no}
 use Rattle.laws.proofs.TabLaws.{eq-of-tab, T-of-every}
 use Rattle.json_text.specs.Bytes.{within}
 use Rattle.json_text.specs.Utf8.{is_tail}
 use Rattle.json_text.specs.Strings.{is_unescaped, Escaped, quotation_mark, reverse_solidus, solidus, backspace, form_feed, line_feed, carriage_return, tab, Hex, hex_digit, hex_upper, hex_lower}
 use Rattle.json_text.specs.Classes.{class_of, high_class, is_break, is_structure}
-use Rattle.json_text.specs.Lexer.{char_start, unescape, escape_move, hex_of, any_hex, unit1, unit_d, low1, low2, only, ranged, string_move}
+use Rattle.json_text.specs.Lexer.{char_start, unescape, char_made, escape_move, hex_of, any_hex, unit1, unit_d, low1, low2, only, ranged, string_move}
 use Rattle.json_text.specs.declared.class.Class.{Class}
 use Rattle.json_text.specs.declared.class.Class.TheVariants as C
 use Rattle.json_text.specs.declared.string.StringMode.{StringMode}
 use Rattle.json_text.specs.declared.string.StringMode.TheVariants as S
 use Rattle.json_text.specs.declared.string.StringMove.{StringMove}
 use Rattle.json_text.specs.declared.string.StringMove.TheVariants as SM
-use Rattle.json_text.proofs.ByteLaws.{low-of-within, high-of-within, within-of-le, at_byte}
+use Rattle.json_text.proofs.ByteLaws.{low-of-within, high-of-within, within-of-le, outside-of-not-within, at_byte}
 
 -- ---- hexadecimal digits
 
-pub value-of-hex : {b w : ℕ} → Hex b w → hex_of b ≡ w
+pub value-of-hex : {b w : ℕ} → Hex b w → hex_of b ≡ Some w
 unfolding hex_of
-value-of-hex (hex_digit {b} h) =
-    let lo = low-of-within 0x30 0x39 b h in
-    let hi = high-of-within 0x30 0x39 b h in
-    simp (le-ltb b 0x30 lo, le-leb b 0x39 hi)
+value-of-hex (hex_digit {b} h) = cond_yes (λ o. o ≡ Some (b - 0x30)) (within 0x30 0x39 b) _ h refl
 value-of-hex (hex_upper {b} h) =
     let lo = low-of-within 0x41 0x46 b h in
-    let hi = high-of-within 0x41 0x46 b h in
-    let e : b - 0x37 ≡ b - 0x41 + 10 = omega arith in
-    simp (le-ltb b 0x30 (omega arith), lt-leb b 0x39 (omega arith), le-ltb b 0x41 lo, le-leb b 0x46 hi) e
+    let P : Option ℕ → Type 0 = λ o. o ≡ Some (b - 0x41 + 10) in
+    cond_no P (within 0x30 0x39 b) _ (outside-of-not-within 0x30 0x39 b (λ l g. omega arith)) (cond_yes P (within 0x41 0x46 b) _ h refl)
 value-of-hex (hex_lower {b} h) =
     let lo = low-of-within 0x61 0x66 b h in
-    let hi = high-of-within 0x61 0x66 b h in
-    let e : b - 0x57 ≡ b - 0x61 + 10 = omega arith in
-    simp (
-      le-ltb b 0x30 (omega arith),
-      lt-leb b 0x39 (omega arith),
-      le-ltb b 0x41 (omega arith),
-      lt-leb b 0x46 (omega arith),
-      le-ltb b 0x61 lo,
-      le-leb b 0x66 hi,
-    ) e
+    let P : Option ℕ → Type 0 = λ o. o ≡ Some (b - 0x61 + 10) in
+    cond_no P (within 0x30 0x39 b) _ (outside-of-not-within 0x30 0x39 b (λ l g. omega arith))
+    (cond_no P (within 0x41 0x46 b) _ (outside-of-not-within 0x41 0x46 b (λ l g. omega arith)) (cond_yes P (within 0x61 0x66 b) _ h refl))
 
 pub lt-of-hex : {b w : ℕ} → Hex b w → w < 16
 lt-of-hex (hex_digit {b} h) = let hi = high-of-within 0x30 0x39 b h in omega arith
 lt-of-hex (hex_upper {b} h) = let hi = high-of-within 0x41 0x46 b h in omega arith
 lt-of-hex (hex_lower {b} h) = let hi = high-of-within 0x61 0x66 b h in omega arith
 
--- a byte and its value: a digit, or 16
-data HexView (b : ℕ) : ℕ → Type 0 where
-  no-hex : HexView b 16
-  is-hex : {w : ℕ} → Hex b w → HexView b w
+-- a byte is a digit with a value, or has none
+data HexView (b : ℕ) : Option ℕ → Type 0 where
+  no-hex : HexView b None
+  is-hex : {w : ℕ} → Hex b w → HexView b (Some w)
 
 hex-view : (b : ℕ) → HexView b (hex_of b)
 unfolding hex_of
 hex-view b =
-    cond-elim (HexView b) (ltb b 0x30) (λ _. no-hex) (λ l.
-    cond-elim (HexView b) (leb b 0x39) (λ h. is-hex (hex_digit (within-of-le 0x30 0x39 b (nltb→le b 0x30 l) (leb→le b 0x39 h)))) (λ _.
-    cond-elim (HexView b) (ltb b 0x41) (λ _. no-hex) (λ l.
-    cond-elim (HexView b) (leb b 0x46) (λ h. upper (nltb→le b 0x41 l) (leb→le b 0x46 h)) (λ _.
-    cond-elim (HexView b) (ltb b 0x61) (λ _. no-hex) (λ l.
-    cond-elim (HexView b) (leb b 0x66) (λ h. lower (nltb→le b 0x61 l) (leb→le b 0x66 h)) (λ _. no-hex))))))
-  where
-    upper : 0x41 ≤ b → b ≤ 0x46 → HexView b (b - 0x37)
-    upper l h = let e : b - 0x37 ≡ b - 0x41 + 10 = omega arith in rw e (is-hex (hex_upper (within-of-le 0x41 0x46 b l h)))
-
-    lower : 0x61 ≤ b → b ≤ 0x66 → HexView b (b - 0x57)
-    lower l h = let e : b - 0x57 ≡ b - 0x61 + 10 = omega arith in rw e (is-hex (hex_lower (within-of-le 0x61 0x66 b l h)))
-
-hex-of-view : {b w : ℕ} → HexView b w → w < 16 → Hex b w
-hex-of-view no-hex h = absurd (omega arith)
-hex-of-view (is-hex x) h = x
-
--- a value below 16 is that of a digit
-pub hex-of-lt : (b : ℕ) → hex_of b < 16 → Hex b (hex_of b)
-hex-of-lt b h = hex-of-view (hex-view b) h
+    cond-elim (HexView b) (within 0x30 0x39 b) (λ h. is-hex (hex_digit h)) (λ _.
+    cond-elim (HexView b) (within 0x41 0x46 b) (λ h. is-hex (hex_upper h)) (λ _.
+    cond-elim (HexView b) (within 0x61 0x66 b) (λ h. is-hex (hex_lower h)) (λ _. no-hex)))
 
 -- ---- the moves inside a character
 
@@ -104,34 +77,33 @@ pub data Goes : StringMode → ℕ → StringMode → Type 0 where
   second-F4 : {b : ℕ} → T (within 0x80 0x8F b) → Goes S.SecondF4 b S.Tail2
   tail-2 : {b : ℕ} → T (is_tail b) → Goes S.Tail2 b S.Tail1
   letter-u : Goes S.Escape 0x75 S.Unit1
-  digit-1 : {b : ℕ} → hex_of b < 16 → (hex_of b ≡ 13 → ⊥) → Goes S.Unit1 b S.Unit2
-  digit-1_d : {b : ℕ} → hex_of b ≡ 13 → Goes S.Unit1 b S.UnitD
-  digit-2 : {b : ℕ} → hex_of b < 16 → Goes S.Unit2 b S.Unit3
-  digit-2-below : {b : ℕ} → hex_of b < 8 → Goes S.UnitD b S.Unit3
-  digit-2-high : {b : ℕ} → 8 ≤ hex_of b → hex_of b < 12 → Goes S.UnitD b S.High3
-  digit-3 : {b : ℕ} → hex_of b < 16 → Goes S.Unit3 b S.Unit4
-  high-3 : {b : ℕ} → hex_of b < 16 → Goes S.High3 b S.High4
-  high-4 : {b : ℕ} → hex_of b < 16 → Goes S.High4 b S.LowBackslash
+  digit-1 : {b h : ℕ} → Hex b h → (h ≡ 13 → ⊥) → Goes S.Unit1 b S.Unit2
+  digit-1_d : {b : ℕ} → Hex b 13 → Goes S.Unit1 b S.UnitD
+  digit-2 : {b h : ℕ} → Hex b h → Goes S.Unit2 b S.Unit3
+  digit-2-below : {b h : ℕ} → Hex b h → h < 8 → Goes S.UnitD b S.Unit3
+  digit-2-high : {b h : ℕ} → Hex b h → 8 ≤ h → h < 12 → Goes S.UnitD b S.High3
+  digit-3 : {b h : ℕ} → Hex b h → Goes S.Unit3 b S.Unit4
+  high-3 : {b h : ℕ} → Hex b h → Goes S.High3 b S.High4
+  high-4 : {b h : ℕ} → Hex b h → Goes S.High4 b S.LowBackslash
   low-backslash : Goes S.LowBackslash 0x5C S.LowU
   low-u : Goes S.LowU 0x75 S.Low1
-  low-1 : {b : ℕ} → hex_of b ≡ 13 → Goes S.Low1 b S.Low2
-  low-2 : {b : ℕ} → 12 ≤ hex_of b → hex_of b < 16 → Goes S.Low2 b S.Low3
-  low-3 : {b : ℕ} → hex_of b < 16 → Goes S.Low3 b S.Low4
+  low-1 : {b : ℕ} → Hex b 13 → Goes S.Low1 b S.Low2
+  low-2 : {b h : ℕ} → Hex b h → 12 ≤ h → Goes S.Low2 b S.Low3
+  low-3 : {b h : ℕ} → Hex b h → Goes S.Low3 b S.Low4
 
 -- the byte is the last of a character
 pub data Ends : StringMode → ℕ → Type 0 where
   plain : {b : ℕ} → T (is_unescaped b) → Ends S.Char b
-  after-backslash : {b : ℕ} → Escaped b (unescape b) → Ends S.Escape b
-  digit-4 : {b : ℕ} → hex_of b < 16 → Ends S.Unit4 b
-  low-4 : {b : ℕ} → hex_of b < 16 → Ends S.Low4 b
+  after-backslash : {b c : ℕ} → Escaped b c → Ends S.Escape b
+  digit-4 : {b h : ℕ} → Hex b h → Ends S.Unit4 b
+  low-4 : {b h : ℕ} → Hex b h → Ends S.Low4 b
   second-C2 : {b : ℕ} → T (is_tail b) → Ends S.SecondC2 b
   tail-1 : {b : ℕ} → T (is_tail b) → Ends S.Tail1 b
 
 -- ---- string_move goes on where a character does, and ends it at its last byte
 
-hex-move : (b : ℕ) (m : StringMove) → hex_of b < 16 → any_hex (hex_of b) m ≡ m
-unfolding any_hex
-hex-move b m h = rw (lt-ltb (hex_of b) 16 h)
+hex-move : {b h : ℕ} (m : StringMove) → Hex b h → any_hex (hex_of b) m ≡ m
+hex-move m x = rw (value-of-hex x)
 
 -- a byte of a range makes its move
 pub ranged-move : (lo hi b : ℕ) (m : StringMove) → T (within lo hi b) → ranged lo hi b m ≡ m
@@ -146,7 +118,7 @@ lead-class c lo hi b e h =
     eq-of-tab class_of (λ (_ : ℕ). c) lo (suc hi - lo) e b l (omega arith)
 
 pub move-of-goes : {m n : StringMode} {b : ℕ} → Goes m b n → string_move m b ≡ SM.Go n
-unfolding class_of high_class is_break is_structure within escape_move unit1 unit_d low1 low2 only
+unfolding class_of high_class is_break is_structure within escape_move only
 move-of-goes backslash = refl
 move-of-goes (lead-C2 {b} h) = rw (lead-class C.LeadC2 0xC2 0xDF b refl h)
 move-of-goes lead-E0 = refl
@@ -165,19 +137,19 @@ move-of-goes (second-F1 {b} h) = ranged-move 0x80 0xBF b _ h
 move-of-goes (second-F4 {b} h) = ranged-move 0x80 0x8F b _ h
 move-of-goes (tail-2 {b} h) = ranged-move 0x80 0xBF b _ h
 move-of-goes letter-u = refl
-move-of-goes (digit-1 {b} h n) = rw (ne_eqb (hex_of b) 13 n) (hex-move b _ h)
-move-of-goes (digit-1_d {b} e) = rw (eq-eqb (hex_of b) 13 e)
-move-of-goes (digit-2 {b} h) = hex-move b _ h
-move-of-goes (digit-2-below {b} h) = rw (lt-ltb (hex_of b) 8 h)
-move-of-goes (digit-2-high {b} h g) = simp (le-ltb (hex_of b) 8 h, lt-ltb (hex_of b) 12 g)
-move-of-goes (digit-3 {b} h) = hex-move b _ h
-move-of-goes (high-3 {b} h) = hex-move b _ h
-move-of-goes (high-4 {b} h) = hex-move b _ h
+move-of-goes (digit-1 {h} x n) = rw (value-of-hex x, ne_eqb h 13 n)
+move-of-goes (digit-1_d x) = rw (value-of-hex x)
+move-of-goes (digit-2 x) = hex-move _ x
+move-of-goes (digit-2-below {h} x l) = rw (value-of-hex x, lt-ltb h 8 l)
+move-of-goes (digit-2-high {h} x l g) = rw (value-of-hex x, le-ltb h 8 l, lt-ltb h 12 g)
+move-of-goes (digit-3 x) = hex-move _ x
+move-of-goes (high-3 x) = hex-move _ x
+move-of-goes (high-4 x) = hex-move _ x
 move-of-goes low-backslash = refl
 move-of-goes low-u = refl
-move-of-goes (low-1 {b} e) = rw (eq-eqb (hex_of b) 13 e)
-move-of-goes (low-2 {b} h g) = rw (le-ltb (hex_of b) 12 h) (hex-move b _ g)
-move-of-goes (low-3 {b} h) = hex-move b _ h
+move-of-goes (low-1 x) = rw (value-of-hex x)
+move-of-goes (low-2 {h} x l) = rw (value-of-hex x, le-ltb h 12 l)
+move-of-goes (low-3 x) = hex-move _ x
 
 is_char : StringMove → Bool
 is_char SM.Fault = false
@@ -229,8 +201,8 @@ escaped-move tab = refl
 pub move-of-ends : {m : StringMode} {b : ℕ} → Ends m b → string_move m b ≡ SM.Char
 move-of-ends (plain {b} h) = plain-move b h
 move-of-ends (after-backslash x) = escaped-move x
-move-of-ends (digit-4 {b} h) = hex-move b _ h
-move-of-ends (low-4 {b} h) = hex-move b _ h
+move-of-ends (digit-4 x) = hex-move _ x
+move-of-ends (low-4 x) = hex-move _ x
 move-of-ends (second-C2 {b} h) = ranged-move 0x80 0xBF b _ h
 move-of-ends (tail-1 {b} h) = ranged-move 0x80 0xBF b _ h
 
@@ -311,9 +283,9 @@ char-moved b =
     space-unescaped = unfold is_unescaped within in tt
 
 -- a byte after a backslash, by what it stands for
-data EscapeView : ℕ → ℕ → Type 0 where
-  no-escape : {b : ℕ} → EscapeView b 0
-  is-escape : {b c : ℕ} → Escaped b c → EscapeView b c
+data EscapeView : ℕ → Option ℕ → Type 0 where
+  no-escape : {b : ℕ} → EscapeView b None
+  is-escape : {b c : ℕ} → Escaped b c → EscapeView b (Some c)
 
 escape-view : (b : ℕ) → EscapeView b (unescape b)
 unfolding unescape
@@ -323,19 +295,24 @@ escape-view b =
     (cond_byte EscapeView b 0x66 (is-escape form_feed) (cond_byte EscapeView b 0x6E (is-escape line_feed)
     (cond_byte EscapeView b 0x72 (is-escape carriage_return) (cond_byte EscapeView b 0x74 (is-escape tab) no-escape)))))))
 
-escape-of-view : {b c : ℕ} → EscapeView b c → T (not (eqb c 0)) → Escaped b c
-escape-of-view no-escape h = absurd h
-escape-of-view (is-escape x) h = x
+escape-made : {b : ℕ} {o : Option ℕ} → EscapeView b o → Moved S.Escape b (char_made o)
+escape-made no-escape = moved-fault
+escape-made (is-escape x) = moved-char (after-backslash x)
 
 escape-moved : (b : ℕ) → Moved S.Escape b (escape_move b)
 unfolding escape_move
-escape-moved b =
-    cond_byte (Moved S.Escape) b 0x75 (moved-go letter-u)
-    (cond-elim (Moved S.Escape b) (eqb (unescape b) 0) (λ _. moved-fault) (λ h. moved-char (after-backslash (escape-of-view (escape-view b) h))))
+escape-moved b = cond_byte (Moved S.Escape) b 0x75 (moved-go letter-u) (escape-made (escape-view b))
 
-hex-moved : {m : StringMode} (b : ℕ) {x : StringMove} → (hex_of b < 16 → Moved m b x) → Moved m b (any_hex (hex_of b) x)
-unfolding any_hex
-hex-moved {m} b f = cond-elim (Moved m b) (ltb (hex_of b) 16) (λ h. f (ltb→lt (hex_of b) 16 h)) (λ _. moved-fault)
+-- a byte of which a hexadecimal digit is awaited, and whose move f depends on its value
+digit-moved : {m : StringMode} (b : ℕ) (f : Option ℕ → StringMove) → f None ≡ SM.Fault → ((h : ℕ) → Hex b h → Moved m b (f (Some h))) → Moved m b (f (hex_of b))
+digit-moved {m} b f e g = go (hex-view b)
+  where
+    go : {o : Option ℕ} → HexView b o → Moved m b (f o)
+    go no-hex = rw e moved-fault
+    go (is-hex {w} x) = g w x
+
+hex-moved : {m : StringMode} (b : ℕ) {x : StringMove} → ((h : ℕ) → Hex b h → Moved m b x) → Moved m b (any_hex (hex_of b) x)
+hex-moved b {x} f = digit-moved b (λ o. any_hex o x) refl f
 
 ranged-moved : {m : StringMode} (lo hi b : ℕ) {x : StringMove} → (T (within lo hi b) → Moved m b x) → Moved m b (ranged lo hi b x)
 unfolding ranged
@@ -352,27 +329,30 @@ within-of-ranged lo hi b k =
     cond-elim P (ltb hi b) (λ _ n. absurd (n refl)) (λ h n. within-of-le lo hi b (nltb→le b lo l) (nltb→le hi b h)))
 
 pub moved : (m : StringMode) (b : ℕ) → Moved m b (string_move m b)
-unfolding unit1 unit_d low1 low2 only
+unfolding only
 moved S.Char b = char-moved b
 moved S.Escape b = escape-moved b
 moved S.Unit1 b =
-    cond-elim (Moved S.Unit1 b) (eqb (hex_of b) 13) (λ e. moved-go (digit-1_d (eqb→eq (hex_of b) 13 e))) (λ n.
-    hex-moved b (λ h. moved-go (digit-1 h (λ e. T_not (eqb (hex_of b) 13) n (rw (eq-eqb (hex_of b) 13 e) tt)))))
-moved S.Unit2 b = hex-moved b (λ h. moved-go (digit-2 h))
+    digit-moved b unit1 refl (λ h x.
+    cond-elim (Moved S.Unit1 b) (eqb h 13) (λ e. moved-go (digit-1_d (subst (Hex b) (eqb→eq h 13 e) x)))
+    (λ n. moved-go (digit-1 x (λ e. T_not (eqb h 13) n (rw (eq-eqb h 13 e) tt)))))
+moved S.Unit2 b = hex-moved b (λ h x. moved-go (digit-2 x))
 moved S.UnitD b =
-    cond-elim (Moved S.UnitD b) (ltb (hex_of b) 8) (λ h. moved-go (digit-2-below (ltb→lt (hex_of b) 8 h))) (λ l.
-    cond-elim (Moved S.UnitD b) (ltb (hex_of b) 12) (λ h. moved-go (digit-2-high (nltb→le (hex_of b) 8 l) (ltb→lt (hex_of b) 12 h))) (λ _. moved-fault))
-moved S.Unit3 b = hex-moved b (λ h. moved-go (digit-3 h))
-moved S.Unit4 b = hex-moved b (λ h. moved-char (digit-4 h))
-moved S.High3 b = hex-moved b (λ h. moved-go (high-3 h))
-moved S.High4 b = hex-moved b (λ h. moved-go (high-4 h))
+    digit-moved b unit_d refl (λ h x.
+    cond-elim (Moved S.UnitD b) (ltb h 8) (λ l. moved-go (digit-2-below x (ltb→lt h 8 l))) (λ l.
+    cond-elim (Moved S.UnitD b) (ltb h 12) (λ g. moved-go (digit-2-high x (nltb→le h 8 l) (ltb→lt h 12 g))) (λ _. moved-fault)))
+moved S.Unit3 b = hex-moved b (λ h x. moved-go (digit-3 x))
+moved S.Unit4 b = hex-moved b (λ h x. moved-char (digit-4 x))
+moved S.High3 b = hex-moved b (λ h x. moved-go (high-3 x))
+moved S.High4 b = hex-moved b (λ h x. moved-go (high-4 x))
 moved S.LowBackslash b = cond_byte (Moved S.LowBackslash) b 0x5C (moved-go low-backslash) moved-fault
 moved S.LowU b = cond_byte (Moved S.LowU) b 0x75 (moved-go low-u) moved-fault
-moved S.Low1 b = cond-elim (Moved S.Low1 b) (eqb (hex_of b) 13) (λ e. moved-go (low-1 (eqb→eq (hex_of b) 13 e))) (λ _. moved-fault)
+moved S.Low1 b =
+    digit-moved b low1 refl (λ h x. cond-elim (Moved S.Low1 b) (eqb h 13) (λ e. moved-go (low-1 (subst (Hex b) (eqb→eq h 13 e) x))) (λ _. moved-fault))
 moved S.Low2 b =
-    cond-elim (Moved S.Low2 b) (ltb (hex_of b) 12) (λ _. moved-fault) (λ l. hex-moved b (λ h. moved-go (low-2 (nltb→le (hex_of b) 12 l) h)))
-moved S.Low3 b = hex-moved b (λ h. moved-go (low-3 h))
-moved S.Low4 b = hex-moved b (λ h. moved-char (low-4 h))
+    digit-moved b low2 refl (λ h x. cond-elim (Moved S.Low2 b) (ltb h 12) (λ _. moved-fault) (λ l. moved-go (low-2 x (nltb→le h 12 l))))
+moved S.Low3 b = hex-moved b (λ h x. moved-go (low-3 x))
+moved S.Low4 b = hex-moved b (λ h x. moved-char (low-4 x))
 moved S.SecondC2 b = ranged-moved 0x80 0xBF b (λ h. moved-char (second-C2 h))
 moved S.SecondE0 b = ranged-moved 0xA0 0xBF b (λ h. moved-go (second-E0 h))
 moved S.SecondE1 b = ranged-moved 0x80 0xBF b (λ h. moved-go (second-E1 h))

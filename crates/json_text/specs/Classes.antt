@@ -1,5 +1,5 @@
--- The class of each byte: REQUIREMENT.md, section 2; RFC 8259, sections 2 and 7; RFC 3629, section 4. Stated; the numbers of the classes are the
--- table's own. Assumes nothing.
+-- The class of each byte: REQUIREMENT.md, section 2; RFC 8259, sections 2 and 7; RFC 3629, section 4. Stated.
+-- Assumes nothing.
 use Rattle.std.specs.Prelude.{Bool, cond, ◌||◌, ℕ, eqb, ltb}
 use Rattle.json_text.specs.Bytes.{within}
 use Rattle.json_text.specs.declared.class.Class.{Class}
@@ -36,24 +36,3 @@ class_of b =
     (cond (is_structure b) Structure
     (cond (within 0x30 0x39 b) Digit
     (cond (ltb b 0x80) Other (high_class b))))))))
-
--- the number of a class in the table
-abbrev pub class_number : Class → ℕ
-class_number Never = 0
-class_number Control = 1
-class_number Break = 2
-class_number Space = 3
-class_number Quote = 4
-class_number Backslash = 5
-class_number Structure = 6
-class_number Digit = 7
-class_number Other = 8
-class_number Tail = 9
-class_number LeadC2 = 10
-class_number LeadE0 = 11
-class_number LeadE1 = 12
-class_number LeadED = 13
-class_number LeadEE = 14
-class_number LeadF0 = 15
-class_number LeadF1 = 16
-class_number LeadF4 = 17

@@ -1,6 +1,6 @@
 -- What a byte does, mode by mode. Derived: `Accepted`, `Sound` and `Faults` in proofs/ join the machine made of it to the grammar. Assumes nothing.
-use Rattle.std.specs.Prelude.{Bool, true, false, cond, List, ℕ, ◌+◌, ◌-◌, ◌*◌, ◌%◌, eqb, leb, ltb, get_or, length}
-use Rattle.json_text.specs.Bytes.{is_blank}
+use Rattle.std.specs.Prelude.{Bool, true, false, cond, List, ℕ, ◌+◌, ◌-◌, ◌*◌, ◌%◌, eqb, ltb, get_or, length, Option, Some, None}
+use Rattle.json_text.specs.Bytes.{within, is_blank}
 use Rattle.json_text.specs.Numbers.{is_digit, is_digit_1_9, is_e}
 use Rattle.json_text.specs.Grammar.{spelling}
 use Rattle.json_text.specs.Tree as Tree
@@ -52,50 +52,57 @@ char_start C.LeadF1 = SM.Go S.SecondF1
 char_start C.LeadF4 = SM.Go S.SecondF4
 char_start C.Never = SM.Fault
 
--- the character that a byte after a backslash stands for; 0 for none
-unfoldable pub unescape : ℕ → ℕ
+-- the character that a byte after a backslash stands for
+unfoldable pub unescape : ℕ → Option ℕ
 unescape b =
-    cond (eqb b 0x22) 0x22
-    (cond (eqb b 0x5C) 0x5C
-    (cond (eqb b 0x2F) 0x2F
-    (cond (eqb b 0x62) 0x08
-    (cond (eqb b 0x66) 0x0C
-    (cond (eqb b 0x6E) 0x0A
-    (cond (eqb b 0x72) 0x0D
-    (cond (eqb b 0x74) 0x09 0)))))))
+    cond (eqb b 0x22) (Some 0x22)
+    (cond (eqb b 0x5C) (Some 0x5C)
+    (cond (eqb b 0x2F) (Some 0x2F)
+    (cond (eqb b 0x62) (Some 0x08)
+    (cond (eqb b 0x66) (Some 0x0C)
+    (cond (eqb b 0x6E) (Some 0x0A)
+    (cond (eqb b 0x72) (Some 0x0D)
+    (cond (eqb b 0x74) (Some 0x09) None)))))))
+
+-- where there is a character
+abbrev pub char_made : Option ℕ → StringMove
+char_made None = SM.Fault
+char_made (Some c) = SM.Char
 
 -- the byte after a backslash
 unfoldable pub escape_move : ℕ → StringMove
-escape_move b = cond (eqb b 0x75) (SM.Go S.Unit1) (cond (eqb (unescape b) 0) SM.Fault SM.Char)
+escape_move b = cond (eqb b 0x75) (SM.Go S.Unit1) (char_made (unescape b))
 
--- the value of a hexadecimal digit; 16 for another byte
-unfoldable pub hex_of : ℕ → ℕ
+-- the value of a hexadecimal digit
+unfoldable pub hex_of : ℕ → Option ℕ
 hex_of b =
-    cond (ltb b 0x30) 16
-    (cond (leb b 0x39) (b - 0x30)
-    (cond (ltb b 0x41) 16
-    (cond (leb b 0x46) (b - 0x37)
-    (cond (ltb b 0x61) 16
-    (cond (leb b 0x66) (b - 0x57) 16)))))
+    cond (within 0x30 0x39 b) (Some (b - 0x30))
+    (cond (within 0x41 0x46 b) (Some (b - 0x41 + 10))
+    (cond (within 0x61 0x66 b) (Some (b - 0x61 + 10)) None))
 
--- any hexadecimal digit, of value h
-unfoldable pub any_hex : ℕ → StringMove → StringMove
-any_hex h m = cond (ltb h 16) m SM.Fault
+-- any hexadecimal digit
+abbrev pub any_hex : Option ℕ → StringMove → StringMove
+any_hex None m = SM.Fault
+any_hex (Some h) m = m
 
 -- the first digit of a code unit: after a D the second settles whether it is a surrogate
-unfoldable pub unit1 : ℕ → StringMove
-unit1 h = cond (eqb h 13) (SM.Go S.UnitD) (any_hex h (SM.Go S.Unit2))
+abbrev pub unit1 : Option ℕ → StringMove
+unit1 None = SM.Fault
+unit1 (Some h) = cond (eqb h 13) (SM.Go S.UnitD) (SM.Go S.Unit2)
 
 -- after a D: 0 to 7 no surrogate, 8 to B a high one; a low one stands nowhere alone
-unfoldable pub unit_d : ℕ → StringMove
-unit_d h = cond (ltb h 8) (SM.Go S.Unit3) (cond (ltb h 12) (SM.Go S.High3) SM.Fault)
+abbrev pub unit_d : Option ℕ → StringMove
+unit_d None = SM.Fault
+unit_d (Some h) = cond (ltb h 8) (SM.Go S.Unit3) (cond (ltb h 12) (SM.Go S.High3) SM.Fault)
 
 -- the first and the second digit of a low surrogate
-unfoldable pub low1 : ℕ → StringMove
-low1 h = cond (eqb h 13) (SM.Go S.Low2) SM.Fault
+abbrev pub low1 : Option ℕ → StringMove
+low1 None = SM.Fault
+low1 (Some h) = cond (eqb h 13) (SM.Go S.Low2) SM.Fault
 
-unfoldable pub low2 : ℕ → StringMove
-low2 h = cond (ltb h 12) SM.Fault (any_hex h (SM.Go S.Low3))
+abbrev pub low2 : Option ℕ → StringMove
+low2 None = SM.Fault
+low2 (Some h) = cond (ltb h 12) SM.Fault (SM.Go S.Low3)
 
 -- the byte x only
 unfoldable pub only : ℕ → ℕ → StringMove → StringMove
@@ -144,9 +151,10 @@ lead_bits b = cond (ltb b 0xC0) 0 (cond (ltb b 0xE0) (b - 0xC0) (cond (ltb b 0xF
 unfoldable pub tail_bits : ℕ → ℕ → ℕ
 tail_bits bits b = bits % 0x8000 * 64 + b % 64
 
--- four more bits, of a hexadecimal digit
-unfoldable pub hex_bits : ℕ → ℕ → ℕ
-hex_bits bits h = bits % 0x1000 * 16 + h % 16
+-- four more bits, of a hexadecimal digit; another byte is a fault, and leaves them
+abbrev pub hex_bits : ℕ → Option ℕ → ℕ
+hex_bits bits None = bits
+hex_bits bits (Some h) = bits % 0x1000 * 16 + h
 
 -- the character of a high and a low surrogate
 unfoldable pub pair_of : ℕ → ℕ → ℕ
@@ -156,7 +164,7 @@ pair_of high low = 0x10000 + high % 0x400 * 0x400 + low % 0x400
 abbrev pub bits_after : StringMode → ℕ → ℕ → ℕ
 bits_after S.Char bits b = lead_bits b
 bits_after S.Escape bits b = bits
-bits_after S.Unit1 bits b = hex_of b
+bits_after S.Unit1 bits b = hex_bits 0 (hex_of b)
 bits_after S.Unit2 bits b = hex_bits bits (hex_of b)
 bits_after S.UnitD bits b = hex_bits bits (hex_of b)
 bits_after S.Unit3 bits b = hex_bits bits (hex_of b)
@@ -165,7 +173,7 @@ bits_after S.High3 bits b = hex_bits bits (hex_of b)
 bits_after S.High4 bits b = hex_bits bits (hex_of b)
 bits_after S.LowBackslash bits b = bits
 bits_after S.LowU bits b = bits
-bits_after S.Low1 bits b = hex_of b
+bits_after S.Low1 bits b = hex_bits 0 (hex_of b)
 bits_after S.Low2 bits b = hex_bits bits (hex_of b)
 bits_after S.Low3 bits b = hex_bits bits (hex_of b)
 bits_after S.Low4 bits b = hex_bits bits (hex_of b)
@@ -183,58 +191,22 @@ bits_after S.Tail1 bits b = tail_bits bits b
 -- the high surrogate after a byte
 abbrev pub high_after : StringMode → ℕ → ℕ → ℕ → ℕ
 high_after S.High4 bits high b = hex_bits bits (hex_of b)
-high_after S.Char bits high b = high
-high_after S.Escape bits high b = high
-high_after S.Unit1 bits high b = high
-high_after S.Unit2 bits high b = high
-high_after S.UnitD bits high b = high
-high_after S.Unit3 bits high b = high
-high_after S.Unit4 bits high b = high
-high_after S.High3 bits high b = high
-high_after S.LowBackslash bits high b = high
-high_after S.LowU bits high b = high
-high_after S.Low1 bits high b = high
-high_after S.Low2 bits high b = high
-high_after S.Low3 bits high b = high
-high_after S.Low4 bits high b = high
-high_after S.SecondC2 bits high b = high
-high_after S.SecondE0 bits high b = high
-high_after S.SecondE1 bits high b = high
-high_after S.SecondED bits high b = high
-high_after S.SecondEE bits high b = high
-high_after S.SecondF0 bits high b = high
-high_after S.SecondF1 bits high b = high
-high_after S.SecondF4 bits high b = high
-high_after S.Tail2 bits high b = high
-high_after S.Tail1 bits high b = high
+high_after _ bits high b = high
+
+-- the character that an escape makes; 0 where it makes none
+abbrev pub escaped_char : Option ℕ → ℕ
+escaped_char None = 0
+escaped_char (Some c) = c
 
 -- the character that a byte finishes; 0 where it finishes none
 abbrev pub char_of : StringMode → ℕ → ℕ → ℕ → ℕ
 char_of S.Char bits high b = b
-char_of S.Escape bits high b = unescape b
+char_of S.Escape bits high b = escaped_char (unescape b)
 char_of S.Unit4 bits high b = hex_bits bits (hex_of b)
 char_of S.Low4 bits high b = pair_of high (hex_bits bits (hex_of b))
 char_of S.SecondC2 bits high b = tail_bits bits b
 char_of S.Tail1 bits high b = tail_bits bits b
-char_of S.Unit1 bits high b = 0
-char_of S.Unit2 bits high b = 0
-char_of S.UnitD bits high b = 0
-char_of S.Unit3 bits high b = 0
-char_of S.High3 bits high b = 0
-char_of S.High4 bits high b = 0
-char_of S.LowBackslash bits high b = 0
-char_of S.LowU bits high b = 0
-char_of S.Low1 bits high b = 0
-char_of S.Low2 bits high b = 0
-char_of S.Low3 bits high b = 0
-char_of S.SecondE0 bits high b = 0
-char_of S.SecondE1 bits high b = 0
-char_of S.SecondED bits high b = 0
-char_of S.SecondEE bits high b = 0
-char_of S.SecondF0 bits high b = 0
-char_of S.SecondF1 bits high b = 0
-char_of S.SecondF4 bits high b = 0
-char_of S.Tail2 bits high b = 0
+char_of _ bits high b = 0
 
 -- ---- numbers
 

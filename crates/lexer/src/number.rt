@@ -1,102 +1,104 @@
 // Numbers: what a byte does after each part of one.
-ghost use Rattle.std.specs.Prelude.{cond, ◌≡◌};
-ghost use Rattle.json_text.specs.Bytes.{within};
-ghost use Rattle.json_text.specs.Numbers.{is_digit, is_digit_1_9, is_e};
-ghost use Rattle.json_text.specs.Lexer.{or_exp, after_minus, after_zero, after_e, number_move, may_end};
+ghost use Rattle.std.specs.Prelude.{◌≡◌};
+ghost use Rattle.json_text.specs.Numbers.{is_digit, is_digit_1_9};
+ghost use Rattle.json_text.specs.Lexer.{or_exp, after_minus, after_zero, after_int, after_frac, after_e, after_exp, digit_only, number_move, may_end};
 
 use json_text::number::{NumberMode, NumberMove};
-
-// A byte from lo to hi, both included.
-fn within(lo: u8, hi: u8, b: u8) -> bool
-    ensures { result ≡ within lo hi b }
-{
-    if lo <= b {
-        return b <= hi;
-    }
-    false
-}
 
 // A digit.
 pub fn is_digit(b: u8) -> bool
     ensures { result ≡ is_digit b }
 {
-    within(0x30, 0x39, b)
+    b.is_ascii_digit()
 }
 
 // A digit other than 0.
 pub fn is_digit_1_9(b: u8) -> bool
     ensures { result ≡ is_digit_1_9 b }
 {
-    within(0x31, 0x39, b)
-}
-
-// e or E.
-fn is_e(b: u8) -> bool
-    ensures { result ≡ is_e b }
-{
-    if b == 0x65 {
-        return true;
-    }
-    b == 0x45
+    matches!(b, b'1'..=b'9')
 }
 
 // After digits that an exponent may follow.
 fn or_exp(b: u8) -> NumberMove
     ensures { result ≡ or_exp b }
 {
-    if is_e(b) {
-        return NumberMove::Go(NumberMode::E);
+    match b {
+        b'e' | b'E' => NumberMove::Go(NumberMode::E),
+        _ => NumberMove::End,
     }
-    NumberMove::End
 }
 
 // After the minus sign.
 fn after_minus(b: u8) -> NumberMove
     ensures { result ≡ after_minus b }
 {
-    if is_digit_1_9(b) {
-        return NumberMove::Go(NumberMode::Int);
+    match b {
+        b'1'..=b'9' => NumberMove::Go(NumberMode::Int),
+        b'0' => NumberMove::Go(NumberMode::Zero),
+        _ => NumberMove::Fault,
     }
-    if b == 0x30 {
-        return NumberMove::Go(NumberMode::Zero);
-    }
-    NumberMove::Fault
 }
 
 // After a leading 0.
 fn after_zero(b: u8) -> NumberMove
     ensures { result ≡ after_zero b }
 {
-    if b == 0x2E {
-        return NumberMove::Go(NumberMode::Dot);
+    match b {
+        b'.' => NumberMove::Go(NumberMode::Dot),
+        _ => or_exp(b),
     }
-    or_exp(b)
+}
+
+// After a digit before the point, the leading 0 aside.
+fn after_int(b: u8) -> NumberMove
+    ensures { result ≡ after_int b }
+{
+    match b {
+        b'0'..=b'9' => NumberMove::Go(NumberMode::Int),
+        _ => after_zero(b),
+    }
+}
+
+// After a digit behind the point.
+fn after_frac(b: u8) -> NumberMove
+    ensures { result ≡ after_frac b }
+{
+    match b {
+        b'0'..=b'9' => NumberMove::Go(NumberMode::Frac),
+        _ => or_exp(b),
+    }
 }
 
 // After e or E.
 fn after_e(b: u8) -> NumberMove
     ensures { result ≡ after_e b }
 {
-    if is_digit(b) {
-        return NumberMove::Go(NumberMode::Exp);
+    match b {
+        b'0'..=b'9' => NumberMove::Go(NumberMode::Exp),
+        b'+' | b'-' => NumberMove::Go(NumberMode::Sign),
+        _ => NumberMove::Fault,
     }
-    if b == 0x2B {
-        return NumberMove::Go(NumberMode::Sign);
-    }
-    if b == 0x2D {
-        return NumberMove::Go(NumberMode::Sign);
-    }
-    NumberMove::Fault
 }
 
-// A digit leads to n; another byte makes the other move.
-fn digit_or(b: u8, n: NumberMode, other: NumberMove) -> NumberMove
-    ensures { result ≡ cond (is_digit b) (NumberMove.Go n) other }
+// After a digit of the exponent.
+fn after_exp(b: u8) -> NumberMove
+    ensures { result ≡ after_exp b }
 {
-    if is_digit(b) {
-        return NumberMove::Go(n);
+    match b {
+        b'0'..=b'9' => NumberMove::Go(NumberMode::Exp),
+        _ => NumberMove::End,
     }
-    other
+}
+
+// A digit must follow.
+fn digit_only(b: u8, n: NumberMode) -> NumberMove
+    ensures { result ≡ digit_only b n }
+{
+    match b {
+        b'0'..=b'9' => NumberMove::Go(n),
+        _ => NumberMove::Fault,
+    }
 }
 
 // What byte b does after part n of a number.
@@ -106,12 +108,12 @@ pub fn number_move(n: NumberMode, b: u8) -> NumberMove
     match n {
         NumberMode::Minus => after_minus(b),
         NumberMode::Zero => after_zero(b),
-        NumberMode::Int => digit_or(b, NumberMode::Int, after_zero(b)),
-        NumberMode::Dot => digit_or(b, NumberMode::Frac, NumberMove::Fault),
-        NumberMode::Frac => digit_or(b, NumberMode::Frac, or_exp(b)),
+        NumberMode::Int => after_int(b),
+        NumberMode::Dot => digit_only(b, NumberMode::Frac),
+        NumberMode::Frac => after_frac(b),
         NumberMode::E => after_e(b),
-        NumberMode::Sign => digit_or(b, NumberMode::Exp, NumberMove::Fault),
-        NumberMode::Exp => digit_or(b, NumberMode::Exp, NumberMove::End),
+        NumberMode::Sign => digit_only(b, NumberMode::Exp),
+        NumberMode::Exp => after_exp(b),
     }
 }
 
@@ -119,14 +121,8 @@ pub fn number_move(n: NumberMode, b: u8) -> NumberMove
 pub fn may_end(n: NumberMode) -> bool
     ensures { result ≡ may_end n }
 {
-    match n {
-        NumberMode::Minus => false,
-        NumberMode::Zero => true,
-        NumberMode::Int => true,
-        NumberMode::Dot => false,
-        NumberMode::Frac => true,
-        NumberMode::E => false,
-        NumberMode::Sign => false,
-        NumberMode::Exp => true,
-    }
+    matches!(
+        n,
+        NumberMode::Zero | NumberMode::Int | NumberMode::Frac | NumberMode::Exp
+    )
 }

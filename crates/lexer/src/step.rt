@@ -1,12 +1,11 @@
 // A byte anywhere in a text: what it does, and where the next byte stands.
 ghost use Rattle.std.specs.Prelude.{◌≡◌};
 ghost use Rattle.json_text.specs.Bytes.{is_blank};
-ghost use Rattle.json_text.specs.Lexer.{step_to, fault_step, stay, value_start, at_value, at_first_element, at_first_key, at_key, at_colon, after_root, after_element, after_pair, after_value, at_first, place_step, key_step, text_step, ended_before, number_step, word_step, number_move, word_move};
-ghost use Rattle.chars.specs.Table.{class_at};
-ghost use Rattle.lexer.specs.Given.{step_by};
+ghost use Rattle.json_text.specs.Lexer.{step_to, fault_step, stay, value_start, at_value, at_first_element, at_first_key, at_key, at_colon, after_root, after_element, after_pair, after_value, at_first, place_step, key_step, text_step, ended_before, number_step, word_step, number_move, word_move, step_of};
 
-use super::number::{is_digit_1_9, number_move};
+use super::number::number_move;
 use super::word::word_move;
+use chars::class::Classes;
 use chars::string::string_move;
 use json_text::lexer::{Act, Awaited, Mode, Step, Top};
 use json_text::number::{NumberMode, NumberMove};
@@ -42,157 +41,114 @@ fn stay(p: Awaited) -> Step
 pub fn is_blank(b: u8) -> bool
     ensures { result ≡ is_blank b }
 {
-    if b == 0x20 {
-        return true;
-    }
-    if b == 0x09 {
-        return true;
-    }
-    if b == 0x0A {
-        return true;
-    }
-    b == 0x0D
+    matches!(b, b' ' | b'\t' | b'\n' | b'\r')
 }
 
 // The first byte of a value.
 fn value_start(b: u8) -> Step
     ensures { result ≡ value_start b }
 {
-    if b == 0x22 {
-        return step_to(Mode::Text(StringMode::Char), Act::TextStart);
+    match b {
+        b'"' => step_to(Mode::Text(StringMode::Char), Act::TextStart),
+        b'[' => step_to(Mode::At(Awaited::First), Act::OpenArray),
+        b'{' => step_to(Mode::At(Awaited::First), Act::OpenObject),
+        b'1'..=b'9' => step_to(Mode::Number(NumberMode::Int), Act::NumberStart),
+        b'0' => step_to(Mode::Number(NumberMode::Zero), Act::NumberStart),
+        b'-' => step_to(Mode::Number(NumberMode::Minus), Act::NumberStart),
+        b'n' => step_to(Mode::Word(Word::Null, 1), Act::Pass),
+        b't' => step_to(Mode::Word(Word::True, 1), Act::Pass),
+        b'f' => step_to(Mode::Word(Word::False, 1), Act::Pass),
+        _ => fault_step(),
     }
-    if b == 0x5B {
-        return step_to(Mode::At(Awaited::First), Act::OpenArray);
-    }
-    if b == 0x7B {
-        return step_to(Mode::At(Awaited::First), Act::OpenObject);
-    }
-    if is_digit_1_9(b) {
-        return step_to(Mode::Number(NumberMode::Int), Act::NumberStart);
-    }
-    if b == 0x30 {
-        return step_to(Mode::Number(NumberMode::Zero), Act::NumberStart);
-    }
-    if b == 0x2D {
-        return step_to(Mode::Number(NumberMode::Minus), Act::NumberStart);
-    }
-    if b == 0x6E {
-        return step_to(Mode::Word(Word::Null, 1), Act::Pass);
-    }
-    if b == 0x74 {
-        return step_to(Mode::Word(Word::True, 1), Act::Pass);
-    }
-    if b == 0x66 {
-        return step_to(Mode::Word(Word::False, 1), Act::Pass);
-    }
-    fault_step()
 }
 
 // Where a value is awaited.
 fn at_value(b: u8) -> Step
     ensures { result ≡ at_value b }
 {
-    if is_blank(b) {
-        return stay(Awaited::Value);
+    match b {
+        b' ' | b'\t' | b'\n' | b'\r' => stay(Awaited::Value),
+        _ => value_start(b),
     }
-    value_start(b)
 }
 
 // After the opening byte of an array.
 fn at_first_element(b: u8) -> Step
     ensures { result ≡ at_first_element b }
 {
-    if is_blank(b) {
-        return stay(Awaited::First);
+    match b {
+        b' ' | b'\t' | b'\n' | b'\r' => stay(Awaited::First),
+        b']' => step_to(Mode::At(Awaited::After), Act::Close),
+        _ => value_start(b),
     }
-    if b == 0x5D {
-        return step_to(Mode::At(Awaited::After), Act::Close);
-    }
-    value_start(b)
 }
 
 // After the opening byte of an object.
 fn at_first_key(b: u8) -> Step
     ensures { result ≡ at_first_key b }
 {
-    if is_blank(b) {
-        return stay(Awaited::First);
+    match b {
+        b' ' | b'\t' | b'\n' | b'\r' => stay(Awaited::First),
+        b'}' => step_to(Mode::At(Awaited::After), Act::Close),
+        b'"' => step_to(Mode::Key(StringMode::Char), Act::KeyStart),
+        _ => fault_step(),
     }
-    if b == 0x7D {
-        return step_to(Mode::At(Awaited::After), Act::Close);
-    }
-    if b == 0x22 {
-        return step_to(Mode::Key(StringMode::Char), Act::KeyStart);
-    }
-    fault_step()
 }
 
 // After a comma of an object.
 fn at_key(b: u8) -> Step
     ensures { result ≡ at_key b }
 {
-    if is_blank(b) {
-        return stay(Awaited::Key);
+    match b {
+        b' ' | b'\t' | b'\n' | b'\r' => stay(Awaited::Key),
+        b'"' => step_to(Mode::Key(StringMode::Char), Act::KeyStart),
+        _ => fault_step(),
     }
-    if b == 0x22 {
-        return step_to(Mode::Key(StringMode::Char), Act::KeyStart);
-    }
-    fault_step()
 }
 
 // After a key.
 fn at_colon(b: u8) -> Step
     ensures { result ≡ at_colon b }
 {
-    if is_blank(b) {
-        return stay(Awaited::Colon);
+    match b {
+        b' ' | b'\t' | b'\n' | b'\r' => stay(Awaited::Colon),
+        b':' => stay(Awaited::Value),
+        _ => fault_step(),
     }
-    if b == 0x3A {
-        return stay(Awaited::Value);
-    }
-    fault_step()
 }
 
 // After the value of the whole text.
 fn after_root(b: u8) -> Step
     ensures { result ≡ after_root b }
 {
-    if is_blank(b) {
-        return stay(Awaited::After);
+    match b {
+        b' ' | b'\t' | b'\n' | b'\r' => stay(Awaited::After),
+        _ => fault_step(),
     }
-    fault_step()
 }
 
 // After an element of an array.
 fn after_element(b: u8) -> Step
     ensures { result ≡ after_element b }
 {
-    if is_blank(b) {
-        return stay(Awaited::After);
+    match b {
+        b' ' | b'\t' | b'\n' | b'\r' => stay(Awaited::After),
+        b',' => stay(Awaited::Value),
+        b']' => step_to(Mode::At(Awaited::After), Act::Close),
+        _ => fault_step(),
     }
-    if b == 0x2C {
-        return stay(Awaited::Value);
-    }
-    if b == 0x5D {
-        return step_to(Mode::At(Awaited::After), Act::Close);
-    }
-    fault_step()
 }
 
 // After a pair of an object.
 fn after_pair(b: u8) -> Step
     ensures { result ≡ after_pair b }
 {
-    if is_blank(b) {
-        return stay(Awaited::After);
+    match b {
+        b' ' | b'\t' | b'\n' | b'\r' => stay(Awaited::After),
+        b',' => stay(Awaited::Key),
+        b'}' => step_to(Mode::At(Awaited::After), Act::Close),
+        _ => fault_step(),
     }
-    if b == 0x2C {
-        return stay(Awaited::Key);
-    }
-    if b == 0x7D {
-        return step_to(Mode::At(Awaited::After), Act::Close);
-    }
-    fault_step()
 }
 
 // After a value, by what it stands in.
@@ -211,13 +167,13 @@ fn at_first(top: Top, b: u8) -> Step
     ensures { result ≡ at_first top b }
 {
     match top {
-        Top::Bare => at_first_element(b),
-        Top::Array => at_first_element(b),
+        Top::Bare | Top::Array => at_first_element(b),
         Top::Object => at_first_key(b),
     }
 }
 
 // Between tokens.
+#[inline(always)]
 fn place_step(p: Awaited, top: Top, b: u8) -> Step
     ensures { result ≡ place_step p top b }
 {
@@ -258,13 +214,7 @@ fn text_step(m: StringMove) -> Step
 fn ended_before(st: Step) -> Step
     ensures { result ≡ ended_before st }
 {
-    let m = st.mode;
-    let a = st.act;
-    Step {
-        mode: m,
-        ends: true,
-        act: a,
-    }
+    Step { ends: true, ..st }
 }
 
 // Byte b after part n of a number.
@@ -289,14 +239,15 @@ fn word_step(w: Word, i: u8, b: u8) -> Step
     }
 }
 
-// What byte b does in mode m, with the innermost open value of kind top and the byte's class from a lent table.
-pub fn step(table: &[u8; 256], m: Mode, top: Top, b: u8) -> Step
-    ensures { result ≡ step_by (class_at table.now b) m top b }
+// What byte b does in mode m, with the innermost open value of kind top.
+#[inline(always)]
+pub fn step(classes: &Classes, m: Mode, top: Top, b: u8) -> Step
+    ensures { result ≡ step_of m top b }
 {
     match m {
         Mode::At(p) => place_step(p, top, b),
-        Mode::Key(s) => key_step(string_move(table, s, b)),
-        Mode::Text(s) => text_step(string_move(table, s, b)),
+        Mode::Key(s) => key_step(string_move(classes, s, b)),
+        Mode::Text(s) => text_step(string_move(classes, s, b)),
         Mode::Number(n) => number_step(n, top, b),
         Mode::Word(w, i) => word_step(w, i, b),
     }

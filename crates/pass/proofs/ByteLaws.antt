@@ -1,4 +1,5 @@
 -- One byte that only moves a reader on. Assumes nothing.
+use Rattle.std.specs.Prelude.{Option, Some, None}
 use mathlib.Core.Bool.{Bool, true, false, cond}
 use mathlib.Core.List.{List}
 use mathlib.Core.Path.{◌≡◌, refl, sym, ap, ◌∙◌}
@@ -16,7 +17,6 @@ use Rattle.json_text.specs.declared.lexer.Act.TheVariants as A
 use Rattle.json_text.specs.declared.lexer.Step.{Step}
 use Rattle.table.specs.Table.{Table}
 use Rattle.progress.specs.declared.Fault.{Fault}
-use Rattle.progress.specs.declared.Fault.TheVariants as F
 use Rattle.progress.specs.declared.Progress.{Progress}
 use Rattle.progress.specs.declared.Advanced.{Advanced}
 use Rattle.progress.specs.declared.Task.TheVariants as To
@@ -29,13 +29,6 @@ pub never : {X : Type 0} → false ≡ true → X
 never q = let z : ◌≡◌ {A = ℕ} 0 1 = cc in absurd (omega arith)
 
 -- ---- what the tests tell
-
--- v is what was found of b
-pub true-of-test : (b v : Bool) → v ≡ b → v ≡ true → b ≡ true
-true-of-test b v e h = sym e ∙ h
-
-pub false-of-test : (b v : Bool) → v ≡ b → v ≡ false → b ≡ false
-false-of-test b v e h = sym e ∙ h
 
 passes-by : (a : Act) (b : ℕ) (v : Bool) → eqb b 0x1E ≡ v → cond v false (is_quiet a) ≡ true → (b ≡ 0x1E → ⊥) × (is_quiet a ≡ true)
 passes-by a b true p q = never q
@@ -51,21 +44,19 @@ unfolding passes
 passes-open a true b h = never h
 passes-open a false b h = refl
 
-reads-by : (h : Bool) (f : Fault) → cond h false (is_sound f) ≡ true → (h ≡ false) × (f ≡ F.Sound)
+reads-by : (h : Bool) (f : Option Fault) → cond h false (is_sound f) ≡ true → (h ≡ false) × (f ≡ None)
 reads-by true f e = never e
-reads-by false F.Sound e = (refl, refl)
-reads-by false F.Malformed e = never e
-reads-by false F.TooDeep e = never e
-reads-by false F.TooLong e = never e
+reads-by false None e = (refl, refl)
+reads-by false (Some f) e = never e
 
-pub reads-told : (x : Progress) → is_reading x ≡ true → (x.head ≡ false) × (x.fault ≡ F.Sound)
+pub reads-told : (x : Progress) → is_reading x ≡ true → (x.head ≡ false) × (x.fault ≡ None)
 unfolding is_reading
 reads-told x e = reads-by x.head x.fault e
 
 -- ---- one byte
 
 -- a byte that is no RS, of a record that is read and may go on
-pub advanced-acted : (x : Progress) (n b : ℕ) (st : Step) → x.head ≡ false → x.fault ≡ F.Sound → x.pos < 16777216 → (b ≡ 0x1E → ⊥)
+pub advanced-acted : (x : Progress) (n b : ℕ) (st : Step) → x.head ≡ false → x.fault ≡ None → x.pos < 16777216 → (b ≡ 0x1E → ⊥)
     → advanced x n b st ≡ acted st.act st.ends x n b st.mode
 unfolding advanced sound
 advanced-acted x n b st h f p r = rw (ne_eqb b 0x1E r, h, f, lt-ltb x.pos 16777216 p)
@@ -103,7 +94,7 @@ next-run t n m k s i h r q =
     rw (drop-cons s i 0, no_end m.progress (get_or s i 0) r, q)
     (ap (λ (j : ℕ). run_mem t n (step_mem t n m (get_or s i 0)) (i + 1) (drop j s)) (add-one i))
 
-module _ (t : Table) (n : ℕ) (x : Progress) (root : Bool) (key w : List ℕ) (b : ℕ) (h : x.head ≡ false) (f : x.fault ≡ F.Sound) (p : x.pos < 16777216) where
+module _ (t : Table) (n : ℕ) (x : Progress) (root : Bool) (key w : List ℕ) (b : ℕ) (h : x.head ≡ false) (f : x.fault ≡ None) (p : x.pos < 16777216) where
   -- a byte with a quiet act only moves the record on
   pub quiet_step : (st : Step) → st ≡ step_of x.mode (top_at w x.level) b → passes st.act st.ends b ≡ true
       → mem (moved x b st.mode x.level x.len) root key w ≡ step_mem t n (mem x root key w) b
@@ -118,10 +109,6 @@ module _ (t : Table) (n : ℕ) (x : Progress) (root : Bool) (key w : List ℕ) (
       ∙ quiet-acted st.act x n b st.mode told.1))
 
 -- ---- how far a piece is read
-
--- a place in the piece up to the end, counted from the start
-pub count_fits : (len from pos end i : ℕ) → end ≡ from + min (len - from) (16777216 - pos) → pos ≤ 4294967295 → i ≤ end → pos + (i - from) ≤ 4294967295
-count_fits len from pos end i e p h = omega arith
 
 -- the bytes from a place in the piece to the end make no record too long
 pub rest-fits : (len from pos end i : ℕ) → end ≡ from + min (len - from) (16777216 - pos) → from ≤ i → i < end → pos + (i - from) + (end - i) ≤ 16777216

@@ -1,67 +1,36 @@
 -- Keeping the characters of a key gives what reading them one by one gives: laws in the form of the needs of `keep`. Assumes nothing.
-use mathlib.Core.Bool.{Bool, true, false, cond}
+use Rattle.std.specs.Prelude.{None}
+use mathlib.Core.Bool.{Bool, true, false}
 use mathlib.Core.List.{List}
 use mathlib.Core.Path.{◌≡◌, refl, sym, ap, ◌∙◌}
 use Prim.Native.Nat.{ℕ, ◌+◌, ◌-◌, ◌<◌, ◌≤◌, min}
 use native.Mathlib.Omega.{arith}
 use lib.Dec.{ltb}
-use lib.ListN.{length, get_or}
+use lib.ListN.{length, get_or, take, drop}
 use Rattle.json_text.specs.Classes.{class_of}
 use Rattle.json_text.specs.Lexer.{lead_bits, step_to, key_step, step_of}
-use Rattle.json_text.specs.declared.class.Class.{Class}
-use Rattle.json_text.specs.declared.string.StringMode.{StringMode}
 use Rattle.json_text.specs.declared.string.StringMode.TheVariants as S
 use Rattle.json_text.specs.declared.string.StringMove.{StringMove}
 use Rattle.json_text.specs.declared.lexer.Mode.{Mode}
 use Rattle.json_text.specs.declared.lexer.Mode.TheVariants as M
 use Rattle.json_text.specs.declared.lexer.Act.TheVariants as A
 use Rattle.table.specs.Table.{Table}
-use Rattle.progress.specs.declared.Fault.TheVariants as F
 use Rattle.progress.specs.declared.Progress.{Progress}
 use Rattle.progress.specs.declared.Advanced.{Advanced}
 use Rattle.progress.specs.Act.{kept_key_len, key_task, kept_in}
 use Rattle.laws.specs.Count.{bump}
 use Rattle.progress.specs.Progress.{advance, char_in, moved, advanced}
 use Rattle.progress.specs.Memory.{mem, top_at, perform, step_mem}
-use Rattle.chars.specs.Table.{class_table, class_at}
-use Rattle.chars.proofs.TableLaws.{class_at-class_table}
 use Rattle.progress.proofs.ActLaws.{length-kept_in}
-use Rattle.pass.specs.Pass.{plain_class, awaits_char, registers_of, with_bits, is_reading, keeps_in, keeps_chars, placed, PlainAt, KeptTo}
+use Rattle.pass.specs.Pass.{plain_class, awaits_char, with_bits, is_reading, keeps_in, keeps_chars, placed, StaysFor, KeptTo}
 use Rattle.pass.proofs.ByteLaws.{advanced-acted, bump-below, never, next-run, reads-told}
-use Rattle.pass.proofs.StayLaws.{plain-below, plain-char, plain-lead, plain_other}
+use Rattle.pass.proofs.StayLaws.{char-awaited, both-true, stayed-part, plain-below, plain-char, plain-lead, plain_other}
 
 -- ---- the characters of a key
 
-keeps-mode : (s : StringMode) (v : Bool) → cond (awaits_char s) v false ≡ true → (s ≡ S.Char) × (v ≡ true)
-keeps-mode S.Char v e = (refl, e)
-keeps-mode S.Escape v e = never e
-keeps-mode S.Unit1 v e = never e
-keeps-mode S.Unit2 v e = never e
-keeps-mode S.UnitD v e = never e
-keeps-mode S.Unit3 v e = never e
-keeps-mode S.Unit4 v e = never e
-keeps-mode S.High3 v e = never e
-keeps-mode S.High4 v e = never e
-keeps-mode S.LowBackslash v e = never e
-keeps-mode S.LowU v e = never e
-keeps-mode S.Low1 v e = never e
-keeps-mode S.Low2 v e = never e
-keeps-mode S.Low3 v e = never e
-keeps-mode S.Low4 v e = never e
-keeps-mode S.SecondC2 v e = never e
-keeps-mode S.SecondE0 v e = never e
-keeps-mode S.SecondE1 v e = never e
-keeps-mode S.SecondED v e = never e
-keeps-mode S.SecondEE v e = never e
-keeps-mode S.SecondF0 v e = never e
-keeps-mode S.SecondF1 v e = never e
-keeps-mode S.SecondF4 v e = never e
-keeps-mode S.Tail2 v e = never e
-keeps-mode S.Tail1 v e = never e
-
 keeps-by : (m : Mode) (x : Progress) → keeps_in m x ≡ true → (m ≡ M.Key S.Char) × (is_reading x ≡ true)
 keeps-by (M.At p) x e = never e
-keeps-by (M.Key s) x e = let told = keeps-mode s (is_reading x) e in (ap M.Key told.0, told.1)
+keeps-by (M.Key s) x e = let told = both-true (awaits_char s) (is_reading x) e in (ap M.Key (char-awaited s told.0), told.1)
 keeps-by (M.Text s) x e = never e
 keeps-by (M.Number n) x e = never e
 keeps-by (M.Word w i) x e = never e
@@ -77,7 +46,7 @@ unfolding key_task kept_in
 key-char y t b root key w true e l = simp (e, l)
 key-char y t b root key w false e l = simp e
 
-key_step-kept : (t : Table) (n : ℕ) (y : Progress) (root : Bool) (key w : List ℕ) (b : ℕ) → y.mode ≡ M.Key S.Char → y.head ≡ false → y.fault ≡ F.Sound
+key_step-kept : (t : Table) (n : ℕ) (y : Progress) (root : Bool) (key w : List ℕ) (b : ℕ) → y.mode ≡ M.Key S.Char → y.head ≡ false → y.fault ≡ None
     → y.pos < 16777216 → b < 256 → plain_class (class_of b) ≡ true
     → step_mem t n (mem y root key w) b ≡ mem (moved y b (M.Key S.Char) y.level (kept_key_len y.len b)) root (kept_in key y.len b) w
 unfolding step_mem
@@ -97,9 +66,6 @@ key-place : (x : Progress) (m : Mode) (bits p len q more b : ℕ) (root : Bool) 
     → mem (moved (placed x m (with_bits x bits) p len) b (M.Key S.Char) x.level (kept_key_len len b)) root (kept_in key len b) w
     ≡ mem (placed x m (with_bits x 0) q more) root next w
 key-place x m bits p len q more b root key next w e f g h k = rw (e, f, h, k, g)
-
-pub kept-none : (x : Progress) (s : List ℕ) (from : ℕ) (key : List ℕ) → from ≤ length s → KeptTo x s from key x from key
-kept-none x s from key h = record { low = omega arith; high = h; length = refl; same = λ t n root w. refl }
 
 module _ (x : Progress) (s : List ℕ) (from : ℕ) (old : List ℕ) (o : keeps_chars x ≡ true) where
   -- a plain character of a key is kept
@@ -126,29 +92,16 @@ module _ (x : Progress) (s : List ℕ) (from : ℕ) (old : List ℕ) (o : keeps_
 
 -- ---- the loop, up to the end of the piece or of the longest record
 
--- with the class of each byte from the lent table, the test is that of a plain character
-pub plain-of-lent : (s : List ℕ) (at : ℕ) (classes : List ℕ) (k : Class) (v : Bool) → get_or s at 0 < 256 → classes ≡ class_table → k ≡ class_at classes (get_or s at 0)
-    → v ≡ plain_class k → PlainAt s at v
-plain-of-lent s at classes k v h c e p =
-    record {
-      small = h;
-      told = p ∙ ap plain_class (e ∙ ap (λ (t : List ℕ). class_at t (get_or s at 0)) c ∙ class_at-class_table (get_or s at 0) h);
-    }
-
-pub kept-start : (x : Progress) (s : List ℕ) (from : ℕ) (key : List ℕ) → from ≤ length s
-    → KeptTo x s from key (placed x x.mode (registers_of x) (x.pos + (from - from)) x.len) from key
-kept-start x s from key h = let z : x.pos + (from - from) ≡ x.pos = omega arith in rw z (kept-none x s from key h)
-
--- the record y as it was put together
-pub kept_at : (x : Progress) (s : List ℕ) (from : ℕ) (old : List ℕ) (y z : Progress) (at : ℕ) (key : List ℕ) → y ≡ z → KeptTo x s from old z at key → KeptTo x s from old y at key
-kept_at x s from old y z at key e r = rw e r
-
 module _ (x : Progress) (s : List ℕ) (from end : ℕ) (old : List ℕ) (o : keeps_chars x ≡ true) (w : from ≤ length s)
     (d : end ≡ from + min (length s - from) (16777216 - x.pos)) where
-  pub kept_on : (bits len i more : ℕ) (key next : List ℕ) (v : Bool)
-      → KeptTo x s from old (placed x x.mode (with_bits x bits) (x.pos + (i - from)) len) i key → i < end → PlainAt s i v → v ≡ true
-      → next ≡ kept_in key len (get_or s i 0) → more ≡ kept_key_len len (get_or s i 0)
-      → KeptTo x s from old (placed x x.mode (with_bits x 0) (x.pos + (i + 1 - from)) more) (i + 1) next
-  kept_on bits len i more key next v r l p q g u =
-      keep-on x s from old o bits (x.pos + (i - from)) len i (x.pos + (i + 1 - from)) more key next r (omega arith) (omega (arith, r.low)) p.small
-      (sym p.told ∙ q) g u (omega (arith, r.low))
+  -- the first n bytes from place `from` on are plain characters
+  module _ (n : ℕ) (g : StaysFor (M.Text S.Char) (take (end - from) (drop from s)) n) where
+    pub kept_on : (bits len i more c : ℕ) (key next : List ℕ)
+        → KeptTo x s from old (placed x x.mode (with_bits x bits) (x.pos + (i - from)) len) i key → i < from + n
+        → next ≡ kept_in key len (get_or s i 0) → c ≡ get_or s i 0 → more ≡ kept_key_len len c
+        → KeptTo x s from old (placed x x.mode (with_bits x 0) (x.pos + (i + 1 - from)) more) (i + 1) next
+    kept_on bits len i more c key next r l h b u =
+        let a = stayed-part (M.Text S.Char) s from end n (omega arith) (omega arith) g in
+        let told = a.stays i r.low l in
+        keep-on x s from old o bits (x.pos + (i - from)) len i (x.pos + (i + 1 - from)) more key next r (omega (arith, a.high)) (omega (arith, r.low, a.high)) told.0
+        told.1 h (u ∙ ap (kept_key_len len) b) (omega (arith, r.low))

@@ -1,12 +1,13 @@
 -- Passing over bytes gives what reading them one by one gives: laws in the form of the needs of `pass`. Assumes nothing.
-use mathlib.Core.Bool.{Bool, true, false, cond}
+use mathlib.Core.Bool.{Bool, true, false}
 use mathlib.Core.List.{List}
 use mathlib.Core.Path.{◌≡◌, refl, sym, ap, ◌∙◌}
 use Prim.Native.Nat.{ℕ, suc, ◌+◌, ◌-◌, ◌<◌, ◌≤◌, min}
 use native.Mathlib.Omega.{arith}
 use lib.Dec.{ltb}
-use lib.ListN.{length, get_or, drop}
-use borrow.Author.Tests.{le-ltb, ltb-true, ltb-false, ne_eqb}
+use lib.ListN.{length, get_or, take, drop}
+use borrow.Author.Tests.{ltb-true, ltb-false, ne_eqb}
+use Rattle.std.specs.Prelude.{Option, Some, None, MatchOption}
 use Rattle.json_text.specs.Lexer.{number_move, number_step, step_to, step_of}
 use Rattle.json_text.specs.declared.number.NumberMode.{NumberMode}
 use Rattle.json_text.specs.declared.number.NumberMove.{NumberMove}
@@ -17,27 +18,21 @@ use Rattle.json_text.specs.declared.lexer.Mode.TheVariants as M
 use Rattle.json_text.specs.declared.lexer.Act.TheVariants as A
 use Rattle.json_text.specs.declared.lexer.Step.{Step}
 use Rattle.whole.specs.declared.Decimal.{Decimal}
-use Rattle.whole.specs.Count.{bounded, counted_from}
+use Rattle.whole.specs.Count.{bounded, counted_from, counted_all}
+use Rattle.whole.proofs.RunLaws.{counted-part}
 use Rattle.table.specs.Table.{Table}
-use Rattle.progress.specs.declared.Fault.{Fault}
-use Rattle.progress.specs.declared.Fault.TheVariants as F
 use Rattle.progress.specs.declared.Progress.{Progress}
 use Rattle.progress.specs.Act.{number_before, number_to}
-use Rattle.progress.specs.Progress.{bits_in, high_in, sound, advanced}
+use Rattle.progress.specs.Progress.{bits_in, high_in}
 use Rattle.progress.specs.Memory.{mem, top_at, run_mem}
-use Rattle.chars.specs.Table.{class_table, class_at}
-use Rattle.lexer.specs.Given.{step_by}
-use Rattle.lexer.proofs.GivenLaws.{step_by-class_table}
-use Rattle.pass.specs.Pass.{StayedTo, bits_over, number_over}
-use Rattle.pass.specs.Pass.{registers, registers_of, settled, registers_over, registers_after, part_of, Stands}
-use Rattle.pass.specs.Pass.{passes, is_sound, is_reading, placed, reached, passed_at, RunsTo, PassedTo}
-use Rattle.pass.specs.declared.Part.{Part}
-use Rattle.pass.specs.declared.Part.TheVariants as Of
+use Rattle.pass.specs.Pass.{StaysFor, StayedTo, bits_over, number_over}
+use Rattle.pass.specs.Pass.{registers, registers_of, settled, registers_over, registers_after, Stands}
+use Rattle.pass.specs.Pass.{passes, is_reading, placed, reached, passed_at, RunsTo, PassedTo}
 use Rattle.pass.specs.declared.Passed.{Passed}
 use Rattle.pass.specs.declared.Registers.{Registers}
-use Rattle.pass.proofs.ByteLaws.{bump-below, never, next-run, passes-quiet, quiet_step, reads-told, rest-fits, byte_fits, count-more, in-piece}
+use Rattle.pass.proofs.ByteLaws.{bump-below, next-run, passes-quiet, quiet_step, reads-told, rest-fits, byte_fits, count-more, in-piece}
 use Rattle.pass.proofs.NumberLaws.{number-none, number-on, number_same, number-last, go-other}
-use Rattle.pass.proofs.StayLaws.{stay-some}
+use Rattle.pass.proofs.StayLaws.{stay-some, stayed-part}
 
 -- ---- passing over: the record x is read
 
@@ -59,26 +54,13 @@ abbrev stayed_at : Mode → Registers → List ℕ → ℕ → ℕ → ℕ → R
 stayed_at m g s since i j = registers (bits_over (ltb i j) m g.bits) g.high (number_over m g.number s since (j - since))
 
 -- a mode that is none of a number has none to count
-other-over : (m : Mode) (g : Registers) (s : List ℕ) (since i j : ℕ) → part_of m ≡ Of.Other → registers_over (ltb i j) m g ≡ stayed_at m g s since i j
+other-over : (m : Mode) (g : Registers) (s : List ℕ) (since i j : ℕ) → ((n : NumberMode) → m ≡ M.Number n → ⊥) → registers_over (ltb i j) m g ≡ stayed_at m g s since i j
 unfolding registers_over
 other-over (M.At p) g s since i j e = refl
 other-over (M.Key t) g s since i j e = refl
 other-over (M.Text t) g s since i j e = refl
-other-over (M.Number n) g s since i j e = let z : ◌≡◌ {A = ℕ} 0 1 = cc in absurd (omega arith)
+other-over (M.Number n) g s since i j e = absurd (e n refl)
 other-over (M.Word w k) g s since i j e = refl
-
--- the mode of a part
-mode-of-part : (m : Mode) (n : NumberMode) → part_of m ≡ Of.Number n → m ≡ M.Number n
-mode-of-part (M.At p) n e = let z : ◌≡◌ {A = ℕ} 0 1 = cc in absurd (omega arith)
-mode-of-part (M.Key t) n e = let z : ◌≡◌ {A = ℕ} 0 1 = cc in absurd (omega arith)
-mode-of-part (M.Text t) n e = let z : ◌≡◌ {A = ℕ} 0 1 = cc in absurd (omega arith)
-mode-of-part (M.Number k) n e = cc
-mode-of-part (M.Word w k) n e = let z : ◌≡◌ {A = ℕ} 0 1 = cc in absurd (omega arith)
-
--- the loop of numbers takes over
-pub stands-in : (x : Progress) (top : Top) (s : List ℕ) (from end : ℕ) (m : Mode) (n : NumberMode) (g : Registers) (since i : ℕ) (p : Part)
-    → Stands x top s from end m g since i → p ≡ part_of m → p ≡ Of.Number n → Stands x top s from end (M.Number n) g since i
-stands-in x top s from end m n g since i p r e q = rw (mode-of-part m n (sym e ∙ q)) at r
 
 -- the bits of no character stay
 number-over : (n : NumberMode) (g : Registers) (s : List ℕ) (since i j : ℕ)
@@ -144,27 +126,6 @@ module _ (x : Progress) (top : Top) (s : List ℕ) (o : is_reading x ≡ true) w
             (quiet_step t n x root key w b told.0 told.1 v st (e ∙ ap (λ (k : Top). step_of x.mode k b) (sym z)) c));
       }
 
--- with the class of each byte from the lent table, a step is the lexer's
-pub step-of-lent : (m : Mode) (top : Top) (b : ℕ) (classes : List ℕ) (st : Step) → b < 256 → classes ≡ class_table → st ≡ step_by (class_at classes b) m top b → st ≡ step_of m top b
-step-of-lent m top b classes st h c a = a ∙ ap (λ (k : List ℕ). step_by (class_at k b) m top b) c ∙ step_by-class_table m top b h
-
--- of a record that is not read the step does not matter
-unread-by : (x : Progress) (n b : ℕ) (a z : Step) (h : Bool) (f : Fault) → x.head ≡ h → x.fault ≡ f → cond h false (is_sound f) ≡ false → advanced x n b a ≡ advanced x n b z
-unfolding advanced
-unread-by x n b a z true f p q r = rw p
-unread-by x n b a z false F.Sound p q r = never (sym r)
-unread-by x n b a z false F.Malformed p q r = rw (p, q)
-unread-by x n b a z false F.TooDeep p q r = rw (p, q)
-unread-by x n b a z false F.TooLong p q r = rw (p, q)
-
-unread : (x : Progress) (n b : ℕ) (a z : Step) → is_reading x ≡ false → advanced x n b a ≡ advanced x n b z
-unfolding is_reading
-unread x n b a z e = unread-by x n b a z x.head x.fault refl refl e
-
-pub out-unread : (x : Progress) (top : Top) (s : List ℕ) (from : ℕ) (st : Step) → from ≤ length s → is_reading x ≡ false → PassedTo x top s from x from st
-out-unread x top s from st h e =
-    record { runs = runs_none x top s from h; step = λ n l. unread x n (get_or s from 0) st (step_of x.mode top (get_or s from 0)) e }
-
 -- ---- the loop, up to the end of the piece or of the longest record
 
 pub stands-first : (x : Progress) (top : Top) (s : List ℕ) (from end : ℕ) (g : Registers) → from ≤ length s
@@ -172,10 +133,6 @@ pub stands-first : (x : Progress) (top : Top) (s : List ℕ) (from end : ℕ) (g
 stands-first x top s from end g h d e =
     let z : x.pos + (from - from) ≡ x.pos = omega arith in
     record { below = omega arith; counted = omega arith; runs = rw (e, z, number_same x.mode x.number s from) (runs_none x top s from h) }
-
-too_long : (y : Progress) (n b : ℕ) (a z : Step) → y.head ≡ false → y.fault ≡ F.Sound → 16777216 ≤ y.pos → advanced y n b a ≡ advanced y n b z
-unfolding advanced sound
-too_long y n b a z h f p = rw (h, f, le-ltb y.pos 16777216 p)
 
 module _ (x : Progress) (top : Top) (s : List ℕ) (from end : ℕ) (o : is_reading x ≡ true) (w : from ≤ length s)
     (d : end ≡ from + min (length s - from) (16777216 - x.pos)) where
@@ -191,22 +148,13 @@ module _ (x : Progress) (top : Top) (s : List ℕ) (from end : ℕ) (o : is_read
         (rw (e, z, number-on m c.number s since i j r.counted g.low)
         (stay-on (reached x m (settled m c s since i) from i) top s o i end j g l (λ h. rest-fits (length s) from x.pos end i d r.runs.low h)))
 
-    -- at the end of the piece, or where the record is too long
-    stayed-out : (y : Passed) (st : Step) → j ≡ end → y ≡ passed_at x m more from j st → PassedTo x top s from y.progress y.at y.step
-    stayed-out y st q f =
-        let told = reads-told x o in
-        rw f
-        record {
-          runs = stayed;
-          step = λ n h. too_long (reached x m more from j) n (get_or s j 0) st (step_of m top (get_or s j 0)) told.0 told.1 (omega (arith, stayed.low));
-        }
+    -- the byte at j, if there is one, is not passed over
+    out : (y : Passed) (st : Option Step) → y ≡ passed_at x m more from j st
+        → MatchOption st (j ≡ length s) (λ z. (j < length s) × (z ≡ step_of m top (get_or s j 0))) → PassedTo x top s from y.progress y.at y.step
+    out y st f h = rw f record { runs = stayed; step = h }
 
     -- of the byte at j the lexer makes the step st
     module _ (st : Step) (a : st ≡ step_of m top (get_or s j 0)) where
-      -- the byte at j is not passed over
-      byte-out : (y : Passed) → y ≡ passed_at x m more from j st → PassedTo x top s from y.progress y.at y.step
-      byte-out y f = rw f record { runs = stayed; step = λ n l. ap (λ (z : Step). advanced (reached x m more from j) n (get_or s j 0) z) a }
-
       -- the byte at j is passed over
       byte-on : (next : Registers) → (j ≡ end → ⊥) → passes st.act st.ends (get_or s j 0) ≡ true
           → next ≡ registers_after m st.mode more (get_or s j 0) → Stands x top s from end st.mode next j (j + 1)
@@ -223,54 +171,69 @@ module _ (x : Progress) (top : Top) (s : List ℕ) (from end : ℕ) (o : is_read
 
   -- ---- the loop over other bytes than those of a number
 
-  module _ (m : Mode) (p : Part) (c : Registers) (since i j : ℕ) (more : Registers) (t : p ≡ part_of m) (u : p ≡ Of.Other)
-      (r : Stands x top s from end m c since i) (g : StayedTo m s i end j) (e : more ≡ registers_over (ltb i j) m c) where
-    same : more ≡ stayed_at m c s since i j
-    same = e ∙ other-over m c s since i j (sym t ∙ u)
+  -- the loop over other bytes than those of a number: k bytes from place i on leave the mode as it is
+  module _ (m : Mode) (c : Registers) (since i k : ℕ) (more : Registers) (u : (n : NumberMode) → m ≡ M.Number n → ⊥)
+      (r : Stands x top s from end m c since i) (q : StaysFor m (take (end - i) (drop i s)) k) (e : more ≡ registers_over (ltb i (i + k)) m c) where
+    other-stay : StayedTo m s i end (i + k)
+    other-stay = stayed-part m s i end k r.below (omega arith) q
 
-    pub out-stayed : (y : Passed) (st : Step) → j ≡ end → y ≡ passed_at x m more from j st → PassedTo x top s from y.progress y.at y.step
-    out-stayed y st q f = stayed-out m c since i j more r g same y st q f
+    other-same : more ≡ stayed_at m c s since i (i + k)
+    other-same = e ∙ other-over m c s since i (i + k) u
 
-    module _ (st : Step) (a : st ≡ step_of m top (get_or s j 0)) where
-      pub out-at-byte : (y : Passed) → y ≡ passed_at x m more from j st → PassedTo x top s from y.progress y.at y.step
-      out-at-byte y f = byte-out m c since i j more r g same st a y f
+    -- up to the end of the piece
+    pub other-end : (y : Passed) → y ≡ passed_at x m more from (i + k) None → length s ≤ i + k → PassedTo x top s from y.progress y.at y.step
+    other-end y f l = out m c since i (i + k) more r other-stay other-same y None f (omega (arith, other-stay.high))
 
-      pub passed_on : (next : Registers) (v : Bool) → (j ≡ end → ⊥) → v ≡ passes st.act st.ends (get_or s j 0) → v ≡ true
-          → next ≡ registers_after m st.mode more (get_or s j 0) → Stands x top s from end st.mode next j (j + 1)
-      passed_on next v n q y f = byte-on m c since i j more r g same st a next n (sym q ∙ y) f
+    module _ (b : ℕ) (a : b ≡ get_or s (i + k) 0) (st : Step) (t : st ≡ step_of m top b) where
+      own : st ≡ step_of m top (get_or s (i + k) 0)
+      own = t ∙ ap (step_of m top) a
 
-  -- ---- the loop over the bytes of a number
+      -- up to byte b
+      pub other-at-byte : (y : Passed) → y ≡ passed_at x m more from (i + k) (Some st) → i + k < length s → PassedTo x top s from y.progress y.at y.step
+      other-at-byte y f l = out m c since i (i + k) more r other-stay other-same y (Some st) f (l, own)
 
-  module _ (n : NumberMode) (c : Registers) (old new : Decimal) (since i j : ℕ)
-      (r : Stands x top s from end (M.Number n) (registers c.bits c.high old) since i) (g : StayedTo (M.Number n) s i end j)
-      (e : new ≡ counted_from bounded n old s since (j - since)) where
+      -- byte b is passed over too
+      pub other-goes : (next : Registers) (v : Bool) → (i + k ≡ end → ⊥) → v ≡ passes st.act st.ends b → v ≡ true → next ≡ registers_after m st.mode more b
+          → Stands x top s from end st.mode next (i + k) (i + k + 1)
+      other-goes next v n p h f =
+          byte-on m c since i (i + k) more r other-stay other-same st own next n (ap (passes st.act st.ends) (sym a) ∙ sym p ∙ h) (f ∙ ap (registers_after m st.mode more) a)
+
+  -- the loop over the bytes of a number: k bytes from place i on leave its mode as it is
+  module _ (n : NumberMode) (c : Registers) (new : Decimal) (since i k : ℕ)
+      (r : Stands x top s from end (M.Number n) c since i) (q : StaysFor (M.Number n) (take (end - i) (drop i s)) k)
+      (e : new ≡ counted_all bounded n c.number (take (i + k - since) (drop since s))) where
     now : Registers
     now = registers c.bits c.high new
 
-    same_number : now ≡ stayed_at (M.Number n) (registers c.bits c.high old) s since i j
-    unfolding now
-    same_number = rw e (number-over n (registers c.bits c.high old) s since i j)
+    number-stay : StayedTo (M.Number n) s i end (i + k)
+    number-stay = stayed-part (M.Number n) s i end k r.below (omega arith) q
 
-    pub number-out : (u : Registers) (y : Passed) (st : Step) → j ≡ end → u ≡ registers c.bits c.high new → y ≡ passed_at x (M.Number n) u from j st
+    number-now : now ≡ stayed_at (M.Number n) c s since i (i + k)
+    unfolding now
+    number-now =
+        let l : since + (i + k - since) ≤ length s = omega (arith, number-stay.high, r.counted) in
+        rw e (ap (λ (y : Decimal). registers c.bits c.high y) (counted-part n (i + k - since) c.number s since l) ∙ number-over n c s since i (i + k))
+
+    -- up to the end of the piece
+    pub number-end : (y : Passed) → y ≡ passed_at x (M.Number n) (registers c.bits c.high new) from (i + k) None → length s ≤ i + k
         → PassedTo x top s from y.progress y.at y.step
     unfolding now
-    number-out u y st q e f =
-        stayed-out (M.Number n) (registers c.bits c.high old) since i j now r g same_number y st q
-        (f ∙ ap (λ (v : Registers). passed_at x (M.Number n) v from j st) e)
+    number-end y f l = out (M.Number n) c since i (i + k) now r number-stay number-now y None f (omega (arith, number-stay.high))
 
-    pub number-at-byte : (st : Step) (u : Registers) (y : Passed) → st ≡ number_step (number_move n (get_or s j 0)) top (get_or s j 0)
-        → u ≡ registers c.bits c.high new → y ≡ passed_at x (M.Number n) u from j st → PassedTo x top s from y.progress y.at y.step
-    unfolding now
-    number-at-byte st u y a e f =
-        byte-out (M.Number n) (registers c.bits c.high old) since i j now r g same_number st a y
-        (f ∙ ap (λ (v : Registers). passed_at x (M.Number n) v from j st) e)
+    module _ (b : ℕ) (a : b ≡ get_or s (i + k) 0) where
+      -- up to byte b
+      pub number-at-byte : (st : Step) (y : Passed) → st ≡ number_step (number_move n b) top b
+          → y ≡ passed_at x (M.Number n) (registers c.bits c.high new) from (i + k) (Some st) → i + k < length s → PassedTo x top s from y.progress y.at y.step
+      unfolding now
+      number-at-byte st y t f l =
+          out (M.Number n) c since i (i + k) now r number-stay number-now y (Some st) f (l, t ∙ ap (step_of (M.Number n) top) a)
 
-    pub number-goes : (k : NumberMove) (next : NumberMode) → (j ≡ end → ⊥) → k ≡ number_move n (get_or s j 0) → k ≡ NM.Go next
-        → Stands x top s from end (M.Number next) (registers c.bits c.high new) j (j + 1)
-    unfolding now registers_after passes
-    number-goes k next l a q =
-        let b = get_or s j 0 in
-        let goes : number_move n b ≡ NM.Go next = sym a ∙ q in
-        let other = go-other n next b goes in
-        byte-on (M.Number n) (registers c.bits c.high old) since i j now r g same_number (step_to (M.Number next) A.NumberByte)
-        (ap (λ (z : NumberMove). number_step z top b) (sym goes)) now l (rw (ne_eqb b 0x1E other)) refl
+      -- byte b is passed over too
+      pub number-goes : (v : NumberMove) (next : NumberMode) → v ≡ number_move n b → v ≡ NM.Go next → i + k < end
+          → Stands x top s from end (M.Number next) (registers c.bits c.high new) (i + k) (i + k + 1)
+      unfolding now registers_after passes
+      number-goes v next p h l =
+          let goes : number_move n (get_or s (i + k) 0) ≡ NM.Go next = ap (number_move n) (sym a) ∙ sym p ∙ h in
+          let other = go-other n next (get_or s (i + k) 0) goes in
+          byte-on (M.Number n) c since i (i + k) now r number-stay number-now (step_to (M.Number next) A.NumberByte)
+          (ap (λ (z : NumberMove). number_step z top (get_or s (i + k) 0)) (sym goes)) now (λ z. omega arith) (rw (ne_eqb (get_or s (i + k) 0) 0x1E other)) refl

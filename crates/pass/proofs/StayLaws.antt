@@ -1,12 +1,13 @@
 -- Bytes that leave the mode as it is, one by one and passed over at once. Assumes nothing.
+use Rattle.std.specs.Prelude.{None}
 use mathlib.Core.Bool.{Bool, true, false, cond, ◌&&◌}
 use mathlib.Core.List.{List}
-use mathlib.Core.Path.{◌≡◌, refl, sym, ap, ◌∙◌}
-use Prim.Native.Nat.{ℕ, zero, suc, ◌+◌, ◌<◌, ◌≤◌}
+use mathlib.Core.Path.{◌≡◌, refl, sym, ap, subst, ◌∙◌}
+use Prim.Native.Nat.{ℕ, zero, suc, ◌+◌, ◌-◌, ◌<◌, ◌≤◌}
 use native.Mathlib.Omega.{arith}
-use native.Mathlib.Decide.{dec_lt}
 use lib.Dec.{T, eqb, ltb, eqb→eq}
-use lib.ListN.{length, get_or, drop}
+use lib.ListN.{length, get_or, take, drop, length-drop}
+use Rattle.std.proofs.lemmas.List.{length-take, get_or-take, get_or-drop}
 use borrow.Author.Tests.{ne_eqb}
 use Rattle.laws.specs.Tab.{every}
 use Rattle.laws.proofs.TabLaws.{T-of-every}
@@ -35,15 +36,12 @@ use Rattle.json_text.specs.declared.lexer.Act.TheVariants as A
 use Rattle.whole.specs.declared.Decimal.{Decimal}
 use Rattle.whole.specs.Count.{counted_from}
 use Rattle.table.specs.Table.{Table}
-use Rattle.progress.specs.declared.Fault.TheVariants as F
 use Rattle.progress.specs.declared.Progress.{Progress}
 use Rattle.progress.specs.Act.{number_before, number_to}
 use Rattle.laws.specs.Count.{bump}
 use Rattle.progress.specs.Progress.{bits_in, high_in}
 use Rattle.progress.specs.Memory.{mem, top_at, run_mem}
-use Rattle.chars.specs.Table.{class_table, class_at}
-use Rattle.chars.proofs.TableLaws.{class_at-class_table}
-use Rattle.pass.specs.Pass.{plain_class, awaits_char, in_digits, stays_in, StayedTo, number_over, registers, is_quiet, passes, placed}
+use Rattle.pass.specs.Pass.{plain_class, awaits_char, in_digits, stays_in, StaysFor, StayedTo, number_over, registers, is_quiet, passes, placed}
 use Rattle.pass.proofs.ByteLaws.{bump-below, never, next-run, quiet_step}
 use Rattle.pass.proofs.NumberLaws.{number_more}
 
@@ -126,9 +124,42 @@ plain-char C.LeadF1 e = never e
 plain-char C.LeadF4 e = never e
 plain-char C.Never e = never e
 
-text-stays : (s : StringMode) (top : Top) (b : ℕ) → b < 256 → cond (awaits_char s) (plain_class (class_of b)) false ≡ true → StaysAs (M.Text s) top b
+-- a string's mode that awaits a character
+pub char-awaited : (s : StringMode) → awaits_char s ≡ true → s ≡ S.Char
+char-awaited S.Char e = refl
+char-awaited S.Escape e = never e
+char-awaited S.Unit1 e = never e
+char-awaited S.Unit2 e = never e
+char-awaited S.UnitD e = never e
+char-awaited S.Unit3 e = never e
+char-awaited S.Unit4 e = never e
+char-awaited S.High3 e = never e
+char-awaited S.High4 e = never e
+char-awaited S.LowBackslash e = never e
+char-awaited S.LowU e = never e
+char-awaited S.Low1 e = never e
+char-awaited S.Low2 e = never e
+char-awaited S.Low3 e = never e
+char-awaited S.Low4 e = never e
+char-awaited S.SecondC2 e = never e
+char-awaited S.SecondE0 e = never e
+char-awaited S.SecondE1 e = never e
+char-awaited S.SecondED e = never e
+char-awaited S.SecondEE e = never e
+char-awaited S.SecondF0 e = never e
+char-awaited S.SecondF1 e = never e
+char-awaited S.SecondF4 e = never e
+char-awaited S.Tail2 e = never e
+char-awaited S.Tail1 e = never e
+
+-- two tests of which the first chooses the second
+pub both-true : (u v : Bool) → cond u v false ≡ true → (u ≡ true) × (v ≡ true)
+both-true true v e = (refl, e)
+both-true false v e = never e
+
+char-stays : (top : Top) (b : ℕ) → b < 256 → plain_class (class_of b) ≡ true → StaysAs (M.Text S.Char) top b
 unfolding lead_bits
-text-stays S.Char top b h e =
+char-stays top b h e =
     record {
       act = A.TextChar;
       step = ap text_step (plain-char (class_of b) e);
@@ -139,30 +170,12 @@ text-stays S.Char top b h e =
       high = λ c g. refl;
       number = λ d s i q. refl;
     }
-text-stays S.Escape top b h e = never e
-text-stays S.Unit1 top b h e = never e
-text-stays S.Unit2 top b h e = never e
-text-stays S.UnitD top b h e = never e
-text-stays S.Unit3 top b h e = never e
-text-stays S.Unit4 top b h e = never e
-text-stays S.High3 top b h e = never e
-text-stays S.High4 top b h e = never e
-text-stays S.LowBackslash top b h e = never e
-text-stays S.LowU top b h e = never e
-text-stays S.Low1 top b h e = never e
-text-stays S.Low2 top b h e = never e
-text-stays S.Low3 top b h e = never e
-text-stays S.Low4 top b h e = never e
-text-stays S.SecondC2 top b h e = never e
-text-stays S.SecondE0 top b h e = never e
-text-stays S.SecondE1 top b h e = never e
-text-stays S.SecondED top b h e = never e
-text-stays S.SecondEE top b h e = never e
-text-stays S.SecondF0 top b h e = never e
-text-stays S.SecondF1 top b h e = never e
-text-stays S.SecondF4 top b h e = never e
-text-stays S.Tail2 top b h e = never e
-text-stays S.Tail1 top b h e = never e
+
+text-stays : (s : StringMode) (top : Top) (b : ℕ) → b < 256 → cond (awaits_char s) (plain_class (class_of b)) false ≡ true → StaysAs (M.Text s) top b
+text-stays s top b h e =
+    let told = both-true (awaits_char s) (plain_class (class_of b)) e in
+    let P : StringMode → Type 0 = λ k. StaysAs (M.Text k) top b in
+    subst P (sym (char-awaited s told.0)) (char-stays top b h told.1)
 
 -- a digit after which the mode of a number is the same
 digit-stays : (n : NumberMode) (top : Top) (b : ℕ) → is_digit b ≡ true → number_move n b ≡ NM.Go n → StaysAs (M.Number n) top b
@@ -190,7 +203,7 @@ number-stays N.E top b e = never e
 number-stays N.Sign top b e = never e
 number-stays N.Exp top b e = digit-stays N.Exp top b e (rw e)
 
-stays-as : (m : Mode) (top : Top) (b : ℕ) → b < 256 → stays_in (class_of b) m b ≡ true → StaysAs m top b
+stays-as : (m : Mode) (top : Top) (b : ℕ) → b < 256 → stays_in m b ≡ true → StaysAs m top b
 stays-as (M.At p) top b h e =
     record {
       act = A.Pass;
@@ -211,9 +224,9 @@ passes-quietly : (a : Act) (b : ℕ) → is_quiet a ≡ true → (b ≡ 0x1E →
 unfolding passes
 passes-quietly a b q r = rw (ne_eqb b 0x1E r, q)
 
-module _ (t : Table) (n : ℕ) (x : Progress) (m : Mode) (high : ℕ) (len : ℕ) (root : Bool) (key w s : List ℕ) (h : x.head ≡ false) (f : x.fault ≡ F.Sound) where
+module _ (t : Table) (n : ℕ) (x : Progress) (m : Mode) (high : ℕ) (len : ℕ) (root : Bool) (key w s : List ℕ) (h : x.head ≡ false) (f : x.fault ≡ None) where
   stay-one : (bits : ℕ) (d : Decimal) (p i : ℕ) → i < length s → p < 16777216 → get_or s i 0 < 256
-      → stays_in (class_of (get_or s i 0)) m (get_or s i 0) ≡ true
+      → stays_in m (get_or s i 0) ≡ true
       → run_mem t n (mem (placed x m (registers (bits_in m bits 0x20) high (number_over m d s i 1)) (p + 1) len) root key w) (i + 1) (drop (i + 1) s)
       ≡ run_mem t n (mem (placed x m (registers bits high d) p len) root key w) i (drop i s)
   stay-one bits d p i l q c e =
@@ -227,7 +240,7 @@ module _ (t : Table) (n : ℕ) (x : Progress) (m : Mode) (high : ℕ) (len : ℕ
       ∙ quiet_step t n y root key w b h f q (step_to m a.act) (sym a.step) (passes-quietly a.act b a.quiet a.other)))
 
   pub stay-some : (k bits : ℕ) (d : Decimal) (p i : ℕ) → i + suc k ≤ length s → p + suc k ≤ 16777216
-      → ((j : ℕ) → i ≤ j → j < i + suc k → (get_or s j 0 < 256) × (stays_in (class_of (get_or s j 0)) m (get_or s j 0) ≡ true))
+      → ((j : ℕ) → i ≤ j → j < i + suc k → (get_or s j 0 < 256) × (stays_in m (get_or s j 0) ≡ true))
       → run_mem t n (mem (placed x m (registers (bits_in m bits 0x20) high (number_over m d s i (suc k))) (p + suc k) len) root key w) (i + suc k)
       (drop (i + suc k) s)
       ≡ run_mem t n (mem (placed x m (registers bits high d) p len) root key w) i (drop i s)
@@ -245,29 +258,22 @@ module _ (t : Table) (n : ℕ) (x : Progress) (m : Mode) (high : ℕ) (len : ℕ
       (stay-some k (bits_in m bits 0x20) (number_over m d s i 1) (p + 1) (i + 1) (omega arith) (omega arith) (λ j y z. g j (omega arith) (omega arith))
       ∙ stay-one bits d p i (omega arith) (omega arith) c.0 c.1)
 
--- ---- the loop over bytes that leave the mode as it is
+-- ---- the bytes of a part of the piece
 
-pub stayed-none : (m : Mode) (s : List ℕ) (from end : ℕ) → from ≤ end → StayedTo m s from end from
-stayed-none m s from end h = record { low = omega arith; high = h; stays = λ k a b. absurd (omega arith) }
-
--- one byte more
-stayed-next : (m : Mode) (s : List ℕ) (from end i : ℕ) → StayedTo m s from end i → i < end → get_or s i 0 < 256
-    → stays_in (class_of (get_or s i 0)) m (get_or s i 0) ≡ true → StayedTo m s from end (i + 1)
-stayed-next m s from end i g h l own = record { low = omega (arith, g.low); high = omega arith; stays = λ k a b. go k a b (dec_lt k i) }
+-- those that leave the mode as it is, counted from place i on
+pub stayed-part : (m : Mode) (s : List ℕ) (i end k : ℕ) → i ≤ end → end ≤ length s → StaysFor m (take (end - i) (drop i s)) k → StayedTo m s i end (i + k)
+stayed-part m s i end k l h g = record {
+  low = omega arith;
+  high = omega (arith, g.bound, size);
+  stays = at;
+}
   where
-    go : (k : ℕ) → from ≤ k → k < i + 1 → Dec (k < i) → (get_or s k 0 < 256) × (stays_in (class_of (get_or s k 0)) m (get_or s k 0) ≡ true)
-    go k a b (yes c) = g.stays k a c
-    go k a b (no c) = let z : k ≡ i = omega arith in rw z (l, own)
+    size : length (take (end - i) (drop i s)) ≡ end - i
+    size = simp (length-take, length-drop) (omega arith)
 
-pub stayed-more : (m : Mode) (s : List ℕ) (from end i : ℕ) (classes : List ℕ) (v : Bool) → StayedTo m s from end i → i < end → get_or s i 0 < 256
-    → classes ≡ class_table → v ≡ stays_in (class_at classes (get_or s i 0)) m (get_or s i 0) → v ≡ true → StayedTo m s from end (i + 1)
-stayed-more m s from end i classes v g h l e p q =
-    stayed-next m s from end i g h l
-    (ap (λ (c : Class). stays_in c m (get_or s i 0)) (sym (ap (λ (t : List ℕ). class_at t (get_or s i 0)) e ∙ class_at-class_table (get_or s i 0) l))
-    ∙ sym p
-    ∙ q)
-
--- one digit more
-pub stayed-digit : (n : NumberMode) (s : List ℕ) (from end i : ℕ) (v : Bool) → StayedTo (M.Number n) s from end i → i < end → get_or s i 0 < 256
-    → v ≡ cond (in_digits n) (is_digit (get_or s i 0)) false → v ≡ true → StayedTo (M.Number n) s from end (i + 1)
-stayed-digit n s from end i v g h l p q = stayed-next (M.Number n) s from end i g h l (sym p ∙ q)
+    at : (j : ℕ) → i ≤ j → j < i + k → (get_or s j 0 < 256) × (stays_in m (get_or s j 0) ≡ true)
+    at j a b =
+        let z : i + (j - i) ≡ j = omega arith in
+        let less : j - i < end - i = omega (arith, g.bound, size) in
+        let P : ℕ → Type 0 = λ n. (n < 256) × (stays_in m n ≡ true) in
+        subst P (get_or-take (end - i) (drop i s) (j - i) 0 less ∙ get_or-drop i s (j - i) 0 ∙ ap (λ (n : ℕ). get_or s n 0) z) (g.stays (j - i) (omega arith))

@@ -1,6 +1,7 @@
 -- Bytes that only move a reader on, and what passing over them means: the run over the rest of a piece is the run over the whole of it. Derived:
 -- `pass_on` and `stay-on` of `PassLaws` and `keep-on` of `KeepLaws` join them to `step_mem` of crate progress. Assumes nothing.
-use Rattle.std.specs.Prelude.{Bool, true, false, cond, List, ◌≡◌, ℕ, ◌+◌, ◌-◌, ◌≤◌, ◌<◌, eqb, length, get_or, drop}
+use Rattle.std.specs.Prelude.{None}
+use Rattle.std.specs.Prelude.{Bool, true, false, cond, List, ◌≡◌, ℕ, ◌+◌, ◌-◌, ◌≤◌, ◌<◌, eqb, length, get_or, drop, Option, MatchOption}
 use Rattle.json_text.specs.Bytes.{is_blank}
 use Rattle.json_text.specs.Numbers.{is_digit}
 use Rattle.json_text.specs.Classes.{class_of}
@@ -21,13 +22,10 @@ use Rattle.whole.specs.declared.Decimal.{Decimal}
 use Rattle.whole.specs.Count.{bounded, counted_from}
 use Rattle.table.specs.Table.{Table}
 use Rattle.progress.specs.declared.Fault.{Fault}
-use Rattle.progress.specs.declared.Fault.TheVariants as F
 use Rattle.progress.specs.declared.Progress.{Progress}
 use Rattle.progress.specs.Act.{number_before}
-use Rattle.progress.specs.Progress.{bits_in, high_in, advanced}
+use Rattle.progress.specs.Progress.{bits_in, high_in}
 use Rattle.progress.specs.Memory.{mem, top_at, run_mem}
-use Rattle.pass.specs.declared.Part.{Part}
-use Rattle.pass.specs.declared.Part.TheVariants as Of
 use Rattle.pass.specs.declared.Passed.{Passed}
 use Rattle.pass.specs.declared.Registers.{Registers}
 
@@ -35,77 +33,41 @@ use Rattle.pass.specs.declared.Registers.{Registers}
 
 -- a byte of the class is a whole character of a string
 abbrev pub plain_class : Class → Bool
-plain_class C.Control = false
-plain_class C.Break = false
 plain_class C.Space = true
-plain_class C.Quote = false
-plain_class C.Backslash = false
 plain_class C.Structure = true
 plain_class C.Digit = true
 plain_class C.Other = true
-plain_class C.Tail = false
-plain_class C.LeadC2 = false
-plain_class C.LeadE0 = false
-plain_class C.LeadE1 = false
-plain_class C.LeadED = false
-plain_class C.LeadEE = false
-plain_class C.LeadF0 = false
-plain_class C.LeadF1 = false
-plain_class C.LeadF4 = false
-plain_class C.Never = false
+plain_class _ = false
 
 -- a character or the closing quotation mark is awaited
 abbrev pub awaits_char : StringMode → Bool
 awaits_char S.Char = true
-awaits_char S.Escape = false
-awaits_char S.Unit1 = false
-awaits_char S.Unit2 = false
-awaits_char S.UnitD = false
-awaits_char S.Unit3 = false
-awaits_char S.Unit4 = false
-awaits_char S.High3 = false
-awaits_char S.High4 = false
-awaits_char S.LowBackslash = false
-awaits_char S.LowU = false
-awaits_char S.Low1 = false
-awaits_char S.Low2 = false
-awaits_char S.Low3 = false
-awaits_char S.Low4 = false
-awaits_char S.SecondC2 = false
-awaits_char S.SecondE0 = false
-awaits_char S.SecondE1 = false
-awaits_char S.SecondED = false
-awaits_char S.SecondEE = false
-awaits_char S.SecondF0 = false
-awaits_char S.SecondF1 = false
-awaits_char S.SecondF4 = false
-awaits_char S.Tail2 = false
-awaits_char S.Tail1 = false
+awaits_char _ = false
 
 -- any number of digits may follow
 abbrev pub in_digits : NumberMode → Bool
-in_digits N.Minus = false
-in_digits N.Zero = false
 in_digits N.Int = true
-in_digits N.Dot = false
 in_digits N.Frac = true
-in_digits N.E = false
-in_digits N.Sign = false
 in_digits N.Exp = true
+in_digits _ = false
 
--- byte b of class k leaves the mode as it is
-abbrev pub stays_in : Class → Mode → ℕ → Bool
-stays_in k (M.At p) b = is_blank b
-stays_in k (M.Key s) b = false
-stays_in k (M.Text s) b = cond (awaits_char s) (plain_class k) false
-stays_in k (M.Number n) b = cond (in_digits n) (is_digit b) false
-stays_in k (M.Word w i) b = false
+-- byte b leaves the mode as it is
+abbrev pub stays_in : Mode → ℕ → Bool
+stays_in (M.At p) b = is_blank b
+stays_in (M.Text s) b = cond (awaits_char s) (plain_class (class_of b)) false
+stays_in (M.Number n) b = cond (in_digits n) (is_digit b) false
+stays_in _ b = false
+
+-- the first k bytes of s leave the mode m as it is
+pub record StaysFor (m : Mode) (s : List ℕ) (k : ℕ) : Type 0 where
+  pub bound : k ≤ length s
+  pub stays : (j : ℕ) → j < k → (get_or s j 0 < 256) × (stays_in m (get_or s j 0) ≡ true)
 
 -- the bytes of s from one place to another leave the mode m as it is; the other place is not past an end
 pub record StayedTo (m : Mode) (s : List ℕ) (from end at : ℕ) : Type 0 where
   pub low : from ≤ at
   pub high : at ≤ end
-  pub stays : (k : ℕ) → from ≤ k → k < at → (get_or s k 0 < 256) × (stays_in (class_of (get_or s k 0)) m (get_or s k 0) ≡ true)
+  pub stays : (k : ℕ) → from ≤ k → k < at → (get_or s k 0 < 256) × (stays_in m (get_or s k 0) ≡ true)
 
 -- the bits of an open character after some bytes that leave the mode as it is, or after none
 unfoldable pub bits_over : Bool → Mode → ℕ → ℕ
@@ -113,11 +75,8 @@ bits_over some m bits = cond some (bits_in m bits 0x20) bits
 
 -- what is known of a number after the k bytes of s from place i on, each of which leads to mode m
 abbrev pub number_over : Mode → Decimal → List ℕ → ℕ → ℕ → Decimal
-number_over (M.At p) d s i k = d
-number_over (M.Key t) d s i k = d
-number_over (M.Text t) d s i k = d
 number_over (M.Number n) d s i k = counted_from bounded n d s i k
-number_over (M.Word w j) d s i k = d
+number_over _ d s i k = d
 
 -- ---- the registers
 
@@ -143,32 +102,16 @@ registers_over some m g = registers (bits_over some m g.bits) g.high g.number
 unfoldable pub registers_after : Mode → Mode → Registers → ℕ → Registers
 registers_after m next g b = registers (bits_in m g.bits b) (high_in m g.bits g.high b) (number_before m next g.number)
 
--- a mode of a number, or another
-abbrev pub part_of : Mode → Part
-part_of (M.At p) = Of.Other
-part_of (M.Key s) = Of.Other
-part_of (M.Text s) = Of.Other
-part_of (M.Number n) = Of.Number n
-part_of (M.Word w i) = Of.Other
-
 -- ---- bytes with a quiet act
 
 -- the act changes neither levels, key nor frames
 abbrev pub is_quiet : Act → Bool
-is_quiet A.Fault = false
 is_quiet A.Pass = true
-is_quiet A.OpenArray = false
-is_quiet A.OpenObject = false
-is_quiet A.Close = false
-is_quiet A.KeyStart = false
-is_quiet A.KeyChar = false
-is_quiet A.KeyEnd = false
 is_quiet A.TextStart = true
 is_quiet A.TextChar = true
-is_quiet A.TextEnd = false
 is_quiet A.NumberStart = true
 is_quiet A.NumberByte = true
-is_quiet (A.WordEnd w) = false
+is_quiet _ = false
 
 -- byte b is no RS and ends no number, and its act is quiet
 unfoldable pub passes : Act → Bool → ℕ → Bool
@@ -176,22 +119,17 @@ passes a ends b = cond ends false (cond (eqb b 0x1E) false (is_quiet a))
 
 -- ---- the record
 
-abbrev pub is_sound : Fault → Bool
-is_sound F.Sound = true
-is_sound F.Malformed = false
-is_sound F.TooDeep = false
-is_sound F.TooLong = false
+abbrev pub is_sound : Option Fault → Bool
+is_sound None = true
+is_sound _ = false
 
 -- the bytes of a record are more than counted: it is not the head, and has no fault so far
 unfoldable pub is_reading : Progress → Bool
 is_reading x = cond x.head false (is_sound x.fault)
 
 abbrev pub keeps_in : Mode → Progress → Bool
-keeps_in (M.At p) x = false
 keeps_in (M.Key s) x = cond (awaits_char s) (is_reading x) false
-keeps_in (M.Text s) x = false
-keeps_in (M.Number n) x = false
-keeps_in (M.Word w i) x = false
+keeps_in _ x = false
 
 -- the bytes of a record are more than counted, and a character of a key is awaited
 unfoldable pub keeps_chars : Progress → Bool
@@ -217,7 +155,7 @@ placed x m g pos len =
 abbrev pub reached : Progress → Mode → Registers → ℕ → ℕ → Progress
 reached x m g from at = placed x m g (x.pos + (at - from)) x.len
 
-abbrev pub passed_at : Progress → Mode → Registers → ℕ → ℕ → Step → Passed
+abbrev pub passed_at : Progress → Mode → Registers → ℕ → ℕ → Option Step → Passed
 passed_at x m g from at st = record { progress = reached x m g from at; at = at; step = st }
 
 -- ---- passing over
@@ -237,17 +175,12 @@ pub record Stands (x : Progress) (top : Top) (s : List ℕ) (from end : ℕ) (m 
   pub counted : since ≤ i
   pub runs : RunsTo x top s from (reached x m (settled m g s since i) from i) i
 
--- the bytes of s up to place `at` make y of the record x, and of the byte there the limits make with the step st what they make with its own
-pub record PassedTo (x : Progress) (top : Top) (s : List ℕ) (from : ℕ) (y : Progress) (at : ℕ) (st : Step) : Type 0 where
+-- the bytes of s up to place `at` make y of the record x, and st is the step that the lexer makes of the byte there, if there is one
+pub record PassedTo (x : Progress) (top : Top) (s : List ℕ) (from : ℕ) (y : Progress) (at : ℕ) (st : Option Step) : Type 0 where
   pub runs : RunsTo x top s from y at
-  pub step : (n : ℕ) → at < length s → advanced y n (get_or s at 0) st ≡ advanced y n (get_or s at 0) (step_of y.mode top (get_or s at 0))
+  pub step : MatchOption st (at ≡ length s) (λ z. (at < length s) × (z ≡ step_of y.mode top (get_or s at 0)))
 
 -- ---- the characters of a key
-
--- v tells whether the byte of s at a place is a whole character of a string
-pub record PlainAt (s : List ℕ) (at : ℕ) (v : Bool) : Type 0 where
-  pub small : get_or s at 0 < 256
-  pub told : v ≡ plain_class (class_of (get_or s at 0))
 
 -- the bytes of s from one place to another make y of the record x and put to the key what it has after them
 pub record KeptTo (x : Progress) (s : List ℕ) (from : ℕ) (key : List ℕ) (y : Progress) (at : ℕ) (kept : List ℕ) : Type 0 where

@@ -1,26 +1,26 @@
 // Bytes that only move a reader on: those that change where it stands in the record, and the plain characters of a key. Each kind is passed over
 // in a loop of its own.
-#![tactic(auto)]
+#![tactic(auto, unfolding(crate::specs::Pass::bits_over, crate::specs::Pass::is_reading, crate::specs::Pass::keeps_chars, crate::specs::Pass::passes, crate::specs::Pass::registers_after, crate::specs::Pass::registers_over,),)]
 
-ghost use Rattle.std.specs.Prelude.{true, ◌≡◌, ◌+◌, ◌-◌, ◌<◌, ◌≤◌, min, length, get_or};
-ghost use Rattle.json_text.specs.Lexer.{step_of};
-ghost use Rattle.chars.specs.Table.{class_table};
-ghost use Rattle.pass.specs.Pass.{bits_over, registers, registers_of, registers_over, registers_after, part_of};
-ghost use Rattle.pass.specs.Pass.{is_quiet, passes, is_reading, keeps_chars, placed, passed_at, Stands, PassedTo, PlainAt, KeptTo};
+ghost use Rattle.std.specs.Prelude.{true, ◌≡◌, ◌+◌, ◌-◌, ◌≤◌, min, length};
+ghost use Rattle.pass.specs.Pass.{bits_over, registers_of, registers_over, registers_after, is_quiet, passes, is_reading, keeps_chars, placed, passed_at, Stands, PassedTo, KeptTo};
 
-use json_text::lexer::{Act, Awaited, Mode, Step, Top};
+use chars::class::Classes;
+use json_text::lexer::{Act, Mode, Step, Top};
 use json_text::number::{NumberMode, NumberMove};
-use progress::{Fault, Progress, key, register};
+use json_text::string::StringMode;
+use progress::{Progress, key, register};
 use whole::Decimal;
 
 mod stay; // stay.rt: bytes that leave the mode as it is
 
-// After the bytes passed over: what is known of the record, where that is in the piece, and the step that the lexer makes of the byte there.
+// After the bytes passed over: what is known of the record, where that is in the piece, and the step that the lexer makes of the byte there, if there
+// is one.
 #[derive(Clone, Copy)]
 pub struct Passed {
     pub progress: Progress,
     pub at: usize,
-    pub step: Step,
+    pub step: Option<Step>,
 }
 
 // After the characters of a key: what is known of the record, and where that is in the piece.
@@ -38,11 +38,16 @@ struct Registers {
     number: Decimal,
 }
 
-// A mode of a number, or another.
+// A record that is read, and the bytes of a piece from a place on, up to the end of the piece or of the longest record.
 #[derive(Clone, Copy)]
-enum Part {
-    Number(NumberMode),
-    Other,
+struct Stretch<'a> {
+    known: Progress,
+    piece: &'a [u8],
+    from: usize,
+    end: usize,
+    ghost read: { is_reading known ≡ true },
+    ghost starts: { from ≤ length piece.now },
+    ghost ends: { end ≡ from + min (length piece.now - from) (16777216 - known.pos) },
 }
 
 // The bits of an open character, where some bytes that leave the mode as it is were passed over, or none.
@@ -50,31 +55,20 @@ fn bits_over(some: bool, m: Mode, bits: u32) -> u32
     ensures { result ≡ bits_over some m bits }
 {
     if some {
-        return register::bits_in(m, bits, 0x20);
+        register::bits_in(m, bits, 0x20)
+    } else {
+        bits
     }
-    bits
 }
 
 // The registers of a record.
 fn registers_of(x: Progress) -> Registers
     ensures { result ≡ registers_of x }
 {
-    let d = x.number;
     Registers {
         bits: x.bits,
         high: x.high,
-        number: d,
-    }
-}
-
-// The registers with another number.
-fn with_number(g: Registers, d: Decimal) -> Registers
-    ensures { result ≡ registers g.bits g.high d }
-{
-    Registers {
-        bits: g.bits,
-        high: g.high,
-        number: d,
+        number: x.number,
     }
 }
 
@@ -82,11 +76,9 @@ fn with_number(g: Registers, d: Decimal) -> Registers
 fn registers_over(some: bool, m: Mode, g: Registers) -> Registers
     ensures { result ≡ registers_over some m g }
 {
-    let d = g.number;
     Registers {
         bits: bits_over(some, m, g.bits),
-        high: g.high,
-        number: d,
+        ..g
     }
 }
 
@@ -94,24 +86,10 @@ fn registers_over(some: bool, m: Mode, g: Registers) -> Registers
 fn registers_after(m: Mode, next: Mode, g: Registers, b: u8) -> Registers
     ensures { result ≡ registers_after m next g b }
 {
-    let d = g.number;
     Registers {
         bits: register::bits_in(m, g.bits, b),
         high: register::high_in(m, g.bits, g.high, b),
-        number: register::number_before(m, next, d),
-    }
-}
-
-// A mode of a number, or another.
-fn part_of(m: Mode) -> Part
-    ensures { result ≡ part_of m }
-{
-    match m {
-        Mode::At(_) => Part::Other,
-        Mode::Key(_) => Part::Other,
-        Mode::Text(_) => Part::Other,
-        Mode::Number(n) => Part::Number(n),
-        Mode::Word(_, _) => Part::Other,
+        number: register::number_before(m, next, g.number),
     }
 }
 
@@ -119,66 +97,39 @@ fn part_of(m: Mode) -> Part
 fn is_quiet(a: Act) -> bool
     ensures { result ≡ is_quiet a }
 {
-    match a {
-        Act::Fault => false,
-        Act::Pass => true,
-        Act::OpenArray => false,
-        Act::OpenObject => false,
-        Act::Close => false,
-        Act::KeyStart => false,
-        Act::KeyChar => false,
-        Act::KeyEnd => false,
-        Act::TextStart => true,
-        Act::TextChar => true,
-        Act::TextEnd => false,
-        Act::NumberStart => true,
-        Act::NumberByte => true,
-        Act::WordEnd(_) => false,
-    }
+    matches!(
+        a,
+        Act::Pass | Act::TextStart | Act::TextChar | Act::NumberStart | Act::NumberByte
+    )
 }
 
 // The byte, which is no RS, ends no number, and its act is quiet.
 fn passes(a: Act, ends: bool, b: u8) -> bool
     ensures { result ≡ passes a ends b }
 {
-    if ends {
-        return false;
-    }
-    if b == 0x1E {
-        return false;
-    }
-    is_quiet(a)
+    !ends && b != 0x1E && is_quiet(a)
 }
 
 // A byte of the record is more than counted.
 fn reads_on(x: Progress) -> bool
     ensures { result ≡ is_reading x }
 {
-    if x.head {
-        return false;
-    }
-    let f = x.fault;
-    match f {
-        Fault::Sound => true,
-        Fault::Malformed => false,
-        Fault::TooDeep => false,
-        Fault::TooLong => false,
-    }
+    !x.head && x.fault.is_none()
+}
+
+// The record is read, and stands where a character of a key is awaited.
+fn keeps_chars(x: Progress) -> bool
+    ensures { result ≡ keeps_chars x }
+{
+    matches!(x.mode, Mode::Key(StringMode::Char)) && reads_on(x)
 }
 
 // How far a piece of len bytes may be read before the record is too long.
-fn room(len: usize, from: usize, pos: u32) -> usize
+fn reach(len: usize, from: usize, pos: u32) -> usize
     requires { from ≤ len }
     ensures { result ≡ from + min (len - from) (16777216 - pos) }
 {
-    if pos < 16777216 {
-        let left = (16777216 - pos) as usize;
-        if left < len - from {
-            return from + left;
-        }
-        return len;
-    }
-    from
+    from + (len - from).min(16777216u32.saturating_sub(pos) as usize)
 }
 
 // The record x at another mode, with other registers, and count bytes further.
@@ -186,224 +137,158 @@ fn place_at(x: Progress, m: Mode, g: Registers, count: usize, len: u8) -> Progre
     requires { x.pos + count ≤ 4294967295 }
     ensures { result ≡ placed x m g (x.pos + count) len }
 {
-    let f = x.fault;
-    let d = g.number;
     Progress {
         mode: m,
-        fault: f,
-        head: x.head,
-        level: x.level,
-        pos: x.pos + (count as u32),
-        place: x.place,
+        pos: x.pos + count as u32,
         bits: g.bits,
         high: g.high,
-        number: d,
+        number: g.number,
         len: len,
+        ..x
     }
 }
 
-// The record x at another mode, with other registers, where the bytes of the piece from one place to another were passed over.
-fn passed_at(x: Progress, m: Mode, g: Registers, from: usize, at: usize, st: Step) -> Passed
-    requires { (from ≤ at) × (x.pos + (at - from) ≤ 4294967295) }
-    ensures { result ≡ passed_at x m g from at st }
-{
-    Passed {
-        progress: place_at(x, m, g, at - from, x.len),
-        at: at,
-        step: st,
-    }
-}
-
-// The step of no byte.
-fn no_step() -> Step {
-    Step {
-        mode: Mode::At(Awaited::Value),
-        ends: false,
-        act: Act::Fault,
-    }
-}
-
-// The step that the lexer makes of the byte at a place of the piece.
-fn step_at<'a>(classes: &'a [u8; 256], m: Mode, top: Top, s: &'a [u8], at: usize) -> Step
-    requires { (classes.now ≡ class_table) × (at < length s.now) }
-    ensures { result ≡ step_of m top (get_or s.now at 0) }
-{
-    lexer::step::step(classes, m, top, s[at])
-}
-
-// Passes over bytes of a number up to a place where the record is not too long yet. They are counted at once where they lead to one mode.
-fn number_to(
-    x: Progress,
-    top: Top,
-    first: NumberMode,
-    g: Registers,
-    s: &[u8],
-    from: usize,
-    start: usize,
-    begin: usize,
-    end: usize,
-) -> Passed
-    requires { (is_reading x ≡ true) × (from ≤ length s.now) × (end ≡ from + min (length s.now - from) (16777216 - x.pos)) × Stands x top s.now from end (Mode.Number first) g start begin }
-    ensures { PassedTo x top s.now from result.progress result.at result.step }
-{
-    let mut n = first;
-    let mut d = g.number;
-    let mut since = start;
-    let mut i = begin;
-    loop {
-        let j = stay::digits_end(n, s, i, end);
-        d = whole::run::over(n, d, s, since, j);
-        let now = with_number(g, d);
-        if j == end {
-            return passed_at(x, Mode::Number(n), now, from, j, no_step());
+impl<'a> Stretch<'a> {
+    // The record at another mode, with other registers, where the bytes up to a place were passed over.
+    fn passed(&self, m: Mode, g: Registers, at: usize, step: Option<Step>) -> Passed
+        requires { (self.now.from ≤ at) × (at ≤ self.now.end) }
+        ensures { result ≡ passed_at self.now.known m g self.now.from at step }
+    {
+        Passed {
+            progress: place_at(self.known, m, g, at - self.from, self.known.len),
+            at: at,
+            step: step,
         }
-        let b = s[j];
-        let k = lexer::number::number_move(n, b);
-        if let NumberMove::Go(next) = k {
-            n = next;
+    }
+
+    // Passes over bytes of a number. They are counted at once where they lead to one mode.
+    fn number_to(
+        &self,
+        top: Top,
+        first: NumberMode,
+        g: Registers,
+        start: usize,
+        begin: usize,
+    ) -> Passed
+        requires { Stands self.now.known top self.now.piece.now self.now.from self.now.end (Mode.Number first) g start begin }
+        ensures { PassedTo self.now.known top self.now.piece.now self.now.from result.progress result.at result.step }
+    {
+        let mut n = first;
+        let mut g = g;
+        let mut since = start;
+        let mut i = begin;
+        loop {
+            let j = i + stay::number_len(n, &self.piece[i..self.end]);
+            g.number = whole::run::over(n, g.number, &self.piece[since..j]);
+            let Some(b) = self.piece.get(j) else {
+                return self.passed(Mode::Number(n), g, j, None);
+            };
+            match lexer::number::number_move(n, *b) {
+                NumberMove::Go(next) if j < self.end => {
+                    n = next;
+                    since = j;
+                    i = j + 1;
+                }
+                _ => {
+                    let st = lexer::step::number_step(n, top, *b);
+                    return self.passed(Mode::Number(n), g, j, Some(st));
+                }
+            }
+        }
+    }
+
+    // Passes over bytes. A number that begins is passed over in a loop of its own.
+    fn pass_to(&self, classes: &Classes, top: Top) -> Passed
+        ensures { PassedTo self.now.known top self.now.piece.now self.now.from result.progress result.at result.step }
+    {
+        let mut m = self.known.mode;
+        let mut g = registers_of(self.known);
+        let mut since = self.from;
+        let mut i = self.from;
+        loop {
+            if let Mode::Number(n) = m {
+                return self.number_to(top, n, g, since, i);
+            }
+            let j = i + stay::stay_len(classes, m, &self.piece[i..self.end]);
+            g = registers_over(i < j, m, g);
+            let Some(b) = self.piece.get(j) else {
+                return self.passed(m, g, j, None);
+            };
+            let st = lexer::step::step(classes, m, top, *b);
+            if j == self.end || !passes(st.act, st.ends, *b) {
+                return self.passed(m, g, j, Some(st));
+            }
+            g = registers_after(m, st.mode, g, *b);
             since = j;
+            m = st.mode;
             i = j + 1;
-        } else {
-            let st = lexer::step::number_step(n, top, b);
-            return passed_at(x, Mode::Number(n), now, from, j, st);
         }
     }
-}
 
-// Passes over bytes up to a place where the record is not too long yet. A number that begins is passed over in a loop of its own.
-fn pass_to<'a>(
-    classes: &'a [u8; 256],
-    x: Progress,
-    top: Top,
-    s: &'a [u8],
-    from: usize,
-    end: usize,
-) -> Passed
-    requires { (classes.now ≡ class_table) × (is_reading x ≡ true) × (from ≤ length s.now) × (end ≡ from + min (length s.now - from) (16777216 - x.pos)) }
-    ensures { PassedTo x top s.now from result.progress result.at result.step }
-{
-    let mut m = x.mode;
-    let mut g = registers_of(x);
-    let mut since = from;
-    let mut i = from;
-    loop {
-        let p = part_of(m);
-        if let Part::Number(n) = p {
-            return number_to(x, top, n, g, s, from, since, i, end);
+    // Keeps the plain characters of a key.
+    fn keep_to(&self, classes: &Classes, key: &mut [u8]) -> KeyRead
+        requires { keeps_chars self.now.known ≡ true }
+        ensures { KeptTo self.now.known self.now.piece.now self.now.from key.old result.progress result.at key.new }
+    {
+        let x = self.known;
+        let at = self.from + stay::plain_len(classes, &self.piece[self.from..self.end]);
+        let mut bits = x.bits;
+        let mut len = x.len;
+        for i in self.from..at {
+            let b = self.piece[i];
+            key::keep_char(key, len, b);
+            len = key::key_len(len, u32::from(b));
+            bits = 0;
         }
-        let j = stay::stay_end(classes, m, s, i, end);
-        g = registers_over(i < j, m, g);
-        if j == end {
-            return passed_at(x, m, g, from, j, no_step());
+        let g = Registers {
+            bits: bits,
+            ..registers_of(x)
+        };
+        KeyRead {
+            progress: place_at(x, x.mode, g, at - self.from, len),
+            at: at,
         }
-        let b = s[j];
-        let st = step_at(classes, m, top, s, j);
-        let a = st.act;
-        if passes(a, st.ends, b) {} else {
-            return passed_at(x, m, g, from, j, st);
-        }
-        let next = st.mode;
-        g = registers_after(m, next, g, b);
-        since = j;
-        m = next;
-        i = j + 1;
     }
 }
 
 // Passes over the bytes of a piece that only change where the reader stands in the record. Ruled out: a pass over the RS that ends a record,
 // and one over bytes past the longest record.
-pub fn pass<'a>(classes: &'a [u8; 256], x: Progress, top: Top, s: &'a [u8], from: usize) -> Passed
-    requires { (classes.now ≡ class_table) × (from ≤ length s.now) }
-    ensures { PassedTo x top s.now from result.progress result.at result.step }
+pub fn pass(classes: &Classes, x: Progress, top: Top, piece: &[u8], from: usize) -> Passed
+    requires { from ≤ length piece.now }
+    ensures { PassedTo x top piece.now from result.progress result.at result.step }
 {
     if reads_on(x) {
-        return pass_to(classes, x, top, s, from, room(s.len(), from, x.pos));
+        let stretch = Stretch {
+            known: x,
+            piece: piece,
+            from: from,
+            end: reach(piece.len(), from, x.pos),
+        };
+        return stretch.pass_to(classes, top);
     }
     Passed {
         progress: x,
         at: from,
-        step: no_step(),
-    }
-}
-
-// The record is read, and stands where a character of a key is awaited.
-fn keeps_chars(x: Progress) -> bool
-    ensures { result ≡ keeps_chars x }
-{
-    let m = x.mode;
-    match m {
-        Mode::At(_) => false,
-        Mode::Key(s) => {
-            if stay::awaits_char(s) {
-                return reads_on(x);
-            }
-            false
-        }
-        Mode::Text(_) => false,
-        Mode::Number(_) => false,
-        Mode::Word(_, _) => false,
-    }
-}
-
-// The byte at a place of the piece is a whole character of a string.
-fn plain_at<'a>(classes: &'a [u8; 256], s: &'a [u8], at: usize) -> bool
-    requires { (classes.now ≡ class_table) × (at < length s.now) }
-    ensures { PlainAt s.now at result }
-{
-    stay::plain_class(chars::class::class_in(classes, s[at]))
-}
-
-// Keeps the plain characters of a key up to a place where the record is not too long yet.
-fn keep_to<'a>(
-    classes: &'a [u8; 256],
-    x: Progress,
-    key: &mut [u8],
-    s: &'a [u8],
-    from: usize,
-    end: usize,
-) -> KeyRead
-    requires { (classes.now ≡ class_table) × (keeps_chars x ≡ true) × (from ≤ length s.now) × (end ≡ from + min (length s.now - from) (16777216 - x.pos)) }
-    ensures { KeptTo x s.now from key.old result.progress result.at key.new }
-{
-    let m = x.mode;
-    let mut bits = x.bits;
-    let mut len = x.len;
-    let mut i = from;
-    while i < end {
-        if plain_at(classes, s, i) {} else {
-            break;
-        }
-        let b = s[i];
-        key::keep_char(key, len, b);
-        len = key::key_len(len, b as u32);
-        bits = 0;
-        i += 1;
-    }
-    let d = x.number;
-    let g = Registers {
-        bits: bits,
-        high: x.high,
-        number: d,
-    };
-    KeyRead {
-        progress: place_at(x, m, g, i - from, len),
-        at: i,
+        step: match piece.get(from) {
+            Some(b) => Some(lexer::step::step(classes, x.mode, top, *b)),
+            None => None,
+        },
     }
 }
 
 // Keeps the plain characters of an open key. Ruled out: a key of which a character past the 32nd is kept, and one without its first.
-pub fn keep<'a>(
-    classes: &'a [u8; 256],
-    x: Progress,
-    key: &mut [u8],
-    s: &'a [u8],
-    from: usize,
-) -> KeyRead
-    requires { (classes.now ≡ class_table) × (from ≤ length s.now) }
-    ensures { KeptTo x s.now from key.old result.progress result.at key.new }
+pub fn keep(classes: &Classes, x: Progress, key: &mut [u8], piece: &[u8], from: usize) -> KeyRead
+    requires { from ≤ length piece.now }
+    ensures { KeptTo x piece.now from key.old result.progress result.at key.new }
 {
     if keeps_chars(x) {
-        return keep_to(classes, x, key, s, from, room(s.len(), from, x.pos));
+        let stretch = Stretch {
+            known: x,
+            piece: piece,
+            from: from,
+            end: reach(piece.len(), from, x.pos),
+        };
+        return stretch.keep_to(classes, key);
     }
     KeyRead {
         progress: x,

@@ -9,6 +9,7 @@ use lib.Dec.{ltb}
 use lib.ListN.{length, get_or, drop}
 use lib.Seq.{drop-cons}
 use borrow.Author.Tests.{eq-eqb, ne_eqb}
+use Rattle.std.specs.Prelude.{Option, Some, None}
 use Rattle.json_text.specs.Lexer.{step_of}
 use Rattle.json_text.specs.declared.lexer.Top.{Top}
 use Rattle.json_text.specs.declared.lexer.Step.{Step}
@@ -69,14 +70,16 @@ module _ (t : Table) (n : ℕ) (x : Progress) (root : Bool) (key w s : List ℕ)
 
 -- ---- the bytes passed over: x becomes y while the characters of a key are kept, and y becomes z over the bytes that only move it on
 
-module _ (s : List ℕ) (i at end : ℕ) (x y z : Progress) (top : Top) (st : Step) (key kept w : List ℕ) (a : KeptTo x s i key y at kept) (b : PassedTo y top s at z end st)
-    (e : top ≡ top_at w y.level) where
-  -- the step st is as good as the next byte's own
-  pub step-passed : (n : ℕ) → end < length s → StepsAs z n w (get_or s end 0) st
+module _ (s : List ℕ) (i at end : ℕ) (x y z : Progress) (top : Top) (o : Option Step) (key kept w : List ℕ) (a : KeptTo x s i key y at kept)
+    (b : PassedTo y top s at z end o) (e : top ≡ top_at w y.level) where
+  -- the next byte is in the piece, and the step st is its own
+  pub byte-passed : (st : Step) → o ≡ Some st → end < length s
+  byte-passed st q = (rw q at b.step).0
+
+  pub step-passed : (n : ℕ) (st : Step) → o ≡ Some st → StepsAs z n w (get_or s end 0) st
   unfolding StepsAs
-  step-passed n h =
-      b.step n h
-      ∙ ap (λ (k : Top). advanced z n (get_or s end 0) (step_of z.mode k (get_or s end 0))) (e ∙ ap (λ (l : ℕ). top_at w l) (sym b.runs.level))
+  step-passed n st q =
+      ap (advanced z n (get_or s end 0)) ((rw q at b.step).1 ∙ ap (λ (k : Top). step_of z.mode k (get_or s end 0)) (e ∙ ap (top_at w) (sym b.runs.level)))
 
   module _ (t : Table) (n : ℕ) (root : Bool) where
     -- the run after the bytes passed over gives what the run over the whole gives
@@ -84,8 +87,8 @@ module _ (s : List ℕ) (i at end : ℕ) (x y z : Progress) (top : Top) (st : St
     run-passed = b.runs.same t n root kept w (sym e) ∙ a.same t n root w
 
     -- the bytes passed over reach the end of the piece
-    pub went-all : i < length s → length s ≤ end → WentTo t n (mem x root key w) s i (mem z root kept w) end false
-    went-all h l = record { low = omega arith; high = b.runs.high; run = sym run-passed }
+    pub went-all : i < length s → o ≡ None → WentTo t n (mem x root key w) s i (mem z root kept w) end false
+    went-all h q = let l = rw q at b.step in record { low = omega arith; high = b.runs.high; run = sym run-passed }
 
     -- after the bytes passed over one goes on to place j
     pub went_on : (k : Mem) (j : ℕ) (v : Bool) → WentTo t n (mem z root kept w) s end k j v → WentTo t n (mem x root key w) s i k j v

@@ -2,12 +2,12 @@
 #![tactic(auto)]
 
 ghost use Rattle.std.specs.Prelude.{◌≡◌, true, ◌<◌, length, get_or};
-ghost use Rattle.chars.specs.Table.{class_table};
 ghost use Rattle.table.specs.Flat.{table_in};
 ghost use Rattle.table.specs.Limits.{within_limits};
 ghost use Rattle.progress.specs.Memory.{mem, ends_record};
 ghost use Rattle.piece.specs.Went.{StepsAs, WentTo};
 
+use chars::class::Classes;
 use json_text::lexer::Step;
 use progress::Progress;
 
@@ -67,7 +67,7 @@ fn read_byte<'a>(
 // Reads on from place i: the bytes that are passed over, and one byte more.
 pub fn read_on<'a>(
     table: &'a [u8; 7920],
-    classes: &'a [u8; 256],
+    classes: &Classes,
     work: &mut [u8],
     key: &mut [u8],
     piece: &'a [u8],
@@ -76,23 +76,20 @@ pub fn read_on<'a>(
     root: bool,
     i: usize,
 ) -> Went
-    requires { (within_limits (table_in table.now) ≡ true) × (classes.now ≡ class_table) × (length key.old ≡ 32) × (i < length piece.now) }
+    requires { (within_limits (table_in table.now) ≡ true) × (length key.old ≡ 32) × (i < length piece.now) }
     ensures { WentTo (table_in table.now) frames (mem x root key.old work.old) piece.now i (mem result.progress result.root key.new work.new) result.at result.ended }
 {
     let k = pass::keep(classes, x, key, piece, i);
     let named = k.progress;
     let top = turn::top_of(work, named.level);
     let p = pass::pass(classes, named, top, piece, k.at);
-    let st = p.step;
-    let passed = p.progress;
-    let at = p.at;
-    if at < piece.len() {
-        return read_byte(table, work, key, piece, frames, passed, root, at, st);
+    if let Some(st) = p.step {
+        return read_byte(table, work, key, piece, frames, p.progress, root, p.at, st);
     }
     Went {
-        progress: passed,
+        progress: p.progress,
         root: root,
-        at: at,
+        at: p.at,
         ended: false,
     }
 }

@@ -1,54 +1,20 @@
--- An act's parts, laws in the form of the code's needs: the parts together are the act, and how far levels, the key and the
--- counts of a number can grow. Assumes nothing.
+-- How far levels, the key and the counts of a number can grow at an act. Assumes nothing.
 use mathlib.Core.Bool.{Bool, true, false, cond}
 use mathlib.Core.List.{List}
-use mathlib.Core.Path.{◌≡◌, refl, sym, ap, ◌∙◌}
-use Prim.Native.Nat.{ℕ, ◌+◌, ◌<◌, ◌≤◌}
+use mathlib.Core.Path.{◌≡◌, refl}
+use Prim.Native.Nat.{ℕ, ◌+◌, ◌≤◌}
 use native.Mathlib.Omega.{arith}
 use lib.Dec.{ltb}
 use lib.ListN.{length, set, length-set}
-use lib.Seq.{set_out}
-use borrow.Author.Tests.{lt-ltb, le-ltb, ltb-true}
+use borrow.Author.Tests.{ltb-true}
 use Rattle.json_text.specs.declared.lexer.Mode.{Mode}
 use Rattle.json_text.specs.declared.lexer.Mode.TheVariants as M
 use Rattle.json_text.specs.declared.lexer.Act.{Act}
 use Rattle.json_text.specs.declared.lexer.Act.TheVariants as A
 use Rattle.whole.specs.declared.Decimal.{Decimal}
-use Rattle.whole.specs.Count.{is_whole}
 use Rattle.whole.specs.Limits.{CountsWithin}
 use Rattle.whole.proofs.LimitLaws.{counts-fresh}
-use Rattle.table.specs.declared.kind.Scalar.TheVariants as K
-use Rattle.progress.specs.declared.Fault.{Fault}
-use Rattle.progress.specs.declared.Fault.TheVariants as F
-use Rattle.progress.specs.declared.Progress.{Progress}
-use Rattle.progress.specs.declared.Task.{Task}
-use Rattle.progress.specs.declared.Advanced.{Advanced}
-use Rattle.progress.specs.Act.{open_level, kept_key_len, kept_in, first_fault, level_after, len_after, number_in, number_before, number_kind, task_of}
-use Rattle.progress.specs.Progress.{advance, char_in, moved, acted_by, acted}
-
--- ---- the parts of an act, where f is the fault that was found
-
-module _ (a : Act) (e : Bool) (x : Progress) (n b : ℕ) (m : Mode) (f : Fault) (h : f ≡ first_fault a x.level n) where
-  -- what is made with the fault g that was found is what the act makes
-  pub acted-of-fault : (g : Fault) (y : Advanced) → f ≡ g → y ≡ acted_by g a e x n b m → y ≡ acted a e x n b m
-  acted-of-fault g y k l = l ∙ ap (λ (z : Fault). acted_by z a e x n b m) (sym k ∙ h)
-
-  -- where no fault was found, the parts of the act are put together
-  pub acted-of-sound : (c level len : ℕ) (next : Progress) (task : Task) → f ≡ F.Sound → c ≡ char_in x.mode x.bits x.high b
-      → level ≡ level_after a x.level n → len ≡ len_after a x.len c → next ≡ moved x b m level len → task ≡ task_of a e x.number x.len c
-      → advance next task ≡ acted a e x n b m
-  acted-of-sound c level len next task k p q r u v = acted-of-fault F.Sound (advance next task) k (rw (v, u, r, q, p))
-
--- ---- the kind of a number
-
--- v is what the test found
-pub kind-whole : (d : Decimal) (v : Bool) → v ≡ is_whole d → v ≡ true → K.Int ≡ number_kind d
-unfolding number_kind
-kind-whole d v e h = simp (sym e ∙ h)
-
-pub kind-other : (d : Decimal) (v : Bool) → v ≡ is_whole d → v ≡ false → K.Num ≡ number_kind d
-unfolding number_kind
-kind-other d v e h = simp (sym e ∙ h)
+use Rattle.progress.specs.Act.{open_level, kept_key_len, kept_in, level_after, len_after, number_in, number_before}
 
 -- ---- how far levels, the key and the counts of a number grow
 
@@ -119,20 +85,6 @@ number_before-counts from (M.Number n) f = number_in-counts from f
 number_before-counts from (M.Word w i) f = f
 
 -- ---- the characters of a key
-
--- a character is put after fewer than 32 that are kept
-pub kept-room : (key : List ℕ) (len c : ℕ) → len < 32 → set key len c ≡ kept_in key len c
-unfolding kept_in
-kept-room key len c h = rw (lt-ltb len 32 h)
-
--- a key without room for a character stays
-pub kept-past : (key : List ℕ) (len c : ℕ) → len < 32 → length key ≤ len → key ≡ kept_in key len c
-kept-past key len c h l = sym (set_out key len c l) ∙ kept-room key len c h
-
--- a key of which 32 characters are kept stays
-pub kept_full : (key : List ℕ) (len c : ℕ) → 32 ≤ len → key ≡ kept_in key len c
-unfolding kept_in
-kept_full key len c h = rw (le-ltb len 32 h)
 
 pub length-kept_in : (key : List ℕ) (len c : ℕ) → length (kept_in key len c) ≡ length key
 unfolding kept_in

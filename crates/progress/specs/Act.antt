@@ -1,5 +1,6 @@
 -- What an act of the lexer does to the open record, part by part: the first fault, the levels, the characters kept of the key, the number, the task. Derived:
 -- `acted` of `Progress` puts the parts together, and `tracks-step` of crate follows joins that to the track of crate verdict. Assumes nothing.
+use Rattle.std.specs.Prelude.{Option, Some, None}
 use Rattle.std.specs.Prelude.{Bool, true, false, cond, List, ℕ, ◌+◌, ◌-◌, ltb, set}
 use Rattle.json_text.specs.declared.word.Word.{Word}
 use Rattle.json_text.specs.declared.word.Word.TheVariants as W
@@ -18,8 +19,8 @@ use Rattle.progress.specs.declared.Task.{Task}
 use Rattle.progress.specs.declared.Task.TheVariants as To
 
 -- a value that is opened where n frames are: too deep, or one level more
-unfoldable pub open_fault : ℕ → ℕ → Fault
-open_fault level n = cond (ltb level n) F.Sound F.TooDeep
+unfoldable pub open_fault : ℕ → ℕ → Option Fault
+open_fault level n = cond (ltb level n) None (Some F.TooDeep)
 
 unfoldable pub open_level : ℕ → ℕ → ℕ
 open_level level n = cond (ltb level n) (level + 1) level
@@ -35,55 +36,24 @@ unfoldable pub kept_in : List ℕ → ℕ → ℕ → List ℕ
 kept_in key len c = cond (ltb len 32) (set key len c) key
 
 -- the fault of an act, if it is one
-abbrev pub first_fault : Act → ℕ → ℕ → Fault
-first_fault A.Fault level n = F.Malformed
-first_fault A.Pass level n = F.Sound
+abbrev pub first_fault : Act → ℕ → ℕ → Option Fault
+first_fault A.Fault level n = Some F.Malformed
 first_fault A.OpenArray level n = open_fault level n
 first_fault A.OpenObject level n = open_fault level n
-first_fault A.Close level n = F.Sound
-first_fault A.KeyStart level n = F.Sound
-first_fault A.KeyChar level n = F.Sound
-first_fault A.KeyEnd level n = F.Sound
-first_fault A.TextStart level n = F.Sound
-first_fault A.TextChar level n = F.Sound
-first_fault A.TextEnd level n = F.Sound
-first_fault A.NumberStart level n = F.Sound
-first_fault A.NumberByte level n = F.Sound
-first_fault (A.WordEnd w) level n = F.Sound
+first_fault _ level n = None
 
 -- how many values are open after an act
 abbrev pub level_after : Act → ℕ → ℕ → ℕ
-level_after A.Fault level n = level
-level_after A.Pass level n = level
 level_after A.OpenArray level n = open_level level n
 level_after A.OpenObject level n = open_level level n
 level_after A.Close level n = level - 1
-level_after A.KeyStart level n = level
-level_after A.KeyChar level n = level
-level_after A.KeyEnd level n = level
-level_after A.TextStart level n = level
-level_after A.TextChar level n = level
-level_after A.TextEnd level n = level
-level_after A.NumberStart level n = level
-level_after A.NumberByte level n = level
-level_after (A.WordEnd w) level n = level
+level_after _ level n = level
 
 -- how many characters of the key are kept after an act; c is the one that it finishes
 abbrev pub len_after : Act → ℕ → ℕ → ℕ
-len_after A.Fault len c = len
-len_after A.Pass len c = len
-len_after A.OpenArray len c = len
-len_after A.OpenObject len c = len
-len_after A.Close len c = len
 len_after A.KeyStart len c = 0
 len_after A.KeyChar len c = kept_key_len len c
-len_after A.KeyEnd len c = len
-len_after A.TextStart len c = len
-len_after A.TextChar len c = len
-len_after A.TextEnd len c = len
-len_after A.NumberStart len c = len
-len_after A.NumberByte len c = len
-len_after (A.WordEnd w) len c = len
+len_after _ len c = len
 
 -- the kind of a number that ends
 unfoldable pub number_kind : Decimal → Scalar
@@ -91,27 +61,18 @@ number_kind d = cond (is_whole d) K.Int K.Num
 
 -- the number that a byte of a number goes on with: in another mode one begins, and is fresh
 abbrev pub number_in : Mode → Decimal → Decimal
-number_in (M.At p) d = fresh
-number_in (M.Key s) d = fresh
-number_in (M.Text s) d = fresh
 number_in (M.Number n) d = d
-number_in (M.Word w i) d = fresh
+number_in _ d = fresh
 
 -- the number before a byte that leads from one mode to another
 abbrev pub number_before : Mode → Mode → Decimal → Decimal
-number_before from (M.At p) d = d
-number_before from (M.Key s) d = d
-number_before from (M.Text s) d = d
 number_before from (M.Number n) d = number_in from d
-number_before from (M.Word w i) d = d
+number_before from _ d = d
 
 -- the number after byte b, which leads to mode m
 abbrev pub number_to : Mode → Decimal → ℕ → Decimal
-number_to (M.At p) d b = d
-number_to (M.Key s) d b = d
-number_to (M.Text s) d b = d
 number_to (M.Number n) d b = counted bounded n d b
-number_to (M.Word w i) d b = d
+number_to _ d b = d
 
 abbrev pub scalar_of : Word → Scalar
 scalar_of W.Null = K.Null
@@ -129,17 +90,12 @@ closing false d = To.Close
 
 -- what is to be done at a byte with an act; e tells whether the byte ends the number d
 abbrev pub task_of : Act → Bool → Decimal → ℕ → ℕ → Task
-task_of A.Fault e d len c = To.Idle
 task_of A.Pass e d len c = number_task e d
 task_of A.OpenArray e d len c = To.Open false
 task_of A.OpenObject e d len c = To.Open true
 task_of A.Close e d len c = closing e d
-task_of A.KeyStart e d len c = To.Idle
 task_of A.KeyChar e d len c = key_task len c
 task_of A.KeyEnd e d len c = To.Named
-task_of A.TextStart e d len c = To.Idle
-task_of A.TextChar e d len c = To.Idle
 task_of A.TextEnd e d len c = To.Finish K.Str
-task_of A.NumberStart e d len c = To.Idle
-task_of A.NumberByte e d len c = To.Idle
 task_of (A.WordEnd w) e d len c = To.Finish (scalar_of w)
+task_of _ e d len c = To.Idle

@@ -1,5 +1,6 @@
 -- What a byte does to the open record, over the reader's own types. Derived: `tracks-step` of crate follows joins it to the track of crate verdict.
 -- Assumes nothing.
+use Rattle.std.specs.Prelude.{Option, Some, None}
 use Rattle.std.specs.Prelude.{Bool, false, cond, ℕ, eqb, ltb}
 use Rattle.json_text.specs.Lexer.{bits_after, high_after, char_of, may_end}
 use Rattle.json_text.specs.declared.number.NumberMode.{NumberMode}
@@ -33,44 +34,35 @@ counted x =
 -- the byte is the record's first fault
 abbrev pub faulted : Progress → Fault → Advanced
 faulted x f =
-    advance (record { mode = x.mode; fault = f; head = x.head; level = x.level; pos = bump x.pos; place = x.pos; bits = x.bits; high = x.high; number = x.number; len = x.len }) To.Idle
+    advance (record { mode = x.mode; fault = Some f; head = x.head; level = x.level; pos = bump x.pos; place = x.pos; bits = x.bits; high = x.high; number = x.number; len = x.len }) To.Idle
 
 -- the registers of the open character after byte b
 abbrev pub bits_in : Mode → ℕ → ℕ → ℕ
-bits_in (M.At p) bits b = bits
 bits_in (M.Key s) bits b = bits_after s bits b
 bits_in (M.Text s) bits b = bits_after s bits b
-bits_in (M.Number n) bits b = bits
-bits_in (M.Word w i) bits b = bits
+bits_in _ bits b = bits
 
 abbrev pub high_in : Mode → ℕ → ℕ → ℕ → ℕ
-high_in (M.At p) bits high b = high
 high_in (M.Key s) bits high b = high_after s bits high b
 high_in (M.Text s) bits high b = high_after s bits high b
-high_in (M.Number n) bits high b = high
-high_in (M.Word w i) bits high b = high
+high_in _ bits high b = high
 
 -- the character of a key that byte b finishes
 abbrev pub char_in : Mode → ℕ → ℕ → ℕ → ℕ
-char_in (M.At p) bits high b = 0
 char_in (M.Key s) bits high b = char_of s bits high b
-char_in (M.Text s) bits high b = 0
-char_in (M.Number n) bits high b = 0
-char_in (M.Word w i) bits high b = 0
+char_in _ bits high b = 0
 
 -- the record after byte b, at mode m
 abbrev pub moved : Progress → ℕ → Mode → ℕ → ℕ → Progress
 moved x b m level len =
     record { mode = m; fault = x.fault; head = x.head; level = level; pos = bump x.pos; place = x.place; bits = bits_in x.mode x.bits b; high = high_in x.mode x.bits x.high b; number = number_to m (number_before x.mode m x.number) b; len = len }
 
--- a step of the lexer, whose act has the fault f: e tells whether it ends a number, m is the mode after it
-abbrev pub acted_by : Fault → Act → Bool → Progress → ℕ → ℕ → Mode → Advanced
-acted_by F.Sound a e x n b m =
+-- a step of the lexer, by the fault of its act: e tells whether it ends a number, m is the mode after it
+abbrev pub acted_by : Option Fault → Act → Bool → Progress → ℕ → ℕ → Mode → Advanced
+acted_by None a e x n b m =
     advance (moved x b m (level_after a x.level n) (len_after a x.len (char_in x.mode x.bits x.high b)))
     (task_of a e x.number x.len (char_in x.mode x.bits x.high b))
-acted_by F.Malformed a e x n b m = faulted x F.Malformed
-acted_by F.TooDeep a e x n b m = faulted x F.TooDeep
-acted_by F.TooLong a e x n b m = faulted x F.TooLong
+acted_by (Some f) a e x n b m = faulted x f
 
 abbrev pub acted : Act → Bool → Progress → ℕ → ℕ → Mode → Advanced
 acted a e x n b m = acted_by (first_fault a x.level n) a e x n b m
@@ -79,11 +71,9 @@ acted a e x n b m = acted_by (first_fault a x.level n) a e x n b m
 unfoldable pub sound : Progress → ℕ → ℕ → Step → Advanced
 sound x n b st = cond (ltb x.pos longest) (acted st.act st.ends x n b st.mode) (faulted x F.TooLong)
 
-abbrev pub advanced_by_fault : Fault → Progress → ℕ → ℕ → Step → Advanced
-advanced_by_fault F.Sound x n b st = sound x n b st
-advanced_by_fault F.Malformed x n b st = counted x
-advanced_by_fault F.TooDeep x n b st = counted x
-advanced_by_fault F.TooLong x n b st = counted x
+abbrev pub advanced_by_fault : Option Fault → Progress → ℕ → ℕ → Step → Advanced
+advanced_by_fault None x n b st = sound x n b st
+advanced_by_fault (Some f) x n b st = counted x
 
 -- byte b with n frames, of which the lexer makes the step st. An RS (0x1E) here ends no record: a fresh one begins, whatever was known of the old one
 unfoldable pub advanced : Progress → ℕ → ℕ → Step → Advanced
@@ -93,11 +83,8 @@ advanced x n b st = cond (eqb b 0x1E) (advance (fresh_progress false) To.Begin) 
 
 -- the verdict with nothing open, after pos bytes: after a value the record is valid where the root fits rule 0
 abbrev pub whole_at : Awaited → ℕ → Bool → Verdict
-whole_at P.Value pos root = Is.Unfinished pos
-whole_at P.First pos root = Is.Unfinished pos
-whole_at P.Key pos root = Is.Unfinished pos
-whole_at P.Colon pos root = Is.Unfinished pos
 whole_at P.After pos root = cond root Is.Valid Is.Invalid
+whole_at _ pos root = Is.Unfinished pos
 
 -- a number that may end is a whole text, and invalid as a scalar root
 unfoldable pub whole_number : NumberMode → ℕ → Verdict
@@ -105,20 +92,18 @@ whole_number n pos = cond (may_end n) Is.Invalid (Is.Unfinished pos)
 
 abbrev pub whole_in : Mode → ℕ → Bool → Verdict
 whole_in (M.At p) pos root = whole_at p pos root
-whole_in (M.Key s) pos root = Is.Unfinished pos
-whole_in (M.Text s) pos root = Is.Unfinished pos
 whole_in (M.Number n) pos root = whole_number n pos
-whole_in (M.Word w i) pos root = Is.Unfinished pos
+whole_in _ pos root = Is.Unfinished pos
 
 -- a record with an open value is not finished
 unfoldable pub whole : Progress → Bool → Verdict
 whole x root = cond (eqb x.level 0) (whole_in x.mode x.pos root) (Is.Unfinished x.pos)
 
-abbrev pub verdict_by : Fault → Progress → Bool → Verdict
-verdict_by F.Sound x root = whole x root
-verdict_by F.Malformed x root = Is.Malformed x.place
-verdict_by F.TooDeep x root = Is.TooDeep x.place
-verdict_by F.TooLong x root = Is.TooLong
+abbrev pub verdict_by : Option Fault → Progress → Bool → Verdict
+verdict_by None x root = whole x root
+verdict_by (Some F.Malformed) x root = Is.Malformed x.place
+verdict_by (Some F.TooDeep) x root = Is.TooDeep x.place
+verdict_by (Some F.TooLong) x root = Is.TooLong
 
 unfoldable pub judged : Progress → Bool → Verdict
 judged x root = cond x.head Is.Head (verdict_by x.fault x root)

@@ -10,46 +10,39 @@ use table::kind::Scalar;
 use whole::Decimal;
 
 // A value that is opened is too deep where the buffer has no frame for it.
-fn open_fault(level: usize, frames: usize) -> Fault
+fn open_fault(level: usize, frames: usize) -> Option<Fault>
     ensures { result ≡ open_fault level frames }
 {
     if level < frames {
-        return Fault::Sound;
+        None
+    } else {
+        Some(Fault::TooDeep)
     }
-    Fault::TooDeep
 }
 
 // How many values are open after a byte that opens one: one more, where the buffer has a frame for it.
 fn open_level(level: usize, frames: usize) -> usize
     ensures { result ≡ open_level level frames }
 {
-    if level < frames {
-        return level + 1;
-    }
-    level
+    if level < frames { level + 1 } else { level }
 }
 
 // One level less; without an open value there is none to close.
 pub fn down(level: usize) -> usize
     ensures { result ≡ level - 1 }
 {
-    if level == 0 {
-        return 0;
-    }
-    level - 1
+    level.saturating_sub(1)
 }
 
 // A character below 128 is put to the key where fewer than 32 are kept; any other is not.
 fn key_task(len: u8, c: u32) -> Task
     ensures { result ≡ key_task len c }
 {
-    if len < 32 {
-        if c < 128 {
-            return Task::Put((c % 256) as u8);
-        }
-        return Task::Idle;
+    if len < 32 && c < 128 {
+        Task::Put(c as u8)
+    } else {
+        Task::Idle
     }
-    Task::Idle
 }
 
 // The kind of a number that ends.
@@ -57,9 +50,10 @@ fn number_kind(d: Decimal) -> Scalar
     ensures { result ≡ number_kind d }
 {
     if whole::is_whole(d) {
-        return Scalar::Int;
+        Scalar::Int
+    } else {
+        Scalar::Num
     }
-    Scalar::Num
 }
 
 // The scalar that a word is.
@@ -78,9 +72,10 @@ fn number_task(ends: bool, d: Decimal) -> Task
     ensures { result ≡ number_task ends d }
 {
     if ends {
-        return Task::Finish(number_kind(d));
+        Task::Finish(number_kind(d))
+    } else {
+        Task::Idle
     }
-    Task::Idle
 }
 
 // The innermost open value is closed, after the number that ended if one did.
@@ -88,30 +83,20 @@ fn closing(ends: bool, d: Decimal) -> Task
     ensures { result ≡ closing ends d }
 {
     if ends {
-        return Task::FinishClose(number_kind(d));
+        Task::FinishClose(number_kind(d))
+    } else {
+        Task::Close
     }
-    Task::Close
 }
 
 // The fault of an act, if it is one.
-pub fn first_fault(a: Act, level: usize, frames: usize) -> Fault
+pub fn first_fault(a: Act, level: usize, frames: usize) -> Option<Fault>
     ensures { result ≡ first_fault a level frames }
 {
     match a {
-        Act::Fault => Fault::Malformed,
-        Act::Pass => Fault::Sound,
-        Act::OpenArray => open_fault(level, frames),
-        Act::OpenObject => open_fault(level, frames),
-        Act::Close => Fault::Sound,
-        Act::KeyStart => Fault::Sound,
-        Act::KeyChar => Fault::Sound,
-        Act::KeyEnd => Fault::Sound,
-        Act::TextStart => Fault::Sound,
-        Act::TextChar => Fault::Sound,
-        Act::TextEnd => Fault::Sound,
-        Act::NumberStart => Fault::Sound,
-        Act::NumberByte => Fault::Sound,
-        Act::WordEnd(_) => Fault::Sound,
+        Act::Fault => Some(Fault::Malformed),
+        Act::OpenArray | Act::OpenObject => open_fault(level, frames),
+        _ => None,
     }
 }
 
@@ -120,20 +105,9 @@ pub fn level_after(a: Act, level: usize, frames: usize) -> usize
     ensures { result ≡ level_after a level frames }
 {
     match a {
-        Act::Fault => level,
-        Act::Pass => level,
-        Act::OpenArray => open_level(level, frames),
-        Act::OpenObject => open_level(level, frames),
+        Act::OpenArray | Act::OpenObject => open_level(level, frames),
         Act::Close => down(level),
-        Act::KeyStart => level,
-        Act::KeyChar => level,
-        Act::KeyEnd => level,
-        Act::TextStart => level,
-        Act::TextChar => level,
-        Act::TextEnd => level,
-        Act::NumberStart => level,
-        Act::NumberByte => level,
-        Act::WordEnd(_) => level,
+        _ => level,
     }
 }
 
@@ -142,20 +116,9 @@ pub fn len_after(a: Act, len: u8, c: u32) -> u8
     ensures { result ≡ len_after a len c }
 {
     match a {
-        Act::Fault => len,
-        Act::Pass => len,
-        Act::OpenArray => len,
-        Act::OpenObject => len,
-        Act::Close => len,
         Act::KeyStart => 0,
         Act::KeyChar => key_len(len, c),
-        Act::KeyEnd => len,
-        Act::TextStart => len,
-        Act::TextChar => len,
-        Act::TextEnd => len,
-        Act::NumberStart => len,
-        Act::NumberByte => len,
-        Act::WordEnd(_) => len,
+        _ => len,
     }
 }
 
@@ -164,19 +127,14 @@ pub fn task_of(a: Act, ends: bool, d: Decimal, len: u8, c: u32) -> Task
     ensures { result ≡ task_of a ends d len c }
 {
     match a {
-        Act::Fault => Task::Idle,
         Act::Pass => number_task(ends, d),
         Act::OpenArray => Task::Open(false),
         Act::OpenObject => Task::Open(true),
         Act::Close => closing(ends, d),
-        Act::KeyStart => Task::Idle,
         Act::KeyChar => key_task(len, c),
         Act::KeyEnd => Task::Named,
-        Act::TextStart => Task::Idle,
-        Act::TextChar => Task::Idle,
         Act::TextEnd => Task::Finish(Scalar::Str),
-        Act::NumberStart => Task::Idle,
-        Act::NumberByte => Task::Idle,
         Act::WordEnd(w) => Task::Finish(scalar_of(w)),
+        _ => Task::Idle,
     }
 }

@@ -12,16 +12,9 @@ fn whole_at(p: Awaited, pos: u32, root: bool) -> Verdict
     ensures { result ≡ whole_at p pos root }
 {
     match p {
-        Awaited::Value => Verdict::Unfinished(pos),
-        Awaited::First => Verdict::Unfinished(pos),
-        Awaited::Key => Verdict::Unfinished(pos),
-        Awaited::Colon => Verdict::Unfinished(pos),
-        Awaited::After => {
-            if root {
-                return Verdict::Valid;
-            }
-            Verdict::Invalid
-        }
+        Awaited::After if root => Verdict::Valid,
+        Awaited::After => Verdict::Invalid,
+        _ => Verdict::Unfinished(pos),
     }
 }
 
@@ -30,9 +23,10 @@ fn whole_number(n: NumberMode, pos: u32) -> Verdict
     ensures { result ≡ whole_number n pos }
 {
     if lexer::number::may_end(n) {
-        return Verdict::Invalid;
+        Verdict::Invalid
+    } else {
+        Verdict::Unfinished(pos)
     }
-    Verdict::Unfinished(pos)
 }
 
 // The verdict in a mode with nothing open.
@@ -41,10 +35,8 @@ fn whole_in(m: Mode, pos: u32, root: bool) -> Verdict
 {
     match m {
         Mode::At(p) => whole_at(p, pos, root),
-        Mode::Key(_) => Verdict::Unfinished(pos),
-        Mode::Text(_) => Verdict::Unfinished(pos),
         Mode::Number(n) => whole_number(n, pos),
-        Mode::Word(_, _) => Verdict::Unfinished(pos),
+        _ => Verdict::Unfinished(pos),
     }
 }
 
@@ -53,8 +45,8 @@ pub fn whole(x: Progress, root: bool) -> Verdict
     ensures { result ≡ whole x root }
 {
     if x.level == 0 {
-        let m = x.mode;
-        return whole_in(m, x.pos, root);
+        whole_in(x.mode, x.pos, root)
+    } else {
+        Verdict::Unfinished(x.pos)
     }
-    Verdict::Unfinished(x.pos)
 }

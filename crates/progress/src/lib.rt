@@ -1,5 +1,5 @@
 // The open record, byte by byte: what the reader knows of it, its frames and the bytes of its key aside.
-#![tactic(auto)]
+#![tactic(auto, unfolding(crate::specs::Act::key_task, crate::specs::Act::kept_in, crate::specs::Act::kept_key_len, crate::specs::Act::number_kind, crate::specs::Act::open_fault, crate::specs::Act::open_level, crate::specs::Progress::advanced, crate::specs::Progress::judged, crate::specs::Progress::sound, crate::specs::Progress::whole, crate::specs::Progress::whole_number,),)]
 
 ghost use Rattle.std.specs.Prelude.{◌≡◌};
 ghost use Rattle.progress.specs.Fresh.{fresh_progress};
@@ -15,10 +15,9 @@ pub mod key; // key.rt: the characters kept of the open key
 pub mod register; // register.rt: the registers of the open character and the open number
 pub mod ending; // ending.rt: the verdict of a record without a fault that ends
 
-// The first fault of a record, if there is one.
+// A fault of a record.
 #[derive(Clone, Copy)]
 pub enum Fault {
-    Sound,
     Malformed,
     TooDeep,
     TooLong,
@@ -39,7 +38,8 @@ pub struct Progress {
     pub number: Decimal,
     // where the next byte stands
     pub mode: Mode,
-    pub fault: Fault,
+    // the first fault, if there is one
+    pub fault: Option<Fault>,
     // before the first RS of the stream
     pub head: bool,
     // how many characters of the open key are kept; 33 where it can be no key of a book
@@ -75,17 +75,16 @@ pub struct Advanced {
 pub fn fresh(head: bool) -> Progress
     ensures { result ≡ fresh_progress head }
 {
-    let d = whole::fresh();
     Progress {
         mode: Mode::At(Awaited::Value),
-        fault: Fault::Sound,
+        fault: None,
         head: head,
         level: 0,
         pos: 0,
         place: 0,
         bits: 0,
         high: 0,
-        number: d,
+        number: whole::fresh(),
         len: 0,
     }
 }
@@ -94,23 +93,11 @@ pub fn fresh(head: bool) -> Progress
 fn counted(x: Progress) -> Advanced
     ensures { result ≡ counted x }
 {
-    let m = x.mode;
-    let f = x.fault;
-    let d = x.number;
-    let l = Progress {
-        mode: m,
-        fault: f,
-        head: x.head,
-        level: x.level,
-        pos: whole::bump(x.pos),
-        place: x.place,
-        bits: x.bits,
-        high: x.high,
-        number: d,
-        len: x.len,
-    };
     Advanced {
-        progress: l,
+        progress: Progress {
+            pos: whole::bump(x.pos),
+            ..x
+        },
         task: Task::Idle,
     }
 }
@@ -119,44 +106,27 @@ fn counted(x: Progress) -> Advanced
 fn faulted(x: Progress, f: Fault) -> Advanced
     ensures { result ≡ faulted x f }
 {
-    let m = x.mode;
-    let d = x.number;
-    let l = Progress {
-        mode: m,
-        fault: f,
-        head: x.head,
-        level: x.level,
-        pos: whole::bump(x.pos),
+    counted(Progress {
+        fault: Some(f),
         place: x.pos,
-        bits: x.bits,
-        high: x.high,
-        number: d,
-        len: x.len,
-    };
-    Advanced {
-        progress: l,
-        task: Task::Idle,
-    }
+        ..x
+    })
 }
 
 // The record after byte b, at a mode, with so many levels and so long a key.
 fn moved(x: Progress, b: u8, m: Mode, level: usize, len: u8) -> Progress
     ensures { result ≡ moved x b m level len }
 {
-    let from = x.mode;
-    let f = x.fault;
-    let d = x.number;
+    let number = register::number_before(x.mode, m, x.number);
     Progress {
         mode: m,
-        fault: f,
-        head: x.head,
         level: level,
         pos: whole::bump(x.pos),
-        place: x.place,
-        bits: register::bits_in(from, x.bits, b),
-        high: register::high_in(from, x.bits, x.high, b),
-        number: register::number_to(m, register::number_before(from, m, d), b),
+        bits: register::bits_in(x.mode, x.bits, b),
+        high: register::high_in(x.mode, x.bits, x.high, b),
+        number: register::number_to(m, number, b),
         len: len,
+        ..x
     }
 }
 
@@ -164,23 +134,16 @@ fn moved(x: Progress, b: u8, m: Mode, level: usize, len: u8) -> Progress
 fn acted(x: Progress, frames: usize, b: u8, st: Step) -> Advanced
     ensures { result ≡ acted st.act st.ends x frames b st.mode }
 {
-    let a = st.act;
-    let m = st.mode;
-    let from = x.mode;
-    let f = act::first_fault(a, x.level, frames);
-    match f {
-        Fault::Sound => {
-            let c = register::char_in(from, x.bits, x.high, b);
-            let level = act::level_after(a, x.level, frames);
-            let d = x.number;
+    match act::first_fault(st.act, x.level, frames) {
+        None => {
+            let c = register::char_in(x.mode, x.bits, x.high, b);
+            let level = act::level_after(st.act, x.level, frames);
             Advanced {
-                progress: moved(x, b, m, level, act::len_after(a, x.len, c)),
-                task: act::task_of(a, st.ends, d, x.len, c),
+                progress: moved(x, b, st.mode, level, act::len_after(st.act, x.len, c)),
+                task: act::task_of(st.act, st.ends, x.number, x.len, c),
             }
         }
-        Fault::Malformed => faulted(x, Fault::Malformed),
-        Fault::TooDeep => faulted(x, Fault::TooDeep),
-        Fault::TooLong => faulted(x, Fault::TooLong),
+        Some(f) => faulted(x, f),
     }
 }
 
@@ -189,9 +152,10 @@ fn sound(x: Progress, frames: usize, b: u8, st: Step) -> Advanced
     ensures { result ≡ sound x frames b st }
 {
     if x.pos < 16777216 {
-        return acted(x, frames, b, st);
+        acted(x, frames, b, st)
+    } else {
+        faulted(x, Fault::TooLong)
     }
-    faulted(x, Fault::TooLong)
 }
 
 // A byte that ends no record, of which the lexer makes a step: the record after it, and what is to be done to its root, key and frames.
@@ -205,15 +169,9 @@ pub fn advance(x: Progress, frames: usize, b: u8, st: Step) -> Advanced
             task: Task::Begin,
         };
     }
-    if x.head {
-        return counted(x);
-    }
-    let f = x.fault;
-    match f {
-        Fault::Sound => sound(x, frames, b, st),
-        Fault::Malformed => counted(x),
-        Fault::TooDeep => counted(x),
-        Fault::TooLong => counted(x),
+    match x.fault {
+        None if !x.head => sound(x, frames, b, st),
+        _ => counted(x),
     }
 }
 
@@ -224,11 +182,10 @@ pub fn judge(x: Progress, root: bool) -> Verdict
     if x.head {
         return Verdict::Head;
     }
-    let f = x.fault;
-    match f {
-        Fault::Sound => ending::whole(x, root),
-        Fault::Malformed => Verdict::Malformed(x.place),
-        Fault::TooDeep => Verdict::TooDeep(x.place),
-        Fault::TooLong => Verdict::TooLong,
+    match x.fault {
+        None => ending::whole(x, root),
+        Some(Fault::Malformed) => Verdict::Malformed(x.place),
+        Some(Fault::TooDeep) => Verdict::TooDeep(x.place),
+        Some(Fault::TooLong) => Verdict::TooLong,
     }
 }

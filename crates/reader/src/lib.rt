@@ -286,7 +286,7 @@ fn read_piece<'a>(r: Reader, table: &'a [u8; 7920], work: &mut [u8], piece: &'a 
     requires { within_limits (table_in table.now) ≡ true }
     ensures { record { reader = result.reader; count = result.count; answer = result.answer; work = work.new } ≡ feeding r (table_in table.now) work.old piece.now }
 {
-    let classes = chars::class::classes();
+    let classes = chars::class::Classes::new();
     let frames = r.frames;
     let tally = r.tally;
     let mut progress = r.progress;

@@ -1,4 +1,5 @@
 -- What a byte does to the numbers of a reader, whatever table and buffer it is handed. Assumes nothing.
+use Rattle.std.specs.Prelude.{Option, Some, None}
 use mathlib.Core.Bool.{Bool, true, false}
 use mathlib.Core.List.{List, [], ◌∷◌}
 use mathlib.Core.Path.{◌≡◌, refl}
@@ -84,8 +85,8 @@ module _ (n : ℕ) (x : Progress) where
 
   module _ (b : ℕ) (m : Mode) (digit : DigitTo m b) (short : x.pos < longest) where
     -- levels, key and counts stay within their bounds
-    moves-acted_by : (f : Fault) (a : Act) (e : Bool) → Moved (acted_by f a e x n b m)
-    moves-acted_by F.Sound a e =
+    moves-acted_by : (f : Option Fault) (a : Act) (e : Bool) → Moved (acted_by f a e x n b m)
+    moves-acted_by None a e =
         record {
           within = λ (i : Within n x). record { level = level_after-le a x.level n i.level; len = len_after-le a x.len _ i.len };
           counts = λ (f : CountsIn x).
@@ -93,9 +94,7 @@ module _ (n : ℕ) (x : Progress) where
           pos = refl;
           head = refl;
         }
-    moves-acted_by F.Malformed a e = moves-faulted F.Malformed
-    moves-acted_by F.TooDeep a e = moves-faulted F.TooDeep
-    moves-acted_by F.TooLong a e = moves-faulted F.TooLong
+    moves-acted_by (Some f) a e = moves-faulted f
 
   module _ (b : ℕ) (st : Step) (digit : DigitTo st.mode b) where
     moves-sound : Moved (sound x n b st)
@@ -105,11 +104,9 @@ module _ (n : ℕ) (x : Progress) where
         (λ h. moves-acted_by b st.mode digit (ltb→lt x.pos longest h) (first_fault st.act x.level n) st.act st.ends)
         (λ h. moves-faulted F.TooLong)
 
-    moves-by_fault : (f : Fault) → Moved (advanced_by_fault f x n b st)
-    moves-by_fault F.Sound = moves-sound
-    moves-by_fault F.Malformed = moves-counted
-    moves-by_fault F.TooDeep = moves-counted
-    moves-by_fault F.TooLong = moves-counted
+    moves-by_fault : (f : Option Fault) → Moved (advanced_by_fault f x n b st)
+    moves-by_fault None = moves-sound
+    moves-by_fault (Some f) = moves-counted
 
     moves-advanced : eqb b 0x1E ≡ false → Moved (advanced x n b st)
     unfolding advanced

@@ -1,5 +1,6 @@
 -- A feed of one byte: it leaves the frames as they are, or the byte is sound and does its task. A piece is its bytes. Assumes nothing.
 use Rattle.std.specs.Prelude.{Ok, Some, None}
+use Rattle.std.specs.Prelude.{Option, Some, None}
 use mathlib.Core.Bool.{Bool, true, false, cond}
 use mathlib.Core.List.{List, [], ◌∷◌}
 use mathlib.Core.Logic.{◌⊎◌, inl, inr}
@@ -77,9 +78,9 @@ pub record IsSound (r : Reader) (t : Table) (w : List ℕ) (b : ℕ) : Type 0 wh
   pub gate : gate_of r t w ≡ Is.Open
   pub byte : eqb b 0x1E ≡ false
   pub head : r.progress.head ≡ false
-  pub fault : r.progress.fault ≡ F.Sound
+  pub fault : r.progress.fault ≡ None
   pub short : ltb r.progress.pos longest ≡ true
-  pub first : first_fault (step_at r w b).act (level_of r) r.frames ≡ F.Sound
+  pub first : first_fault (step_at r w b).act (level_of r) r.frames ≡ None
 
 -- a byte that leaves the frames: level and mode stay too, but at an RS
 pub record Idles (r : Reader) (w : List ℕ) (b : ℕ) (o : Outcome) : Type 0 where
@@ -148,25 +149,21 @@ module _ (r : Reader) (t : Table) (w : List ℕ) (b : ℕ) where
         rw (feed_of-of-open r t w (b ∷ []) g ∙ feeding-of-byte (ends_record-of-byte r.progress b e), q)
         (record { work = refl; level = omega arith; stays = λ _. (l, m) })
 
-    ways-by-first : r.progress.head ≡ false → r.progress.fault ≡ F.Sound → ltb r.progress.pos longest ≡ true → (f : Fault)
+    ways-by-first : r.progress.head ≡ false → r.progress.fault ≡ None → ltb r.progress.pos longest ≡ true → (f : Option Fault)
         → first_fault (step_at r w b).act (level_of r) r.frames ≡ f → Ways
     unfolding advanced sound
-    ways-by-first h k s F.Sound q = inr (record { gate = g; byte = e; head = h; fault = k; short = s; first = q })
-    ways-by-first h k s F.Malformed q = inl (idles-of-task (faulted r.progress F.Malformed).progress refl refl (rw (e, h, k, s, q)))
-    ways-by-first h k s F.TooDeep q = inl (idles-of-task (faulted r.progress F.TooDeep).progress refl refl (rw (e, h, k, s, q)))
-    ways-by-first h k s F.TooLong q = inl (idles-of-task (faulted r.progress F.TooLong).progress refl refl (rw (e, h, k, s, q)))
+    ways-by-first h k s None q = inr (record { gate = g; byte = e; head = h; fault = k; short = s; first = q })
+    ways-by-first h k s (Some f) q = inl (idles-of-task (faulted r.progress f).progress refl refl (rw (e, h, k, s, q)))
 
-    ways-by-length : r.progress.head ≡ false → r.progress.fault ≡ F.Sound → (s : Bool) → ltb r.progress.pos longest ≡ s → Ways
+    ways-by-length : r.progress.head ≡ false → r.progress.fault ≡ None → (s : Bool) → ltb r.progress.pos longest ≡ s → Ways
     unfolding advanced sound
     ways-by-length h k true s = ways-by-first h k s (first_fault (step_at r w b).act (level_of r) r.frames) refl
     ways-by-length h k false s = inl (idles-of-task (faulted r.progress F.TooLong).progress refl refl (rw (e, h, k, s)))
 
-    ways-by-fault : r.progress.head ≡ false → (f : Fault) → r.progress.fault ≡ f → Ways
+    ways-by-fault : r.progress.head ≡ false → (f : Option Fault) → r.progress.fault ≡ f → Ways
     unfolding advanced
-    ways-by-fault h F.Sound k = ways-by-length h k (ltb r.progress.pos longest) refl
-    ways-by-fault h F.Malformed k = inl (idles-of-task (counted r.progress).progress refl refl (rw (e, h, k)))
-    ways-by-fault h F.TooDeep k = inl (idles-of-task (counted r.progress).progress refl refl (rw (e, h, k)))
-    ways-by-fault h F.TooLong k = inl (idles-of-task (counted r.progress).progress refl refl (rw (e, h, k)))
+    ways-by-fault h None k = ways-by-length h k (ltb r.progress.pos longest) refl
+    ways-by-fault h (Some f) k = inl (idles-of-task (counted r.progress).progress refl refl (rw (e, h, k)))
 
     ways-by-head : (h : Bool) → r.progress.head ≡ h → Ways
     unfolding advanced

@@ -1,5 +1,6 @@
 -- What is said of the lent bytes is said of something: after `[1`, in the first of two frames, `}` is a faulty byte, `]` ends the number and closes, and
 -- `2` leaves the number open. Assumes nothing.
+use Rattle.std.specs.Prelude.{None}
 use mathlib.Core.Bool.{true, false}
 use mathlib.Core.List.{List, [], ◌∷◌}
 use mathlib.Core.Path.{◌≡◌, refl}
@@ -15,7 +16,6 @@ use Rattle.whole.specs.Count.{bounded, counted}
 use Rattle.table.specs.Table.{Table}
 use Rattle.table.specs.Limits.{within_limits}
 use Rattle.frame.specs.Frame.{has_frame, frame_at, is_object}
-use Rattle.progress.specs.declared.Fault.TheVariants as F
 use Rattle.laws.specs.Count.{bump}
 use Rattle.progress.specs.Progress.{sound, advanced, judged}
 use Rattle.progress.specs.Memory.{top_at, close_at, step_mem, ends_record, run_mem}
@@ -52,7 +52,7 @@ abbrev reader : Reader
 reader =
     record {
       frames = 2;
-      progress = record { mode = M.Number N.Int; fault = F.Sound; head = false; level = 1; pos = 2; place = 0; bits = 0; high = 0; number = counted bounded N.Int fresh 0x31; len = 0 };
+      progress = record { mode = M.Number N.Int; fault = None; head = false; level = 1; pos = 2; place = 0; bits = 0; high = 0; number = counted bounded N.Int fresh 0x31; len = 0 };
       root = false;
       key = replicate 32 0;
       tally = zero_tally;

@@ -1,6 +1,7 @@
 -- A record in a string or a key goes on after a first byte from 80 up and a second byte exactly when a row of RFC 3629 lists the two:
 -- `goes-on-iff-listed`. Assumes nothing.
-use Rattle.std.specs.Prelude.{Ok, None}
+use Rattle.std.specs.Prelude.{Ok, Some, None}
+use Rattle.std.specs.Prelude.{Some, None}
 use mathlib.Core.Bool.{Bool, true, false}
 use mathlib.Core.List.{List, [], ◌∷◌}
 use mathlib.Core.Logic.{◌⊎◌, inl, inr, ◌↔◌}
@@ -43,21 +44,21 @@ use Rattle.stream.proofs.SoundLaws.{not-faulty, faulty-of-malformed}
 
 -- the fault and the mode that a byte other than RS leaves, by the fault of its act
 module _ (x : Progress) (n b : ℕ) (st : Step) (e : eqb b 0x1E ≡ false) (h : x.head ≡ false) where
-  module _ (f : x.fault ≡ F.Sound) (s : ltb x.pos longest ≡ true) where
-    fault-of-sound : first_fault st.act x.level n ≡ F.Sound → (advanced x n b st).progress.fault ≡ F.Sound
+  module _ (f : x.fault ≡ None) (s : ltb x.pos longest ≡ true) where
+    fault-of-sound : first_fault st.act x.level n ≡ None → (advanced x n b st).progress.fault ≡ None
     unfolding advanced sound
     fault-of-sound q = rw (e, h, f, s, q)
 
-    mode-of-sound : first_fault st.act x.level n ≡ F.Sound → (advanced x n b st).progress.mode ≡ st.mode
+    mode-of-sound : first_fault st.act x.level n ≡ None → (advanced x n b st).progress.mode ≡ st.mode
     unfolding advanced sound
     mode-of-sound q = rw (e, h, f, s, q)
 
-    fault-of-malformed : first_fault st.act x.level n ≡ F.Malformed → (advanced x n b st).progress.fault ≡ F.Malformed
+    fault-of-malformed : first_fault st.act x.level n ≡ Some F.Malformed → (advanced x n b st).progress.fault ≡ Some F.Malformed
     unfolding advanced sound
     fault-of-malformed q = rw (e, h, f, s, q)
 
   -- a malformed record stays so
-  fault-stays : x.fault ≡ F.Malformed → (advanced x n b st).progress.fault ≡ F.Malformed
+  fault-stays : x.fault ≡ Some F.Malformed → (advanced x n b st).progress.fault ≡ Some F.Malformed
   unfolding advanced
   fault-stays f = rw (e, h, f)
 
@@ -67,14 +68,14 @@ module _ (x : Progress) (n b : ℕ) (st : Step) (e : eqb b 0x1E ≡ false) (h : 
 record Malformed (r : Reader) (t : Table) (w : List ℕ) : Type 0 where
   gate : gate_of r t w ≡ Is.Open
   head : r.progress.head ≡ false
-  fault : r.progress.fault ≡ F.Malformed
+  fault : r.progress.fault ≡ Some F.Malformed
   read : ltb 0 r.progress.pos ≡ true
 
 -- the call is let in, and the record, of p bytes so far, is not the head, has no fault and stands in mode m
 record Reads (r : Reader) (t : Table) (w : List ℕ) (m : Mode) (p : ℕ) : Type 0 where
   gate : gate_of r t w ≡ Is.Open
   head : r.progress.head ≡ false
-  fault : r.progress.fault ≡ F.Sound
+  fault : r.progress.fault ≡ None
   mode : mode_of r ≡ m
   pos : r.progress.pos ≡ p
 
@@ -103,7 +104,7 @@ module _ (r : Reader) (t : Table) (w : List ℕ) (b : ℕ) (e : eqb b 0x1E ≡ f
     short : ltb r.progress.pos longest ≡ true
     short = lt-ltb r.progress.pos longest (omega (arith, x.pos))
 
-    malformed-of-fault : first_fault (step_at r w b).act (level_of r) r.frames ≡ F.Malformed → Malformed o.reader t o.work
+    malformed-of-fault : first_fault (step_at r w b).act (level_of r) r.frames ≡ Some F.Malformed → Malformed o.reader t o.work
     malformed-of-fault q =
         record {
           gate = open-of-other r t w b x.gate e;
@@ -113,7 +114,7 @@ module _ (r : Reader) (t : Table) (w : List ℕ) (b : ℕ) (e : eqb b 0x1E ≡ f
           read = read-of-byte x.gate;
         }
 
-    reads-of-sound : first_fault (step_at r w b).act (level_of r) r.frames ≡ F.Sound → Reads o.reader t o.work (step_at r w b).mode (p + 1)
+    reads-of-sound : first_fault (step_at r w b).act (level_of r) r.frames ≡ None → Reads o.reader t o.work (step_at r w b).mode (p + 1)
     reads-of-sound q =
         record {
           gate = open-of-other r t w b x.gate e;
@@ -150,12 +151,12 @@ unfolding into by
 goes-into a-string m = refl
 goes-into a_key m = refl
 
-malformed-by : (K : Kind) (level n : ℕ) → first_fault (by K SM.Fault).act level n ≡ F.Malformed
+malformed-by : (K : Kind) (level n : ℕ) → first_fault (by K SM.Fault).act level n ≡ Some F.Malformed
 unfolding by
 malformed-by a-string level n = refl
 malformed-by a_key level n = refl
 
-sound-by : (K : Kind) (k : StringMove) → (k ≡ SM.Fault → ⊥) → (level n : ℕ) → first_fault (by K k).act level n ≡ F.Sound
+sound-by : (K : Kind) (k : StringMove) → (k ≡ SM.Fault → ⊥) → (level n : ℕ) → first_fault (by K k).act level n ≡ None
 unfolding by
 sound-by K SM.Fault x level n = absurd (x refl)
 sound-by a-string (SM.Go m) x level n = refl

@@ -1,4 +1,5 @@
 -- What a sound byte writes, by how the level moves; and that a record without a fault is not judged to have one. Assumes nothing.
+use Rattle.std.specs.Prelude.{Option, Some, None}
 use mathlib.Core.Bool.{Bool, true, false, cond}
 use mathlib.Core.List.{List}
 use mathlib.Core.Path.{◌≡◌, refl, sym, ap, subst, ◌∙◌}
@@ -61,14 +62,14 @@ whole-not-faulty x root = cond-elim (λ (v : Verdict). is_faulty v ≡ false) (e
     go (M.Number n) = cond-elim (λ (v : Verdict). is_faulty v ≡ false) (may_end n) (λ _. refl) (λ _. refl)
     go (M.Word v i) = refl
 
-judged-not-faulty : (x : Progress) (root : Bool) → x.head ≡ false → x.fault ≡ F.Sound → is_faulty (judged x root) ≡ false
+judged-not-faulty : (x : Progress) (root : Bool) → x.head ≡ false → x.fault ≡ None → is_faulty (judged x root) ≡ false
 unfolding judged
 judged-not-faulty x root h f =
     subst (λ (v : Bool). is_faulty (cond v Is.Head (verdict_by x.fault x root)) ≡ false) (sym h)
-    (subst (λ (v : Fault). is_faulty (verdict_by v x root) ≡ false) (sym f) (whole-not-faulty x root))
+    (subst (λ (v : Option Fault). is_faulty (verdict_by v x root) ≡ false) (sym f) (whole-not-faulty x root))
 
 -- a close tells of no fault where the record has none and is not the head
-pub not-faulty : (r : Reader) (t : Table) (w : List ℕ) → r.progress.head ≡ false → r.progress.fault ≡ F.Sound → faulty_in r t w ≡ false
+pub not-faulty : (r : Reader) (t : Table) (w : List ℕ) → r.progress.head ≡ false → r.progress.fault ≡ None → faulty_in r t w ≡ false
 unfolding close_of closing
 not-faulty r t w h f =
     through-elim (λ (o : Outcome). says_faulty o.answer ≡ false) (gate_of r t w) (λ k _. refl)
@@ -77,7 +78,7 @@ not-faulty r t w h f =
 
 -- a close tells of the fault of a malformed record of which a byte is read
 pub faulty-of-malformed : (r : Reader) (t : Table) (w : List ℕ) → gate_of r t w ≡ Gate.Open → ltb 0 r.progress.pos ≡ true → r.progress.head ≡ false
-    → r.progress.fault ≡ F.Malformed → faulty_in r t w ≡ true
+    → r.progress.fault ≡ Some F.Malformed → faulty_in r t w ≡ true
 unfolding close_of closing judged
 faulty-of-malformed r t w g p h f = rw (g, p, h, f)
 
@@ -176,7 +177,7 @@ module _ (r : Reader) (t : Table) (w : List ℕ) (b : ℕ) (s : IsSound r t w b)
   pub sound-not-faulty : faulty_in o.reader t o.work ≡ false
   sound-not-faulty =
       let h : o.reader.progress.head ≡ false = ap (λ (x : Progress). x.head) (progress-fed r t w b s) ∙ s.head in
-      let f : o.reader.progress.fault ≡ F.Sound = ap (λ (x : Progress). x.fault) (progress-fed r t w b s) ∙ s.fault in
+      let f : o.reader.progress.fault ≡ None = ap (λ (x : Progress). x.fault) (progress-fed r t w b s) ∙ s.fault in
       not-faulty o.reader t o.work h f
 
   -- nothing outside the three frames

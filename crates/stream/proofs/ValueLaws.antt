@@ -1,5 +1,6 @@
 -- Of a number that is fed where a value is awaited the reader finds `int` exactly where the value is whole: `kind-of-number`. Assumes nothing.
 use Rattle.std.specs.Prelude.{Ok, Err, None}
+use Rattle.std.specs.Prelude.{None}
 use mathlib.Core.Bool.{Bool, true, false, cond}
 use mathlib.Core.List.{List, [], ◌∷◌}
 use mathlib.Core.Logic.{◌↔◌}
@@ -35,7 +36,6 @@ use Rattle.whole.proofs.BoundLaws.{whole-iff-bounded}
 use Rattle.table.specs.Table.{Table}
 use Rattle.table.specs.declared.kind.Scalar.TheVariants as K
 use Rattle.verdict.specs.Verdict.{longest}
-use Rattle.progress.specs.declared.Fault.TheVariants as F
 use Rattle.progress.specs.Act.{first_fault, number_in, number_kind}
 use Rattle.pass.proofs.ByteLaws.{bump-below}
 use Rattle.pass.proofs.NumberLaws.{go-other}
@@ -51,7 +51,7 @@ use Rattle.stream.proofs.FedLaws.{gate_of, feed_of-of-shut, step_at, done, IsSou
 record ReadsOn (t : Table) (r : Reader) (w : List ℕ) (m : Mode) (d : Decimal) (p : ℕ) : Type 0 where
   gate : gate_of r t w ≡ Is.Open
   head : r.progress.head ≡ false
-  fault : r.progress.fault ≡ F.Sound
+  fault : r.progress.fault ≡ None
   mode : mode_of r ≡ m
   number : r.progress.number ≡ d
   pos : r.progress.pos ≡ p
@@ -87,7 +87,7 @@ module _ (t : Table) (r : Reader) (w : List ℕ) (m : Mode) (d : Decimal) (p b :
         reads_on = record { gate = i.gate; head = i.head; fault = i.fault; mode = refl; number = same_number; pos = next-pos l };
       }
 
-  no-fault : {a : Act} → NumberAct a → first_fault a (level_of r) r.frames ≡ F.Sound
+  no-fault : {a : Act} → NumberAct a → first_fault a (level_of r) r.frames ≡ None
   no-fault first_byte = refl
   no-fault more_byte = refl
 

@@ -3,6 +3,7 @@
 -- `close_of`, for every reader, table, buffer and byte, made-up readers and refused calls too. Stated; `lent` of `LentLaws` proves all of `Lent`.
 -- Assumes nothing.
 use Rattle.std.specs.Prelude.{Ok, Err, Some, None}
+use Rattle.std.specs.Prelude.{None}
 use Rattle.std.specs.Prelude.{Bool, true, false, List, [], ◌∷◌, ◌++◌, ◌⊎◌, ◌↔◌, ◌≡◌, ℕ, ◌+◌, ◌*◌, ◌-◌, ◌<◌, ◌≤◌, eqb, length, get_or}
 use Rattle.json_text.specs.Numbers.{Number}
 use Rattle.json_text.specs.declared.string.StringMode.{StringMode}
@@ -25,7 +26,6 @@ use Rattle.frame.specs.Ops.{opened, keyed, valued, closed}
 use Rattle.verdict.specs.Verdict.{longest}
 use Rattle.verdict.specs.declared.Verdict.{Verdict}
 use Rattle.verdict.specs.declared.Verdict.TheVariants as Is
-use Rattle.progress.specs.declared.Fault.TheVariants as F
 use Rattle.progress.specs.declared.Progress.{Progress}
 use Rattle.progress.specs.Act.{number_kind}
 use Rattle.reader.specs.declared.Reader.{Reader}
@@ -166,7 +166,7 @@ NotOpened r t w s l = (p q : List ℕ) → p ++ q ≡ s → level_of (feed_of r 
 pub record AwaitsValue (r : Reader) (t : Table) (w : List ℕ) : Type 0 where
   pub let_in : (feed_of r t w []).answer ≡ Ok None
   pub head : r.progress.head ≡ false
-  pub fault : r.progress.fault ≡ F.Sound
+  pub fault : r.progress.fault ≡ None
   pub mode : mode_of r ≡ M.At P.Value
 
 -- all that is said of the lent bytes

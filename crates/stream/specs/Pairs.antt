@@ -1,6 +1,7 @@
 -- The first two bytes of a UTF-8 sequence, fed to a reader: RFC 3629, section 4, and REQUIREMENT.md, section 2. Each sentence is about `feed_of` and
 -- `close_of`, for every reader, table and buffer, made-up readers too. Stated; `goes-on-iff-listed` of `PairLaws` proves `Pairs`. Assumes nothing.
 use Rattle.std.specs.Prelude.{Ok, None}
+use Rattle.std.specs.Prelude.{None}
 use Rattle.std.specs.Prelude.{false, List, [], ◌∷◌, ◌↔◌, ◌≡◌, ℕ, ◌+◌, ◌≤◌}
 use Rattle.json_text.specs.Rows.{Listed}
 use Rattle.json_text.specs.declared.string.StringMode.TheVariants as S
@@ -8,7 +9,6 @@ use Rattle.json_text.specs.declared.lexer.Mode.{Mode}
 use Rattle.json_text.specs.declared.lexer.Mode.TheVariants as M
 use Rattle.table.specs.Table.{Table}
 use Rattle.verdict.specs.Verdict.{longest}
-use Rattle.progress.specs.declared.Fault.TheVariants as F
 use Rattle.reader.specs.declared.Reader.{Reader}
 use Rattle.reader.specs.Machine.{Outcome, feed_of}
 use Rattle.stream.specs.Lent.{mode_of, faulty_in}
@@ -22,7 +22,7 @@ pub data AwaitsChar : Mode → Type 0 where
 pub record InString (r : Reader) (t : Table) (w : List ℕ) : Type 0 where
   pub let_in : (feed_of r t w []).answer ≡ Ok None
   pub head : r.progress.head ≡ false
-  pub fault : r.progress.fault ≡ F.Sound
+  pub fault : r.progress.fault ≡ None
   pub mode : AwaitsChar (mode_of r)
   pub room : r.progress.pos + 2 ≤ longest
 

@@ -6,7 +6,7 @@ use Rattle.json_text.specs.Bytes.{within, is_blank}
 use Rattle.json_text.specs.Classes.{is_break, is_structure, high_class, class_of}
 use Rattle.json_text.specs.Grammar.{spelling}
 use Rattle.json_text.specs.Numbers.{is_digit, is_digit_1_9, is_e}
-use Rattle.json_text.specs.Lexer.{escape_move, hex_of, any_hex, unit1, unit_d, ranged, hex_bits, or_exp, after_minus, after_zero, after_int, after_frac, after_e, after_exp, digit_only, letter_move, value_start, at_value, at_first_element, at_first_key, at_key, at_colon, after_root, after_element as behindElement, after_pair}
+use Rattle.json_text.specs.Lexer.{escape_move, hex_of, ranged, or_exp, after_minus, after_zero, after_int, after_frac, after_e, after_exp, digit_only, letter_move, value_start, at_value, at_first_element, at_first_key, at_key, at_colon, after_root, after_element as behindElement, after_pair}
 use Rattle.json_text.specs.Machine.{step}
 use Rattle.table.specs.Keys.{number_of}
 use Rattle.book.specs.Entry.{same_form, with_key, keys_from, keys_of, clash}
@@ -32,8 +32,8 @@ found : Row → Verdict
 found x = track_end entries_b (track entries_b (frame_count x.work) (track_start entries_b) x.part)
 
 rows-found : map found rows ≡ map (λ (x : Row). x.verdict) rows
-unfolding found within is_blank is_break is_structure high_class class_of spelling is_digit is_digit_1_9 is_e escape_move hex_of any_hex unit1 unit_d
-    ranged hex_bits or_exp after_minus after_zero after_int after_frac after_e after_exp digit_only letter_move value_start at_value at_first_element
+unfolding found within is_blank is_break is_structure high_class class_of spelling is_digit is_digit_1_9 is_e escape_move hex_of
+    ranged or_exp after_minus after_zero after_int after_frac after_e after_exp digit_only letter_move value_start at_value at_first_element
     at_first_key at_key at_colon after_root behindElement after_pair step same any with_key keys_from keys_of number_of begins with_digit enough
     is_whole of_scalar of_rules same_form is_of asks is_array_edge has_key any_edge leads ends_in start_of moved has_end after_element key_count
     number_in at_opening after_key fits_edge after_value use_key walk object_fits track_to track_byte verdict_of track_end

@@ -1,4 +1,3 @@
-pub mod CountLaws
 pub mod KeptLaws
 pub mod LimitLaws
 pub mod RunLaws

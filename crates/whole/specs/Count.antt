@@ -1,7 +1,7 @@
 -- What is kept of a number while its bytes pass: the zeros at the end of its digits, the digits after the point, the exponent. It is counted without
 -- bound and, as a reader does, with bounds. Derived: `whole-iff-read` of `ReadLaws` joins the counts without bound to `Whole`, and `test-of-kept` of
 -- `KeptLaws` the bounded ones to them. Assumes nothing.
-use Rattle.std.specs.Prelude.{Bool, true, not, cond, ◌||◌, List, ℕ, zero, suc, ◌+◌, ◌*◌, ◌-◌, eqb, leb, get_or}
+use Rattle.std.specs.Prelude.{Bool, true, not, cond, ◌||◌, List, [], ◌∷◌, ℕ, zero, suc, ◌+◌, ◌*◌, ◌-◌, eqb, leb, get_or}
 use Rattle.laws.specs.Count.{bump}
 use Rattle.json_text.specs.declared.number.NumberMode.{NumberMode}
 use Rattle.json_text.specs.declared.number.NumberMode.TheVariants as N
@@ -61,6 +61,11 @@ module _ (c : Counting) where
   unfoldable pub counted_from : NumberMode → Decimal → List ℕ → ℕ → ℕ → Decimal
   counted_from n d s i zero = d
   counted_from n d s i (suc k) = counted_from n (counted n d (get_or s i 0)) s (i + 1) k
+
+  -- the bytes of a list, each of which leads to mode n
+  abbrev pub counted_all : NumberMode → Decimal → List ℕ → Decimal
+  counted_all n d [] = d
+  counted_all n d (b ∷ s) = counted_all n (counted n d b) s
 
 -- ---- the test
 

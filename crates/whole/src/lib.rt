@@ -1,7 +1,7 @@
 // Whether the value of a number is whole, found while its bytes pass, in constant memory.
-#![tactic(auto)]
+#![tactic(auto, unfolding(laws::specs::Count::bump, crate::specs::Count::enough, crate::specs::Count::is_whole, crate::specs::Count::longer_up_to, crate::specs::Count::with_digit,),)]
 
-ghost use Rattle.std.specs.Prelude.{◌≡◌, ◌-◌, ◌≤◌};
+ghost use Rattle.std.specs.Prelude.{◌≡◌, ◌-◌};
 ghost use Rattle.whole.specs.Fresh.{fresh};
 ghost use Rattle.laws.specs.Count.{bump};
 ghost use Rattle.whole.specs.Count.{longer_up_to, bounded, with_digit, with_place, with_exponent, counted, enough, is_whole};
@@ -41,10 +41,7 @@ pub fn fresh() -> Decimal
 pub fn bump(n: u32) -> u32
     ensures { result ≡ bump n }
 {
-    if n < 4294967295 {
-        return n + 1;
-    }
-    n
+    n.saturating_add(1)
 }
 
 // The exponent with one digit more, which byte b shows.
@@ -52,33 +49,27 @@ fn longer(e: u32, b: u8) -> u32
     ensures { result ≡ longer_up_to e (b - 0x30) }
 {
     if e <= 16777216 {
-        if b < 0x30 {
-            return 10 * e;
-        }
-        return 10 * e + ((b - 0x30) as u32);
+        10 * e + u32::from(b.saturating_sub(b'0'))
+    } else {
+        e
     }
-    e
 }
 
 // A digit before or after the point.
 fn with_digit(d: Decimal, b: u8) -> Decimal
     ensures { result ≡ with_digit bounded d b }
 {
-    if b == 0x30 {
-        return Decimal {
+    if b == b'0' {
+        Decimal {
             zeros: bump(d.zeros),
-            places: d.places,
-            exponent: d.exponent,
-            negative: d.negative,
-            nonzero: d.nonzero,
-        };
-    }
-    Decimal {
-        zeros: 0,
-        places: d.places,
-        exponent: d.exponent,
-        negative: d.negative,
-        nonzero: true,
+            ..d
+        }
+    } else {
+        Decimal {
+            zeros: 0,
+            nonzero: true,
+            ..d
+        }
     }
 }
 
@@ -87,11 +78,8 @@ fn with_place(d: Decimal) -> Decimal
     ensures { result ≡ with_place bounded d }
 {
     Decimal {
-        zeros: d.zeros,
         places: bump(d.places),
-        exponent: d.exponent,
-        negative: d.negative,
-        nonzero: d.nonzero,
+        ..d
     }
 }
 
@@ -100,11 +88,8 @@ fn with_exponent(d: Decimal, b: u8) -> Decimal
     ensures { result ≡ with_exponent bounded d b }
 {
     Decimal {
-        zeros: d.zeros,
-        places: d.places,
         exponent: longer(d.exponent, b),
-        negative: d.negative,
-        nonzero: d.nonzero,
+        ..d
     }
 }
 
@@ -113,11 +98,8 @@ fn with_sign(d: Decimal, b: u8) -> Decimal
     ensures { result ≡ counted bounded NumberMode.Sign d b }
 {
     Decimal {
-        zeros: d.zeros,
-        places: d.places,
-        exponent: d.exponent,
-        negative: b == 0x2D,
-        nonzero: d.nonzero,
+        negative: b == b'-',
+        ..d
     }
 }
 
@@ -126,39 +108,29 @@ pub fn counted(n: NumberMode, d: Decimal, b: u8) -> Decimal
     ensures { result ≡ counted bounded n d b }
 {
     match n {
-        NumberMode::Minus => d,
-        NumberMode::Zero => with_digit(d, b),
-        NumberMode::Int => with_digit(d, b),
-        NumberMode::Dot => d,
+        NumberMode::Minus | NumberMode::Dot | NumberMode::E => d,
+        NumberMode::Zero | NumberMode::Int => with_digit(d, b),
         NumberMode::Frac => with_place(with_digit(d, b)),
-        NumberMode::E => d,
         NumberMode::Sign => with_sign(d, b),
         NumberMode::Exp => with_exponent(d, b),
     }
 }
 
 // The digits after the point are at most the zeros at the end and the exponent together.
-fn enough(negative: bool, places: u64, zeros: u64, exponent: u64) -> bool
-    requires { (places ≤ 4294967295) × (zeros ≤ 4294967295) × (exponent ≤ 4294967295) }
+fn enough(negative: bool, places: u32, zeros: u32, exponent: u32) -> bool
     ensures { result ≡ enough negative places zeros exponent }
 {
+    let (places, zeros, exponent) = (u64::from(places), u64::from(zeros), u64::from(exponent));
     if negative {
-        return places + exponent <= zeros;
+        places + exponent <= zeros
+    } else {
+        places <= zeros + exponent
     }
-    places <= zeros + exponent
 }
 
 // The value is whole. Ruled out: a zero that is refused for an exponent below 0, and an exponent whose sign is ignored.
 pub fn is_whole(d: Decimal) -> bool
     ensures { result ≡ is_whole d }
 {
-    if d.nonzero {
-        return enough(
-            d.negative,
-            d.places as u64,
-            d.zeros as u64,
-            d.exponent as u64,
-        );
-    }
-    true
+    !d.nonzero || enough(d.negative, d.places, d.zeros, d.exponent)
 }

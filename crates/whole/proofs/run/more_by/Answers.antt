@@ -1,11 +1,8 @@
--- `run::more_by` meets its contract. Assumes nothing.
-use borrow.Author.Rules.{rules}
-use native.Mathlib.Omega.{arith}
-use Rattle.whole.proofs.RunLaws.{more-below, more-full}
+-- `run::more_by` meets its contract: one more, k times, is k more. Assumes nothing.
+use Rattle.std.proofs.Common.{rules, arith}
+use Rattle.std.proofs.lemmas.Grind.{common_steps}
+use Rattle.whole.proofs.RunLaws.{more_by-min}
 use Rattle.whole.proofs.run.more_by.Goals as goal
 
-pub returns-then-k-n : goal.returns-then-k-n
-returns-then-k-n c = search (rules, more-below)
-
 pub returns : goal.returns
-returns c = more-full c.args.n c.args.k (omega arith) (omega arith)
+returns c = grind (arith, common_steps, more_by-min c.args.n c.args.k (search rules))

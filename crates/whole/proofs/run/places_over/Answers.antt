@@ -1,7 +1,7 @@
--- `run::places_over` meets its contract. Assumes nothing.
-use borrow.Author.Rules.{rules}
-use Rattle.whole.proofs.RunLaws.{frac-counted}
+-- `run::places_over` meets its contract: places count besides. Assumes nothing.
+use Rattle.std.proofs.Common.{rules}
+use Rattle.whole.proofs.RunLaws.{places-counted}
 use Rattle.whole.proofs.run.places_over.Goals as goal
 
 pub returns : goal.returns
-returns c = search (rules, frac-counted)
+returns c = search (rules, places-counted)

@@ -1,0 +1,7 @@
+-- `Classes::of` meets its contract: the table gives each byte its class. Assumes nothing.
+use Rattle.std.proofs.Common.{rules}
+use Rattle.chars.proofs.TableLaws.{class_at-class_table}
+use Rattle.chars.proofs.class.Classes.of.Goals as goal
+
+pub returns : goal.returns
+returns c = rw c.args.self.now.told (class_at-class_table c.args.b (search rules))

@@ -1,8 +1,0 @@
--- `register::bits_in` meets its contract. Assumes nothing.
-use Rattle.progress.proofs.register.bits_in.Goals as goal
-
-pub returns-in-Key : goal.returns-in-Key
-returns-in-Key c = simp (c.bits_after.ensures, c.in-Key.is)
-
-pub returns-in-Text : goal.returns-in-Text
-returns-in-Text c = simp (c.bits_after-in-Text.ensures, c.in-Text.is)

@@ -1,7 +1,7 @@
 -- `plane::begun` meets its contract: the fields are those of the definition. Assumes nothing.
 use mathlib.Core.Path.{refl}
 use Rattle.plane.specs.Scan.{begun}
-use Rattle.plane.proofs.begun.Goals as goal
+use Rattle.plane.proofs.Scan.begun.Goals as goal
 
 pub returns : goal.returns
 unfolding begun

@@ -1,6 +1,6 @@
 -- `walk::feed_piece` meets its contract. Assumes nothing.
+use Rattle.std.proofs.Common.{rules}
 use Rattle.boundary.proofs.StepLaws.{walked_on, walked-told}
-use borrow.Author.Rules.{rules}
 use Rattle.boundary.proofs.walk.feed_piece.Goals as goal
 
 pub returns-then-takes : goal.returns-then-takes

@@ -36,7 +36,7 @@ located-lt : (cs : List Point) (p : Point) → 1 ≤ length cs → (located cs p
 located-lt [] p h = absurd (omega (arith, h))
 located-lt (c ∷ cs) p h = nearest-lt (placed-located c cs p)
 
-nearest-below : (cs : List Point) (p : Point) → 1 ≤ length cs → nearest_in (answer_at cs p) < length cs
+pub nearest-below : (cs : List Point) (p : Point) → 1 ≤ length cs → nearest_in (answer_at cs p) < length cs
 unfolding answer_at
 nearest-below cs p h = go (in_range p)
   where

@@ -70,6 +70,14 @@ fn put(corners: &mut [i32; 2048], n: usize, number: Option<i32>)
     }
 }
 
+// A text to be judged, and the table of book B.
+#[derive(Clone, Copy)]
+struct Source<'a> {
+    text: &'a [u8],
+    table: &'a [u8; 7920],
+    ghost book: { table_in table.now ≡ book_table book_b },
+}
+
 // Where the walk stands: the reader, the place in the text, how many numbers are taken, and whether one of them is unfit.
 #[derive(Clone, Copy)]
 struct Walk {
@@ -79,76 +87,66 @@ struct Walk {
     unfit: bool,
 }
 
-// Takes the number that a piece ends with.
-fn take_number(w: Walk, next: Reader, end: usize, corners: &mut [i32; 2048], number: &[u8]) -> Walk
-    requires { w.taken < 18446744073709551615 }
-    ensures walk { result ≡ record { reader = next; at = end; taken = w.taken + 1; unfit = w.unfit || is_unfit (coordinate_of number.now) } }
-    ensures memory { corners.new ≡ put_at corners.old w.taken (coordinate_of number.now) }
-{
-    let c = coordinate::read(number);
-    put(corners, w.taken, c);
-    Walk {
-        reader: next,
-        at: end,
-        taken: w.taken + 1,
-        unfit: w.unfit | c.is_none(),
+impl Walk {
+    // Takes the number that a piece ends with.
+    fn take_number(self, next: Reader, end: usize, corners: &mut [i32; 2048], number: &[u8]) -> Walk
+        requires { self.taken < 18446744073709551615 }
+        ensures walk { result ≡ record { reader = next; at = end; taken = self.taken + 1; unfit = self.unfit || is_unfit (coordinate_of number.now) } }
+        ensures memory { corners.new ≡ put_at corners.old self.taken (coordinate_of number.now) }
+    {
+        let c = coordinate::read(number);
+        put(corners, self.taken, c);
+        Walk {
+            reader: next,
+            at: end,
+            taken: self.taken + 1,
+            unfit: self.unfit | c.is_none(),
+        }
     }
-}
 
-// Feeds a piece: bytes between numbers, up to the place `from`, then bytes of numbers. Takes these where they are a number at level 3.
-fn feed_piece<'a>(
-    w: Walk,
-    table: &'a [u8; 7920],
-    text: &'a [u8],
-    work: &mut [u8],
-    corners: &mut [i32; 2048],
-    from: usize,
-    end: usize,
-) -> Walk
-    requires { Piece (table_in table.now) text.now w.at w.reader work.old w.taken w.unfit corners.old from end }
-    ensures { WentOn (table_in table.now) text.now w.at result work.new corners.new }
-{
-    let f = reader::feed(w.reader, table, work, &text[w.at..end]);
-    let next = f.reader;
-    if takes(next.progress) {
-        return take_number(w, next, end, corners, &text[from..end]);
+    // Feeds a piece: bytes between numbers, up to the place `from`, then bytes of numbers. Takes these where they are a number at level 3.
+    fn feed_piece(
+        self,
+        source: &Source,
+        work: &mut [u8],
+        corners: &mut [i32; 2048],
+        from: usize,
+        end: usize,
+    ) -> Walk
+        requires { Piece (table_in source.now.table.now) source.now.text.now self.at self.reader work.old self.taken self.unfit corners.old from end }
+        ensures { WentOn (table_in source.now.table.now) source.now.text.now self.at result work.new corners.new }
+    {
+        let text = source.text;
+        let f = reader::feed(self.reader, source.table, work, &text[self.at..end]);
+        let next = f.reader;
+        if takes(next.progress) {
+            return self.take_number(next, end, corners, &text[from..end]);
+        }
+        Walk {
+            reader: next,
+            at: end,
+            ..self
+        }
     }
-    Walk {
-        reader: next,
-        at: end,
-        ..w
-    }
-}
 
-// Feeds the bytes up to the end of the next bytes of numbers. The walk ends at an RS.
-fn walk_on<'a>(
-    w: Walk,
-    table: &'a [u8; 7920],
-    text: &'a [u8],
-    work: &mut [u8],
-    corners: &mut [i32; 2048],
-) -> Option<Walk>
-    requires { Walked (table_in table.now) text.now w.at w.reader work.old w.taken w.unfit corners.old × (w.at < length text.now) × (table_in table.now ≡ book_table book_b) }
-    ensures { WalkedOn (table_in table.now) text.now w.at result work.new corners.new }
-{
-    let from = run_end(text, w.at, is_gap_byte);
-    let end = run_end(text, from, is_number_byte);
-    if end == w.at {
-        return None;
+    // Feeds the bytes up to the end of the next bytes of numbers. The walk ends at an RS.
+    fn on(self, source: &Source, work: &mut [u8], corners: &mut [i32; 2048]) -> Option<Walk>
+        requires { Walked (table_in source.now.table.now) source.now.text.now self.at self.reader work.old self.taken self.unfit corners.old × (self.at < length source.now.text.now) }
+        ensures { WalkedOn (table_in source.now.table.now) source.now.text.now self.at result work.new corners.new }
+    {
+        let from = run_end(source.text, self.at, is_gap_byte);
+        let end = run_end(source.text, from, is_number_byte);
+        if end == self.at {
+            return None;
+        }
+        Some(self.feed_piece(source, work, corners, from, end))
     }
-    Some(feed_piece(w, table, text, work, corners, from, end))
 }
 
 // Feeds the whole text to a reader behind an RS; none where it has an RS itself.
-fn walk_all<'a>(
-    r: Reader,
-    table: &'a [u8; 7920],
-    text: &'a [u8],
-    work: &mut [u8],
-    corners: &mut [i32; 2048],
-) -> Option<Walk>
-    requires { Walked (table_in table.now) text.now 0 r work.old 0 false corners.old × (table_in table.now ≡ book_table book_b) }
-    ensures { WalkedAll (table_in table.now) text.now result work.new corners.new }
+fn walk_all(r: Reader, source: &Source, work: &mut [u8], corners: &mut [i32; 2048]) -> Option<Walk>
+    requires { Walked (table_in source.now.table.now) source.now.text.now 0 r work.old 0 false corners.old }
+    ensures { WalkedAll (table_in source.now.table.now) source.now.text.now result work.new corners.new }
 {
     let mut w = Walk {
         reader: r,
@@ -156,8 +154,8 @@ fn walk_all<'a>(
         taken: 0,
         unfit: false,
     };
-    while w.at < text.len() {
-        w = walk_on(w, table, text, work, corners)?;
+    while w.at < source.text.len() {
+        w = w.on(source, work, corners)?;
     }
     Some(w)
 }
@@ -165,21 +163,21 @@ fn walk_all<'a>(
 const RS: [u8; 1] = [0x1E];
 
 // A fresh reader, with the frames of a buffer of 288 bytes.
-fn started<'a>(table: &'a [u8; 7920], work: &'a [u8]) -> Reader
-    requires { (length work.now ≡ 288) × (table_in table.now ≡ book_table book_b) }
+fn started(source: &Source, work: &[u8]) -> Reader
+    requires { length work.now ≡ 288 }
     ensures { result ≡ fresh_reader 3 true zero_tally }
 {
-    let s = Reader::start(table, work);
+    let s = Reader::start(source.table, work);
     s.reader
 }
 
 // A reader behind an RS.
-fn behind_rs(table: &[u8; 7920], work: &mut [u8]) -> Reader
-    requires { (length work.old ≡ 288) × (table_in table.now ≡ book_table book_b) }
+fn behind_rs(source: &Source, work: &mut [u8]) -> Reader
+    requires { length work.old ≡ 288 }
     ensures { (result ≡ fresh_reader 3 false zero_tally) × (work.new ≡ work.old) }
 {
-    let r = started(table, work);
-    let f = reader::feed(r, table, work, &RS);
+    let r = started(source, work);
+    let f = reader::feed(r, source.table, work, &RS);
     f.reader
 }
 
@@ -198,10 +196,10 @@ pub struct Numbers {
 }
 
 // Ends the record that a text is: its numbers, where it is valid.
-fn close_text<'a>(w: Walk, table: &'a [u8; 7920], work: &'a [u8]) -> Option<Numbers>
-    ensures { result ≡ then_some (says_valid (close_of w.reader (table_in table.now) work.now).answer) (record { taken = w.taken; unfit = w.unfit }) }
+fn close_text(w: Walk, source: &Source, work: &[u8]) -> Option<Numbers>
+    ensures { result ≡ then_some (says_valid (close_of w.reader (table_in source.now.table.now) work.now).answer) (record { taken = w.taken; unfit = w.unfit }) }
 {
-    let c = reader::close(w.reader, table, work);
+    let c = reader::close(w.reader, source.table, work);
     says_valid(c.answer).then_some(Numbers {
         taken: w.taken,
         unfit: w.unfit,
@@ -224,8 +222,9 @@ pub fn read_text<'a>(
     requires { (table_in table.now ≡ book_table book_b) × (corners.old ≡ replicate 2048 (pos 0)) }
     ensures { ReadsAs text.now result corners.new }
 {
+    let source = Source { text, table };
     let mut work = work_space();
-    let r = behind_rs(table, &mut work);
-    let w = walk_all(r, table, text, &mut work, corners)?;
-    close_text(w, table, &work)
+    let r = behind_rs(&source, &mut work);
+    let w = walk_all(r, &source, &mut work, corners)?;
+    close_text(w, &source, &work)
 }

@@ -66,6 +66,7 @@ fn bound(numbers: Option<walk::Numbers>) -> Result<usize, Refusal>
 // Judges a text by book B and takes its corners, in one walk over its bytes: how many they are, or why the text is refused. The lent table
 // holds book B's table then, and the lent corners their numbers, with zeros behind them; all zeros where the text or a corner is refused.
 // Ruled out: a program that takes the corners of a text that is not valid, and one that finds fault with a number before it counts the corners.
+// Stays: the C interface lends the memory and takes the count, so they stand side by side until `Corners::new` joins them.
 pub fn read(
     text: &[u8],
     table: &mut [u8; 7920],

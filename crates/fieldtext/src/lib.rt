@@ -109,6 +109,7 @@ pub extern "C" fn fieldtext_corners(
 {
     let b = boundary::read(text, table, corners);
     *refusal = text_refusal(b);
+    // Stays: the C interface has no corners, 0, for a refused text.
     b.unwrap_or(0)
 }
 

@@ -96,7 +96,10 @@ for path in sorted(ROOT.glob("crates/*/src/lib.rt")):
         # a function's head ends at its `{`, which stands on a line of its own where there are clauses
         for function in re.finditer(r"^( *)pub (?:extern \"C\" )?fn (\w+)(.*?)(?: \{$|\n\1\{$)", file.read_text(), re.M | re.S):
             if re.search(r"^ *requires ", function.group(3), re.M):
-                asking.add(f"{crate}::{module}{function.group(2)}")
+                # a method goes by the type whose block it stands in
+                blocks = re.findall(r"^impl(?:<[^>]*>)? (\w+)", file.read_text()[: function.start()], re.M)
+                owner = f"{blocks[-1]}::" if function.group(1) and blocks else ""
+                asking.add(f"{crate}::{module}{owner}{function.group(2)}")
 told = set()
 for cell in re.findall(r"^\| (`\w+::[^|]*) \|", (ROOT / "docs/DEVELOPING.md").read_text(), re.M):
     names = re.findall(r"`([^`]+)`", cell)

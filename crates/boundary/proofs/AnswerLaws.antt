@@ -14,6 +14,7 @@ use borrow.Author.Tests.{lt-ltb, le-ltb, le-leb}
 use Rattle.laws.proofs.TestLaws.{true-neq-false, T-and-left, T-and-right, T-of-true}
 use Rattle.json_text.specs.Tree.{Json}
 use Rattle.geometry.specs.declared.Point.{Point}
+use Rattle.geometry.specs.declared.Located.{Located}
 use Rattle.geometry.specs.Plane.{Placed}
 use Rattle.geometry.specs.Tests.{located}
 use Rattle.geometry.proofs.PlacedLaws.{placed-located, placed-unique}
@@ -24,11 +25,8 @@ use Rattle.corners.proofs.FieldLaws.{HasCorners, has-corners}
 use Rattle.corners.proofs.ValidLaws.{corners-of-valid, numbers-of-valid}
 use Rattle.boundary.specs.declared.Refusal.{Refusal}
 use Rattle.boundary.specs.declared.Refusal.TheVariants as No
-use Rattle.boundary.specs.declared.Boundary.{Boundary}
-use Rattle.boundary.specs.declared.Boundary.TheVariants as Has
-use Rattle.boundary.specs.declared.Answer.{Answer}
-use Rattle.boundary.specs.declared.Answer.TheVariants as Says
-use Rattle.boundary.specs.Boundary.{Points, Bounds, bounds, Refuses, not_valid, too_few, too_many, unfit_corner, numbers_in, Leaves, leaves_points, leaves_none, says, Answered, refused, unfit_point, placed}
+use Rattle.std.specs.Prelude.{Result, Ok, Err}
+use Rattle.boundary.specs.Boundary.{Points, Bounds, bounds, Refuses, not_valid, too_few, too_many, unfit_corner, numbers_in, Leaves, leaves_points, leaves_none, Answered, refused, unfit_point, placed}
 use Rattle.boundary.specs.Exact.{valid_b, unfit_in, counted, boundary_of, left_by, left_corners, in_range, answer_at, answer_by, query_of}
 use Rattle.boundary.proofs.StepLaws.{valid-of-test, test-of-valid}
 use Rattle.boundary.proofs.PointLaws.{Fits, fits, fits_not, fits-or-not, length-points, fit-points, length-flat, filled-points, corners-points}
@@ -40,22 +38,22 @@ module _ {s : List ℕ} {t : Json} {cs : List Corner} (v : ValidB s t) (c : Corn
   unfolding boundary_of
   boundary-of-valid = rw (test-of-valid v, numbers-of-valid v c) refl
 
-  boundary-few : length cs < 3 → boundary_of s ≡ Has.Refused No.Count
+  boundary-few : length cs < 3 → boundary_of s ≡ Err No.Count
   unfolding counted
   boundary-few h = boundary-of-valid ∙ rw (lt-ltb (length (flat cs)) 6 (omega (arith, length-flat cs))) refl
 
-  boundary-many : 1024 < length cs → boundary_of s ≡ Has.Refused No.Count
+  boundary-many : 1024 < length cs → boundary_of s ≡ Err No.Count
   unfolding counted
   boundary-many h =
       boundary-of-valid ∙ rw (le-ltb (length (flat cs)) 6 (omega (arith, length-flat cs)), lt-ltb 2048 (length (flat cs)) (omega (arith, length-flat cs))) refl
 
   module _ (h : 3 ≤ length cs) (g : length cs ≤ 1024) where
-    boundary-unfit : unfit_in (flat cs) ≡ true → boundary_of s ≡ Has.Refused No.Range
+    boundary-unfit : unfit_in (flat cs) ≡ true → boundary_of s ≡ Err No.Range
     unfolding counted
     boundary-unfit u =
         boundary-of-valid ∙ rw (le-ltb (length (flat cs)) 6 (omega (arith, length-flat cs)), le-ltb 2048 (length (flat cs)) (omega (arith, length-flat cs)), u) refl
 
-    boundary-corners : {ps : List Point} → Points cs ps → boundary_of s ≡ Has.Corners (length ps)
+    boundary-corners : {ps : List Point} → Points cs ps → boundary_of s ≡ Ok (length ps)
     unfolding counted
     boundary-corners {ps} p =
         let e : length (flat cs) / 2 ≡ length ps = omega (arith, length-flat cs, length-points p) in
@@ -70,25 +68,25 @@ module _ {s : List ℕ} {t : Json} {cs : List Corner} (v : ValidB s t) (c : Corn
 
 -- what is read of a text that has a boundary
 pub record Has-points (s : List ℕ) (ps : List Point) : Type 0 where
-  pub boundary : boundary_of s ≡ Has.Corners (length ps)
+  pub boundary : boundary_of s ≡ Ok (length ps)
   pub left : left_corners s ≡ numbers_in ps ++ replicate (2048 - 2 * length ps) (pos 0)
   pub some : 3 ≤ length ps
 
 pub read-bounds : {s : List ℕ} {ps : List Point} → Bounds s ps → Has-points s ps
 read-bounds (bounds v c h g p) = record { boundary = boundary-corners v c h g p; left = left-corners v c h g p; some = rw (length-points p) h }
 
-pub read-refuses : {s : List ℕ} {k : Refusal} → Refuses s k → boundary_of s ≡ Has.Refused k
+pub read-refuses : {s : List ℕ} {k : Refusal} → Refuses s k → boundary_of s ≡ Err k
 unfolding boundary_of
 read-refuses {s} (not_valid f) = go (valid_b s) refl
   where
-    go : (b : Bool) → valid_b s ≡ b → cond (valid_b s) (counted (numbers_of s)) (Has.Refused No.NotValid) ≡ Has.Refused No.NotValid
+    go : (b : Bool) → valid_b s ≡ b → cond (valid_b s) (counted (numbers_of s)) (Err No.NotValid) ≡ Err No.NotValid
     go true e = absurd (f _ (valid-of-test s e).1)
     go false e = rw e refl
 read-refuses (too_few v c h) = boundary-few v c h
 read-refuses (too_many v c h) = boundary-many v c h
 read-refuses {s} (unfit_corner {cs = cs} v c h g f) = go (fits-or-not cs)
   where
-    go : Fits cs → boundary_of s ≡ Has.Refused No.Range
+    go : Fits cs → boundary_of s ≡ Err No.Range
     go (fits {ps} p u) = absurd (f ps p)
     go (fits_not n u) = boundary-unfit v c h g u
 
@@ -127,7 +125,7 @@ leaves-left s = go (either s)
   where
     go : Either s → Leaves s (left_corners s)
     go (has-bounds b) = subst (Leaves s) (sym (read-bounds b).left) (leaves_points b)
-    go (is-refused r) = subst (λ (x : Boundary). Leaves s (left_by x (numbers_of s))) (sym (read-refuses r)) (leaves_none r)
+    go (is-refused r) = subst (λ (x : Result ℕ Refusal). Leaves s (left_by x (numbers_of s))) (sym (read-refuses r)) (leaves_none r)
 
 -- ---- the point
 
@@ -146,17 +144,17 @@ range-false p f = go (leb (nat_abs p.x) 1000000 && leb (nat_abs p.y) 1000000) re
     go false e = refl
 
 module _ {s : List ℕ} {ps : List Point} (b : Bounds s ps) (p : Point) where
-  query-at : query_of s p ≡ answer_at (numbers_in ps ++ replicate (2048 - 2 * length ps) (pos 0)) (length ps) p
+  query-at : query_of s p ≡ answer_at ps p
   unfolding query_of
-  query-at = rw ((read-bounds b).boundary, (read-bounds b).left) refl
+  query-at = rw ((read-bounds b).boundary, (read-bounds b).left, corners-points ps (replicate (2048 - 2 * length ps) (pos 0))) refl
 
-  query-beside : in_range p ≡ false → query_of s p ≡ Says.Refused No.Range
+  query-beside : in_range p ≡ false → query_of s p ≡ Err No.Range
   unfolding answer_at
   query-beside e = query-at ∙ rw e refl
 
-  query-there : in_range p ≡ true → query_of s p ≡ says (located ps p)
+  query-there : in_range p ≡ true → query_of s p ≡ Ok (located ps p)
   unfolding answer_at
-  query-there e = query-at ∙ rw (e, corners-points ps (replicate (2048 - 2 * length ps) (pos 0))) refl
+  query-there e = query-at ∙ rw e refl
 
 -- where there are points, one of them lies there
 placed-there : (ps : List Point) (p : Point) → 3 ≤ length ps → Placed ps p (located ps p)
@@ -177,16 +175,16 @@ answered-query s p = go (either s)
 
     go : Either s → Answered s p (query_of s p)
     go (has-bounds b) = by-range b (in_range p) refl
-    go (is-refused r) = subst (λ (x : Boundary). Answered s p (answer_by x (left_corners s) p)) (sym (read-refuses r)) (refused r)
+    go (is-refused r) = subst (λ (x : Result ℕ Refusal). Answered s p (answer_by x (left_corners s) p)) (sym (read-refuses r)) (refused r)
 
 -- what is answered is computed
-pub query-answered : {s : List ℕ} {p : Point} {a : Answer} → Answered s p a → a ≡ query_of s p
+pub query-answered : {s : List ℕ} {p : Point} {a : Result Located Refusal} → Answered s p a → a ≡ query_of s p
 unfolding query_of
-query-answered {s} {p} (refused r) = sym (ap (λ (x : Boundary). answer_by x (left_corners s) p) (read-refuses r))
+query-answered {s} {p} (refused r) = sym (ap (λ (x : Result ℕ Refusal). answer_by x (left_corners s) p) (read-refuses r))
 query-answered {s} {p} (unfit_point b f) = sym (query-beside b p (range-false p f))
 query-answered {s} {p} (placed {ps} {l} b h g x) =
-    ap says (placed-unique x (placed-there ps p (read-bounds b).some)) ∙ sym (query-there b p (range-true p h g))
+    ap Ok (placed-unique x (placed-there ps p (read-bounds b).some)) ∙ sym (query-there b p (range-true p h g))
 
 -- exactly one answer is the answer, and it is the one that is computed
-pub answered-iff : (s : List ℕ) (p : Point) (a : Answer) → Answered s p a ↔ (a ≡ query_of s p)
+pub answered-iff : (s : List ℕ) (p : Point) (a : Result Located Refusal) → Answered s p a ↔ (a ≡ query_of s p)
 answered-iff s p a = (query-answered, λ e. subst (Answered s p) (sym e) (answered-query s p))

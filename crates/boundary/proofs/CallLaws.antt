@@ -7,37 +7,30 @@ use native.Mathlib.Decide.{dec_lt}
 use native.Mathlib.Omega.{arith}
 use lib.Dec.{ltb, leb, leb→le, leb-suc-suc}
 use lib.IntN.{ℤ, pos, negsuc, nat_abs}
-use lib.ListN.{length, get_or}
+use lib.ListN.{length, get_or, replicate}
 use lib.Signed.{le_z}
 use mir.Facts.{to_z-of_z}
 use mir.Syntax.{w32}
 use mir.Val.{SFits, to_z, of_z}
-use borrow.Author.Tests.{lt-ltb, le-ltb, ltb-false}
+use borrow.Author.Tests.{ltb-false}
 use Rattle.laws.proofs.TestLaws.{T-and-left, T-and-right, T-of-true}
 use Rattle.laws.specs.Tab.{tab}
 use Rattle.laws.proofs.TabLaws.{length-tab, get_d-tab}
 use Rattle.geometry.specs.declared.Point.{Point}
 use Rattle.geometry.specs.declared.Located.{Located}
-use Rattle.geometry.specs.declared.Located.TheVariants as Is
 use Rattle.geometry.specs.Tests.{located}
-use Rattle.coordinate.specs.declared.Coordinate.{Coordinate}
-use Rattle.coordinate.specs.declared.Coordinate.TheVariants as Read
 use Rattle.coordinate.specs.Exact.{coordinate_of}
 use Rattle.coordinate.proofs.CoordinateLaws.{in_range-of-coordinate}
 use Rattle.corners.specs.Numbers.{numbers_of}
 use Rattle.coordinate.specs.Coordinate.{InRange}
-use Rattle.plane.specs.Corners.{corners_in, Held}
+use Rattle.plane.specs.Corners.{corners_in, Held, PointInRange}
 use Rattle.boundary.specs.declared.Refusal.{Refusal}
 use Rattle.boundary.specs.declared.Refusal.TheVariants as No
-use Rattle.boundary.specs.declared.Boundary.{Boundary}
-use Rattle.boundary.specs.declared.Boundary.TheVariants as Has
-use Rattle.boundary.specs.declared.Answer.{Answer}
-use Rattle.boundary.specs.declared.Answer.TheVariants as Says
-use Rattle.boundary.specs.Boundary.{says}
+use Rattle.std.specs.Prelude.{Option, Some, None, Result, Ok, Err, is_ok}
 use Rattle.boundary.specs.Exact.{valid_b, value_of, unfit_in, number_at, filled, counted, boundary_of, left_by, left_corners, HeldBy, in_range, answer_at, answer_by, query_of}
-use Rattle.boundary.specs.declared.walk.Read as R
+use Rattle.boundary.specs.declared.walk.Numbers.{Numbers}
 use Rattle.boundary.specs.Steps.{ReadsAs}
-use Rattle.boundary.specs.Calls.{LoadsB, Refuses, bound_by, kept_by, Bounds, ReadOf, QueryOf}
+use Rattle.boundary.specs.Calls.{LoadsB, bound_by, ReadOf, QueryOf}
 
 -- ---- the range of a point
 
@@ -49,41 +42,11 @@ range-test (negsuc n) = and-true (leb n 999999) ∙ sym (leb-suc-suc n 999999)
     and-true true = refl
     and-true false = refl
 
--- ---- the boundary of what was read
-
-module _ {x : R.Read} {l m : List ℤ} {r : Boundary} where
-  pub bound-invalid : x.valid ≡ false → Refuses No.NotValid r m → Bounds x l r m
-  unfolding bound_by
-  bound-invalid e f = record { boundary = rw e f.boundary; corners = rw e f.corners }
-
-  pub bound-few : x.valid ≡ true → x.taken < 6 → Refuses No.Count r m → Bounds x l r m
-  unfolding bound_by
-  bound-few e h f = record { boundary = rw (e, lt-ltb x.taken 6 h) f.boundary; corners = rw (e, lt-ltb x.taken 6 h) f.corners }
-
-  pub bound-many : x.valid ≡ true → 6 ≤ x.taken → 2048 < x.taken → Refuses No.Count r m → Bounds x l r m
-  unfolding bound_by
-  bound-many e g h f =
-      record { boundary = rw (e, le-ltb x.taken 6 g, lt-ltb 2048 x.taken h) f.boundary; corners = rw (e, le-ltb x.taken 6 g, lt-ltb 2048 x.taken h) f.corners }
-
-  module _ (e : x.valid ≡ true) (g : 6 ≤ x.taken) (h : x.taken ≤ 2048) where
-    pub bound-unfit : x.unfit ≡ true → Refuses No.Range r m → Bounds x l r m
-    unfolding bound_by
-    bound-unfit u f =
-        record {
-          boundary = rw (e, le-ltb x.taken 6 g, le-ltb 2048 x.taken h, u) f.boundary;
-          corners = rw (e, le-ltb x.taken 6 g, le-ltb 2048 x.taken h, u) f.corners;
-        }
-
-pub bound-corners : {x : R.Read} {l : List ℤ} → x.valid ≡ true → 6 ≤ x.taken → x.taken ≤ 2048 → x.unfit ≡ false → Bounds x l (Has.Corners (x.taken / 2)) l
-unfolding bound_by
-bound-corners {x} e g h u =
-    record { boundary = rw (e, le-ltb x.taken 6 g, le-ltb 2048 x.taken h, u) refl; corners = rw (e, le-ltb x.taken 6 g, le-ltb 2048 x.taken h, u) refl }
-
 -- ---- the memory holds the corners
 
-in-range : (c : Coordinate) (ds : List ℕ) → coordinate_of ds ≡ c → InRange (value_of c)
-in-range (Read.At z) ds e = in_range-of-coordinate ds z e
-in-range Read.Unfit ds e = omega arith
+in-range : (c : Option ℤ) (ds : List ℕ) → coordinate_of ds ≡ c → InRange (value_of c)
+in-range (Some z) ds e = in_range-of-coordinate ds z e
+in-range None ds e = omega arith
 
 near-filled : (ns : List (List ℕ)) (k : ℕ) → InRange (get_or (filled ns) k (pos 0))
 unfolding filled number_at
@@ -108,8 +71,8 @@ unfolding counted
 held-counted ns = go (ltb (length ns) 6) (ltb 2048 (length ns)) (unfit_in ns) refl refl
   where
     go : (a b c : Bool) → ltb (length ns) 6 ≡ a → ltb 2048 (length ns) ≡ b
-        → HeldBy (cond (a || b) (Has.Refused No.Count) (cond c (Has.Refused No.Range) (Has.Corners (length ns / 2))))
-        (left_by (cond (a || b) (Has.Refused No.Count) (cond c (Has.Refused No.Range) (Has.Corners (length ns / 2)))) ns)
+        → HeldBy (cond (a || b) (Err No.Count) (cond c (Err No.Range) (Ok (length ns / 2))))
+        (left_by (cond (a || b) (Err No.Count) (cond c (Err No.Range) (Ok (length ns / 2)))) ns)
     go true b c e f = tt
     go false true c e f = tt
     go false false true e f = tt
@@ -119,89 +82,85 @@ pub held-left : (s : List ℕ) → HeldBy (boundary_of s) (left_corners s)
 unfolding boundary_of left_corners
 held-left s = go (valid_b s)
   where
-    go : (v : Bool) → HeldBy (cond v (counted (numbers_of s)) (Has.Refused No.NotValid)) (left_by (cond v (counted (numbers_of s)) (Has.Refused No.NotValid)) (numbers_of s))
+    go : (v : Bool) → HeldBy (cond v (counted (numbers_of s)) (Err No.NotValid)) (left_by (cond v (counted (numbers_of s)) (Err No.NotValid)) (numbers_of s))
     go true = held-counted (numbers_of s)
     go false = tt
 
 -- ---- a text that is read
 
-module _ {s : List ℕ} {x : R.Read} {l : List ℤ} (y : ReadsAs s x l) where
-  boundary-is : bound_by x ≡ boundary_of s
-  unfolding bound_by boundary_of counted
-  boundary-is = go x.valid refl
-    where
-      go : (v : Bool) → x.valid ≡ v
-          → cond v (cond (ltb x.taken 6 || ltb 2048 x.taken) (Has.Refused No.Count) (cond x.unfit (Has.Refused No.Range) (Has.Corners (x.taken / 2)))) (Has.Refused No.NotValid)
-          ≡ boundary_of s
-      go true e = rw (y.taken e, y.unfit e, sym y.valid ∙ e) refl
-      go false e = rw (sym y.valid ∙ e) refl
+module _ (s : List ℕ) where
+  -- the boundary of the numbers that are read is that of the text
+  pub boundary-is : (x : Option Numbers) (l : List ℤ) → ReadsAs s x l → bound_by x ≡ boundary_of s
+  unfolding boundary_of counted
+  boundary-is (Some x) l y = rw (y.taken, y.unfit, y.valid) refl
+  boundary-is None l y = rw y refl
 
-  kept-is : kept_by (boundary_of s) l ≡ left_corners s
-  unfolding boundary_of left_corners
-  kept-is = go (valid_b s) y.valid
-    where
-      left-of : (b : Boundary) → l ≡ filled (numbers_of s) → kept_by b l ≡ left_by b (numbers_of s)
-      left-of (Has.Corners n) e = e
-      left-of (Has.Refused k) e = refl
+  -- where there is a boundary, the numbers stand in memory
+  kept-is : (x : Option Numbers) (l : List ℤ) (r : Result ℕ Refusal) → ReadsAs s x l → r ≡ bound_by x → is_ok r ≡ true → l ≡ left_corners s
+  unfolding left_corners
+  kept-is (Some x) l (Ok n) y e f = y.memory ∙ ap (λ (b : Result ℕ Refusal). left_by b (numbers_of s)) (e ∙ boundary-is (Some x) l y)
+  kept-is (Some x) l (Err k) y e f = cc
+  kept-is None l r y e f = cc
 
-      go : (v : Bool) → x.valid ≡ v → kept_by (cond v (counted (numbers_of s)) (Has.Refused No.NotValid)) l ≡ left_by (cond v (counted (numbers_of s)) (Has.Refused No.NotValid)) (numbers_of s)
-      go true e = left-of (counted (numbers_of s)) (y.memory e)
-      go false e = refl
+  -- where there is none, zeros do
+  cleared-is : (r : Result ℕ Refusal) → r ≡ boundary_of s → is_ok r ≡ false → replicate 2048 (pos 0) ≡ left_corners s
+  unfolding left_corners
+  cleared-is (Ok n) e f = cc
+  cleared-is (Err k) e f = ap (λ (b : Result ℕ Refusal). left_by b (numbers_of s)) e
 
-  pub read_of : {r : Boundary} {m : List ℤ} {t : List ℕ} → Bounds x l r m → LoadsB t → ReadOf s r m t
-  read_of {r} {m} b t =
-      let e : r ≡ boundary_of s = b.boundary ∙ boundary-is in
-      let f : m ≡ left_corners s = b.corners ∙ ap (λ (z : Boundary). kept_by z l) boundary-is ∙ kept-is in
-      record { boundary = e; corners_left = f; held = rw (e, f) (held-left s); table_left = t }
+  read_of : (r : Result ℕ Refusal) (m : List ℤ) (t : List ℕ) → r ≡ boundary_of s → m ≡ left_corners s → LoadsB t → ReadOf s r m t
+  read_of r m t e f b = record { boundary = e; corners_left = f; held = rw (e, f) (held-left s); table_left = b }
+
+  module _ (x : Option Numbers) (l m : List ℤ) (r : Result ℕ Refusal) (t : List ℕ) (y : ReadsAs s x l) (e : r ≡ bound_by x) (b : LoadsB t) where
+    pub read-kept : is_ok r ≡ true → ReadOf s r l t
+    read-kept f = read_of r l t (e ∙ boundary-is x l y) (kept-is x l r y e f) b
+
+    pub read-cleared : is_ok r ≡ false → m ≡ replicate 2048 (pos 0) → ReadOf s r m t
+    read-cleared f c = read_of r m t (e ∙ boundary-is x l y) (c ∙ cleared-is r (e ∙ boundary-is x l y) f) b
 
 -- ---- a point
 
-module _ {l : Located} {i : ℕ} where
-  pub told-edge : l ≡ Is.Edge i → Says.Edge i ≡ says l
-  told-edge e = rw e refl
-
-  pub told-inside : l ≡ Is.Inside i → Says.Inside i ≡ says l
-  told-inside e = rw e refl
-
-  pub told-outside : l ≡ Is.Outside i → Says.Outside i ≡ says l
-  told-outside e = rw e refl
-
 -- both numbers are tested, in the form of the code's need
-pub point-test : (p : Point) {a b : Bool} → SFits w32 p.x → SFits w32 p.y → a ≡ leb (nat_abs (to_z w32 (of_z w32 p.x))) 1000000
-    → b ≡ leb (nat_abs (to_z w32 (of_z w32 p.y))) 1000000 → (a && b) ≡ in_range p
+pub point-there : (p : Point) {a b : Bool} → SFits w32 p.x → SFits w32 p.y → a ≡ leb (nat_abs (to_z w32 (of_z w32 p.x))) 1000000 → a ≡ true
+    → b ≡ leb (nat_abs (to_z w32 (of_z w32 p.y))) 1000000 → b ≡ in_range p
 unfolding in_range
-point-test p e f g h = rw (g, h, to_z-of_z e, to_z-of_z f) refl
+point-there p e f g t h = let k : leb (nat_abs p.x) 1000000 ≡ true = rw (to_z-of_z e) at (sym g) ∙ t in rw (h, k, to_z-of_z f) refl
 
--- the numbers of a point that passes the test are in range
-pub across-of-test : (p : Point) {v : Bool} → v ≡ in_range p → v ≡ true → InRange p.x
+-- the first is out of range
+pub point-beside : (p : Point) {a : Bool} → SFits w32 p.x → a ≡ leb (nat_abs (to_z w32 (of_z w32 p.x))) 1000000 → a ≡ false → a ≡ in_range p
 unfolding in_range
-across-of-test p e f = leb→le (nat_abs p.x) 1000000 (T-and-left (leb (nat_abs p.x) 1000000) _ (T-of-true _ (sym e ∙ f)))
+point-beside p e g t = let k : leb (nat_abs p.x) 1000000 ≡ false = rw (to_z-of_z e) at (sym g) ∙ t in rw (t, k) refl
 
-pub up-of-test : (p : Point) {v : Bool} → v ≡ in_range p → v ≡ true → InRange p.y
+-- a point that passes the test is in range
+pub in-range-of-test : (p : Point) → in_range p ≡ true → PointInRange p
 unfolding in_range
-up-of-test p e f = leb→le (nat_abs p.y) 1000000 (T-and-right (leb (nat_abs p.x) 1000000) _ (T-of-true _ (sym e ∙ f)))
+in-range-of-test p e =
+    record {
+      across = leb→le (nat_abs p.x) 1000000 (T-and-left (leb (nat_abs p.x) 1000000) _ (T-of-true _ e));
+      up = leb→le (nat_abs p.y) 1000000 (T-and-right (leb (nat_abs p.x) 1000000) _ (T-of-true _ e));
+    }
 
-module _ (l : List ℤ) (n : ℕ) (p : Point) {v : Bool} (e : v ≡ in_range p) where
-  pub answer-beside : v ≡ false → Says.Refused No.Range ≡ answer_at l n p
+module _ (cs : List Point) (p : Point) where
+  pub answer-beside : in_range p ≡ false → Err No.Range ≡ answer_at cs p
   unfolding answer_at
-  answer-beside f = rw (sym e ∙ f) refl
+  answer-beside f = rw f refl
 
-  pub answer-there : {r : Answer} {q : Located} → v ≡ true → q ≡ located (corners_in l n) p → r ≡ says q → r ≡ answer_at l n p
+  pub answer-there : in_range p ≡ true → Ok (located cs p) ≡ answer_at cs p
   unfolding answer_at
-  answer-there f i j = rw (sym e ∙ f) (j ∙ ap says i)
+  answer-there f = rw f refl
 
 -- ---- a query
 
-module _ {s : List ℕ} {b : Boundary} {l : List ℤ} {t : List ℕ} {p : Point} (x : ReadOf s b l t) where
-  pub query-corners : {n : ℕ} {a : Answer} → b ≡ Has.Corners n → a ≡ answer_at l n p → QueryOf s p a l t
+module _ {s : List ℕ} {b : Result ℕ Refusal} {l : List ℤ} {t : List ℕ} {p : Point} (x : ReadOf s b l t) where
+  pub query-corners : {n : ℕ} {a : Result Located Refusal} → b ≡ Ok n → a ≡ answer_at (corners_in l n) p → QueryOf s p a l t
   unfolding query_of
   query-corners {n} e f =
-      record { answer = f ∙ rw x.corners_left (ap (λ (z : Boundary). answer_by z (left_corners s) p) (sym e ∙ x.boundary)); corners_left = x.corners_left; table_left = x.table_left }
+      record { answer = f ∙ rw x.corners_left (ap (λ (z : Result ℕ Refusal). answer_by z (left_corners s) p) (sym e ∙ x.boundary)); corners_left = x.corners_left; table_left = x.table_left }
 
-  pub query-refused : {k : Refusal} → b ≡ Has.Refused k → QueryOf s p (Says.Refused k) l t
+  pub query-refused : {k : Refusal} → b ≡ Err k → QueryOf s p (Err k) l t
   unfolding query_of
   query-refused e =
-      record { answer = ap (λ (z : Boundary). answer_by z (left_corners s) p) (sym e ∙ x.boundary); corners_left = x.corners_left; table_left = x.table_left }
+      record { answer = ap (λ (z : Result ℕ Refusal). answer_by z (left_corners s) p) (sym e ∙ x.boundary); corners_left = x.corners_left; table_left = x.table_left }
 
-pub held-corners : {s : List ℕ} {b : Boundary} {l : List ℤ} {t : List ℕ} {n : ℕ} → ReadOf s b l t → b ≡ Has.Corners n → Held l n
-held-corners {l = l} x e = subst (λ (z : Boundary). HeldBy z l) e x.held
+pub held-corners : {s : List ℕ} {b : Result ℕ Refusal} {l : List ℤ} {t : List ℕ} {n : ℕ} → ReadOf s b l t → b ≡ Ok n → Held l n
+held-corners {l = l} x e = subst (λ (z : Result ℕ Refusal). HeldBy z l) e x.held

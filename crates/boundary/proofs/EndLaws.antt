@@ -3,14 +3,15 @@ use Rattle.std.specs.Prelude.{Ok, None}
 use mathlib.Core.Bool.{Bool, true, false, cond}
 use mathlib.Core.List.{List, [], ◌∷◌}
 use mathlib.Core.Path.{◌≡◌, refl, sym, ap, subst, ◌∙◌}
-use Prim.Native.Nat.{ℕ, ◌-◌, ◌*◌, ◌≤◌, ◌<◌}
+use Prim.Native.Nat.{ℕ, ◌*◌, ◌≤◌}
 use native.Mathlib.Omega.{arith}
 use lib.Dec.{ltb}
 use lib.IntN.{ℤ, pos}
 use lib.ListN.{length, take, replicate}
 use lib.Seq.{take_all}
 use Rattle.laws.specs.Lists.{any}
-use Rattle.laws.proofs.TestLaws.{true-neq-false}
+use Rattle.std.specs.Prelude.{Option}
+use Rattle.std.specs.Bool.{then_some}
 use Rattle.table.specs.Table.{Table}
 use Rattle.book.specs.Examples.{book_b}
 use Rattle.load.specs.Loads.{book_table}
@@ -34,9 +35,9 @@ use Rattle.stream.proofs.FreshLaws.{feed-of-RS}
 use Rattle.corners.specs.Numbers.{numbers_of}
 use Rattle.boundary.specs.Exact.{entries, is_valid, valid_b, unfit_in, filled}
 use Rattle.boundary.specs.Walk.{Walked}
-use Rattle.boundary.specs.Steps.{WalkedOn, WalkedAll, says_valid, ReadsAs}
+use Rattle.boundary.specs.Steps.{says_valid, ReadsAs}
 use Rattle.boundary.specs.declared.walk.Walk.{Walk}
-use Rattle.boundary.specs.declared.walk.Read.{Read}
+use Rattle.boundary.specs.declared.walk.Numbers.{Numbers}
 use Rattle.boundary.proofs.BookLaws.{book-b, limits-b}
 use Rattle.boundary.proofs.MemoryLaws.{within-true}
 use Rattle.boundary.proofs.FilledLaws.{filled_none}
@@ -68,23 +69,11 @@ walked_start {t} {s} {r} {w} e h f =
 
 -- ---- over the text
 
-module _ {t : Table} {s : List ℕ} where
-  -- the walk went off in a turn
-  pub all-off : {i : ℕ} {r : Walk} {w : List ℕ} {l : List ℤ} → WalkedOn t s i r w l → r.going ≡ false → WalkedAll t s r w l
-  all-off x e = record { on = λ q. true-neq-false (sym q ∙ e); off = x.off }
-
-  -- the walk went on in a turn
-  pub turn_on : {i : ℕ} {r : Walk} {w : List ℕ} {l : List ℤ} → WalkedOn t s i r w l → r.going ≡ true → Walked t s r.at r.reader w r.taken r.unfit l
-  turn_on x e = x.on e
-
-  pub turn-less : {i : ℕ} {r : Walk} {w : List ℕ} {l : List ℤ} → WalkedOn t s i r w l → r.going ≡ true → i < length s → length s - r.at < length s - i
-  turn-less x e h = omega (arith, x.further e)
-
-  -- all is fed
-  pub all-on : {r : Walk} {w : List ℕ} {l : List ℤ} → Walked t s r.at r.reader w r.taken r.unfit l → r.going ≡ true → length s ≤ r.at → WalkedAll t s r w l
-  all-on {r} {w} {l} x g h =
-      let e : r.at ≡ length s = omega (arith, x.inside) in
-      record { on = λ _. subst (λ (i : ℕ). Walked t s i r.reader w r.taken r.unfit l) e x; off = λ q. true-neq-false (sym g ∙ q) }
+-- all is fed
+pub all-on : {t : Table} {s : List ℕ} {r : Walk} {w : List ℕ} {l : List ℤ} → Walked t s r.at r.reader w r.taken r.unfit l → length s ≤ r.at
+    → Walked t s (length s) r.reader w r.taken r.unfit l
+all-on {t} {s} {r} {w} {l} x h =
+    let e : r.at ≡ length s = omega (arith, x.inside) in subst (λ (i : ℕ). Walked t s i r.reader w r.taken r.unfit l) e x
 
 -- ---- a reader behind an RS
 
@@ -101,14 +90,6 @@ behind-of-feed {t} {w} {v} {r} {o} {b} {c} e h x y =
     (ap (λ (q : Outcome). q.reader) f, ap (λ (q : Outcome). q.work) f)
 
 -- ---- the verdict
-
-abbrev pub made : Bool → ℕ → Bool → Read
-made v n u = record { valid = v; taken = n; unfit = u }
-
--- the close of a walk, in the form of the code's need
-pub closed-text : (r : Reader) (t : Table) {o : Reader} {w : List ℕ} {a : Answer} {v u : Bool} {n : ℕ} → record { reader = o; count = 0; answer = a; work = w } ≡ close_of r t w
-    → v ≡ says_valid a → made v n u ≡ made (says_valid (close_of r t w).answer) n u
-closed-text r t {u = u} {n} e f = ap (λ (x : Bool). made x n u) (f ∙ ap (λ (o : Outcome). says_valid o.answer) e)
 
 module _ {t : Table} {s : List ℕ} {r : Reader} {w : List ℕ} {n : ℕ} {u : Bool} {l : List ℤ} (x : Walked t s (length s) r w n u l) (b : t ≡ book_table book_b) where
   all-taken : take (length s) s ≡ s
@@ -158,22 +139,15 @@ module _ {t : Table} {s : List ℕ} {r : Reader} {w : List ℕ} {n : ℕ} {u : B
       (tracks-part (carries-of-book (book-b b)) (plain-of-book (book-b b)) 3 (omega arith) x.first s (omega (arith, x.room)) plain-all)
       (valid-is (track_end entries (track entries 3 (track_start entries) s)) v)
 
-  pub reads-closed : {y : Read} → y ≡ made (says_valid (close_of r t w).answer) n u → ReadsAs s y l
-  reads-closed e =
-      let v : (made (says_valid (close_of r t w).answer) n u).valid ≡ valid_b s = valid-all in
-      rw e
-      record {
-        valid = v;
-        taken = λ q. x.taken ∙ ap length (numbers-all (sym v ∙ q));
-        unfit = λ q. x.unfit ∙ ap unfit_in (numbers-all (sym v ∙ q));
-        memory = λ q. x.placed ∙ ap filled (numbers-all (sym v ∙ q));
-      }
-
--- ---- in the form of the code's needs
-
-pub reads_on : {t : Table} {s w : List ℕ} {r : Walk} {l : List ℤ} {y : Read} → t ≡ book_table book_b → WalkedAll t s r w l → r.going ≡ true
-    → y ≡ made (says_valid (close_of r.reader t w).answer) r.taken r.unfit → ReadsAs s y l
-reads_on b x e f = reads-closed (x.on e) b f
-
-pub reads-off : {t : Table} {s w : List ℕ} {r : Walk} {l : List ℤ} → WalkedAll t s r w l → r.going ≡ false → ReadsAs s (made false 0 false) l
-reads-off x e = record { valid = sym (x.off e); taken = λ q. true-neq-false (sym q); unfit = λ q. true-neq-false (sym q); memory = λ q. true-neq-false (sym q) }
+  pub reads-closed : {y : Option Numbers} → y ≡ then_some (says_valid (close_of r t w).answer) (record { taken = n; unfit = u }) → ReadsAs s y l
+  reads-closed e = rw (e, valid-all) (go (valid_b s) refl)
+    where
+      go : (v : Bool) → valid_b s ≡ v → ReadsAs s (then_some v (record { taken = n; unfit = u })) l
+      go true v =
+          record {
+            valid = v;
+            taken = x.taken ∙ ap length (numbers-all v);
+            unfit = x.unfit ∙ ap unfit_in (numbers-all v);
+            memory = x.placed ∙ ap filled (numbers-all v);
+          }
+      go false v = v

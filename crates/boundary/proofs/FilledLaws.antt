@@ -1,11 +1,10 @@
 -- The memory for corners with one number more, and whether one is unfit. Assumes nothing.
-use mathlib.Core.Bool.{Bool, true, false, cond, ◌||◌}
+use mathlib.Core.Bool.{◌||◌}
 use mathlib.Core.List.{List, [], ◌∷◌, ◌++◌}
-use mathlib.Core.Path.{◌≡◌, refl, sym, ap, subst, ◌∙◌}
-use Prim.Native.Nat.{ℕ, zero, suc, ◌+◌, ◌≤◌, ◌<◌}
+use mathlib.Core.Path.{◌≡◌, refl, sym, ap, ◌∙◌}
+use Prim.Native.Nat.{ℕ, zero, suc, ◌≤◌, ◌<◌}
 use native.Mathlib.Decide.{dec_lt, ℕ_discrete}
 use native.Mathlib.Omega.{arith}
-use lib.Dec.{ltb}
 use lib.IntN.{ℤ, pos}
 use lib.ListN.{length, get_or, set, replicate, length-set}
 use lib.Seq.{ext_get_or, get_or-set_same, get_or-set_other}
@@ -13,13 +12,9 @@ use borrow.Author.Tests.{lt-ltb, le-ltb}
 use Rattle.laws.specs.Tab.{tab}
 use Rattle.laws.proofs.TabLaws.{length-tab, get_d-tab}
 use Rattle.book.proofs.KeyLaws.{any_last}
-use Rattle.coordinate.specs.declared.Coordinate.{Coordinate}
-use Rattle.coordinate.specs.declared.Coordinate.TheVariants as Read
+use Rattle.std.specs.Prelude.{Option, Some, None}
 use Rattle.coordinate.specs.Exact.{coordinate_of}
 use Rattle.boundary.specs.Exact.{value_of, is_unfit, unfit_in, number_at, filled, put_at}
-use Rattle.reader.specs.declared.Reader.{Reader}
-use Rattle.boundary.specs.Walk.{Took}
-use Rattle.boundary.specs.Steps.{Tells}
 
 -- ---- number i of numbers with one more
 
@@ -59,7 +54,7 @@ module _ (ns : List (List ℕ)) (ds : List ℕ) where
   number_at-past = rw (get_d_past ns) refl
 
   -- an unfit number leaves 0 in its place
-  pub filled-unfit : coordinate_of ds ≡ Read.Unfit → filled (ns ++ (ds ∷ [])) ≡ filled ns
+  pub filled-unfit : coordinate_of ds ≡ None → filled (ns ++ (ds ∷ [])) ≡ filled ns
   unfolding filled
   filled-unfit e = tab-ext (number_at (ns ++ (ds ∷ []))) (number_at ns) 0 2048 (λ k. go k (ℕ_discrete k (length ns)))
     where
@@ -76,7 +71,7 @@ module _ (ns : List (List ℕ)) (ds : List ℕ) where
   at-filled ms k h = get_d-tab (number_at ms) (pos 0) 2048 k h
 
   -- a number is put in its place, where there is one
-  pub filled_at : (z : ℤ) (n : ℕ) → coordinate_of ds ≡ Read.At z → n ≡ length ns → n < 2048 → filled (ns ++ (ds ∷ [])) ≡ set (filled ns) n z
+  pub filled_at : (z : ℤ) (n : ℕ) → coordinate_of ds ≡ Some z → n ≡ length ns → n < 2048 → filled (ns ++ (ds ∷ [])) ≡ set (filled ns) n z
   filled_at z n e m h =
       ext_get_or (pos 0) (filled (ns ++ (ds ∷ []))) (set (filled ns) n z)
       (length-filled (ns ++ (ds ∷ [])) ∙ sym (length-set (filled ns) n z ∙ length-filled ns))
@@ -107,25 +102,11 @@ pub filled_none : filled [] ≡ replicate 2048 (pos 0)
 unfolding filled number_at coordinate_of
 filled_none = tab-constant (number_at []) (pos 0) 0 2048 (λ k. refl)
 
--- ---- a number that is read, in the form of the code's needs
-
--- a fit number
-pub took-at : {l m : List ℤ} {n : ℕ} {z : ℤ} {c : Coordinate} → c ≡ Read.At z → m ≡ cond (ltb n 2048) (set l n z) l → Took l n c m false
-took-at {l} {n = n} e h = record { unfit = rw e refl; memory = h ∙ ap (put_at l n) (sym e) }
-
-pub took-unfit : {l : List ℤ} {n : ℕ} {c : Coordinate} → c ≡ Read.Unfit → Took l n c l true
-took-unfit {l} {n} e = record { unfit = rw e refl; memory = ap (put_at l n) (sym e) }
-
-pub tells : {n : ℕ} {u f : Bool} {next : Reader} {end : ℕ} {c d : Coordinate} {l m : List ℤ} → d ≡ c → Took l n d m f
-    → Tells n u next end c l m (record { reader = next; at = end; taken = n + 1; unfit = u || f; going = true })
-tells {n} {u} {f} {l = l} {m = m} e x =
-    record { reader = refl; at = refl; taken = refl; fit = f; unfit = refl; took = subst (λ (y : Coordinate). Took l n y m f) e x; going = refl }
-
 -- the memory after a number that is taken
-pub filled-of-took : (ns : List (List ℕ)) (ds : List ℕ) {n : ℕ} {m : List ℤ} {u : Bool} → n ≡ length ns → Took (filled ns) n (coordinate_of ds) m u → m ≡ filled (ns ++ (ds ∷ []))
-filled-of-took ns ds {n} {m} e x = x.memory ∙ go (coordinate_of ds) refl (dec_lt n 2048)
+pub filled-of-put : (ns : List (List ℕ)) (ds : List ℕ) {n : ℕ} → n ≡ length ns → put_at (filled ns) n (coordinate_of ds) ≡ filled (ns ++ (ds ∷ []))
+filled-of-put ns ds {n} e = go (coordinate_of ds) refl (dec_lt n 2048)
   where
-    go : (c : Coordinate) → coordinate_of ds ≡ c → Dec (n < 2048) → put_at (filled ns) n c ≡ filled (ns ++ (ds ∷ []))
-    go (Read.At z) h (yes l) = rw (lt-ltb n 2048 l) (sym (filled_at ns ds z n h e l))
-    go (Read.At z) h (no l) = rw (le-ltb n 2048 (omega arith)) (sym (filled-past ns ds n e (omega arith)))
-    go Read.Unfit h l = sym (filled-unfit ns ds h)
+    go : (c : Option ℤ) → coordinate_of ds ≡ c → Dec (n < 2048) → put_at (filled ns) n c ≡ filled (ns ++ (ds ∷ []))
+    go (Some z) h (yes l) = rw (lt-ltb n 2048 l) (sym (filled_at ns ds z n h e l))
+    go (Some z) h (no l) = rw (le-ltb n 2048 (omega arith)) (sym (filled-past ns ds n e (omega arith)))
+    go None h l = sym (filled-unfit ns ds h)

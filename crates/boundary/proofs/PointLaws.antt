@@ -11,8 +11,7 @@ use Rattle.laws.specs.Lists.{any}
 use Rattle.laws.specs.Tab.{tab}
 use Rattle.laws.proofs.TabLaws.{length-tab, get_d-tab}
 use Rattle.geometry.specs.declared.Point.{Point}
-use Rattle.coordinate.specs.declared.Coordinate.{Coordinate}
-use Rattle.coordinate.specs.declared.Coordinate.TheVariants as Read
+use Rattle.std.specs.Prelude.{Option, Some, None}
 use Rattle.coordinate.specs.Coordinate.{Plain, InRange, Reads, reads_at, reads_unfit}
 use Rattle.coordinate.specs.Exact.{coordinate_of}
 use Rattle.coordinate.proofs.CoordinateLaws.{reads-coordinate_of, reads-unique}
@@ -25,20 +24,20 @@ use Rattle.boundary.specs.Exact.{value_of, unfit_in, number_at, filled}
 -- ---- a number
 
 -- a number that is fit is read as it is
-read-of-plain : (ds : List ℕ) (z : ℤ) → Plain ds z → InRange z → coordinate_of ds ≡ Read.At z
+read-of-plain : (ds : List ℕ) (z : ℤ) → Plain ds z → InRange z → coordinate_of ds ≡ Some z
 read-of-plain ds z p r = reads-unique (reads-coordinate_of ds) (reads_at p r)
 
 -- a number is fit, with its value, or unfit
 data Fit (ds : List ℕ) : Type 0 where
-  fit : {z : ℤ} → Plain ds z → InRange z → coordinate_of ds ≡ Read.At z → Fit ds
-  unfit : ((z : ℤ) → Plain ds z → InRange z → ⊥) → coordinate_of ds ≡ Read.Unfit → Fit ds
+  fit : {z : ℤ} → Plain ds z → InRange z → coordinate_of ds ≡ Some z → Fit ds
+  unfit : ((z : ℤ) → Plain ds z → InRange z → ⊥) → coordinate_of ds ≡ None → Fit ds
 
 fit-or-not : (ds : List ℕ) → Fit ds
 fit-or-not ds = go (coordinate_of ds) refl (reads-coordinate_of ds)
   where
-    go : (c : Coordinate) → coordinate_of ds ≡ c → Reads ds c → Fit ds
-    go (Read.At z) e (reads_at p r) = fit p r e
-    go Read.Unfit e (reads_unfit f) = unfit f e
+    go : (c : Option ℤ) → coordinate_of ds ≡ c → Reads ds c → Fit ds
+    go (Some z) e (reads_at p r) = fit p r e
+    go None e (reads_unfit f) = unfit f e
 
 -- ---- corners
 

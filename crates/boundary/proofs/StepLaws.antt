@@ -26,12 +26,12 @@ use Rattle.corners.specs.Corners.{ValidB}
 use Rattle.corners.specs.Numbers.{is_number_byte}
 use Rattle.corners.proofs.ValidLaws.{judged-of-valid, valid-of-judged}
 use Rattle.corners.proofs.RSLaws.{no-RS-in-text}
-use Rattle.boundary.specs.Exact.{entries, is_valid, valid_b}
-use Rattle.boundary.specs.Walk.{is_gap_byte, part, Stretch, takes, Walked}
-use Rattle.boundary.specs.Steps.{Tells, Piece, WalkedOn}
+use Rattle.boundary.specs.Exact.{entries, is_valid, valid_b, is_unfit, put_at}
+use Rattle.boundary.specs.Walk.{is_gap_byte, part, Stretch, takes}
+use Rattle.boundary.specs.Steps.{Piece, WentOn}
 use Rattle.boundary.specs.declared.walk.Walk.{Walk}
 use Rattle.boundary.proofs.BookLaws.{book-b}
-use Rattle.boundary.proofs.FilledLaws.{filled-of-took}
+use Rattle.boundary.proofs.FilledLaws.{filled-of-put}
 use Rattle.boundary.proofs.WalkLaws.{walked-past, walked-taken}
 
 -- ---- valid under book B
@@ -75,16 +75,11 @@ RS-of-neither b e f = eqb-true b 0x1E (go (eqb b 0x1E) (rw f at e))
     go true q = refl
     go false q = true-neq-false q
 
-pub walked-off : {t : Table} {s : List ℕ} {i j k : ℕ} {r : Reader} {w : List ℕ} {n : ℕ} {u : Bool} {l : List ℤ} → i < length s → Stretch is_gap_byte s i j → Stretch is_number_byte s j k
-    → k ≡ i → WalkedOn t s i (record { reader = r; at = i; taken = n; unfit = u; going = false }) w l
-walked-off {s = s} {i} {j} {k} h g d e =
+pub walked-off : {s : List ℕ} {i j k : ℕ} → i < length s → Stretch is_gap_byte s i j → Stretch is_number_byte s j k → k ≡ i → valid_b s ≡ false
+walked-off {s} {i} {j} {k} h g d e =
     let same : j ≡ i = omega (arith, g.low, d.low) in
-    record {
-      on = λ q. true-neq-false (sym q);
-      further = λ q. true-neq-false (sym q);
-      off = λ _. not-valid-of-RS s i h (RS-of-neither (get_or s i 0) (subst (λ (m : ℕ). is_gap_byte (get_or s m 0) ≡ false) same (g.stop (omega arith)))
-          (subst (λ (m : ℕ). is_number_byte (get_or s m 0) ≡ false) e (d.stop (omega arith))));
-    }
+    not-valid-of-RS s i h (RS-of-neither (get_or s i 0) (subst (λ (m : ℕ). is_gap_byte (get_or s m 0) ≡ false) same (g.stop (omega arith)))
+    (subst (λ (m : ℕ). is_number_byte (get_or s m 0) ≡ false) e (d.stop (omega arith))))
 
 -- ---- a piece
 
@@ -93,23 +88,16 @@ module _ {t : Table} {s : List ℕ} {i : ℕ} {r : Reader} {w : List ℕ} {n : �
   past : i < k
   past = omega (arith, x.gap.low, x.run.low, x.more)
 
-  pub walked_on : z ≡ false → WalkedOn t s i (record { reader = o; at = k; taken = n; unfit = u; going = true }) v l
-  walked_on q =
-      record {
-        on = λ _. walked-past x.walked x.table x.gap x.run x.more f (sym e ∙ q);
-        further = λ _. past;
-        off = λ y. true-neq-false y;
-      }
+  pub walked_on : z ≡ false → WentOn t s i (record { reader = o; at = k; taken = n; unfit = u }) v l
+  walked_on q = record { walked = walked-past x.walked x.table x.gap x.run x.more f (sym e ∙ q); further = past }
 
-  pub walked-told : {m : List ℤ} {h : Walk} → z ≡ true → Tells n u o k (coordinate_of (part s j k)) l m h → WalkedOn t s i h v m
-  walked-told {m} {h} q y =
+  pub walked-told : {m : List ℤ} {h : Walk} → z ≡ true → h ≡ record { reader = o; at = k; taken = n + 1; unfit = u || is_unfit (coordinate_of (part s j k)) }
+      → m ≡ put_at l n (coordinate_of (part s j k)) → WentOn t s i h v m
+  walked-told {m} {h} q y p =
+      rw y
       record {
-        on = λ _. subst (λ (p : Walk). Walked t s p.at p.reader v p.taken p.unfit m) is
-            (walked-taken x.walked x.table x.gap x.run x.more f (sym e ∙ q) y.took.unfit
-            (filled-of-took x.walked.numbers (part s j k) x.walked.taken (rw x.walked.placed at y.took)));
-        further = λ _. rw y.at past;
-        off = λ p. true-neq-false (sym y.going ∙ p);
+        walked =
+            walked-taken x.walked x.table x.gap x.run x.more f (sym e ∙ q) refl
+            (p ∙ rw x.walked.placed (filled-of-put x.walked.numbers (part s j k) x.walked.taken));
+        further = past;
       }
-    where
-      is : record { reader = o; at = k; taken = n + 1; unfit = u || y.fit; going = true } ≡ h
-      is = sym (rw (y.reader, y.at, y.taken, y.unfit, y.going) refl)

@@ -1,16 +1,13 @@
 -- What is answered for a text and a point: REQUIREMENT.md, section 9. Stated. Assumes nothing.
-use Rattle.std.specs.Prelude.{List, [], ◌∷◌, ◌++◌, ℕ, ◌-◌, ◌*◌, ◌≤◌, ◌<◌, ℤ, pos, length, replicate}
+use Rattle.std.specs.Prelude.{List, [], ◌∷◌, ◌++◌, ℕ, ◌-◌, ◌*◌, ◌≤◌, ◌<◌, ℤ, pos, length, replicate, Result, Ok, Err}
 use Rattle.json_text.specs.Tree.{Json}
 use Rattle.geometry.specs.declared.Point.{Point}
 use Rattle.geometry.specs.declared.Located.{Located}
-use Rattle.geometry.specs.declared.Located.TheVariants as Is
 use Rattle.geometry.specs.Plane.{Placed}
 use Rattle.coordinate.specs.Coordinate.{Plain, InRange}
 use Rattle.corners.specs.Corners.{ValidB, Corner, CornersOf}
 use Rattle.boundary.specs.declared.Refusal.{Refusal}
 use Rattle.boundary.specs.declared.Refusal.TheVariants as No
-use Rattle.boundary.specs.declared.Answer.{Answer}
-use Rattle.boundary.specs.declared.Answer.TheVariants as Says
 
 -- the number of each refusal
 abbrev pub refusal_number : Refusal → ℕ
@@ -46,14 +43,8 @@ pub data Leaves (s : List ℕ) : List ℤ → Type 0 where
   leaves_points : {ps : List Point} → Bounds s ps → Leaves s (numbers_in ps ++ replicate (2048 - 2 * length ps) (pos 0))
   leaves_none : {k : Refusal} → Refuses s k → Leaves s (replicate 2048 (pos 0))
 
--- where a point lies, as an answer
-abbrev pub says : Located → Answer
-says (Is.Edge i) = Says.Edge i
-says (Is.Inside i) = Says.Inside i
-says (Is.Outside i) = Says.Outside i
-
--- what is answered for the text s and the point p
-pub data Answered (s : List ℕ) (p : Point) : Answer → Type 0 where
-  refused : {k : Refusal} → Refuses s k → Answered s p (Says.Refused k)
-  unfit_point : {ps : List Point} → Bounds s ps → (InRange p.x → InRange p.y → ⊥) → Answered s p (Says.Refused No.Range)
-  placed : {ps : List Point} {l : Located} → Bounds s ps → InRange p.x → InRange p.y → Placed ps p l → Answered s p (says l)
+-- what is answered for the text s and the point p: where the point lies, or why it or the text is refused
+pub data Answered (s : List ℕ) (p : Point) : Result Located Refusal → Type 0 where
+  refused : {k : Refusal} → Refuses s k → Answered s p (Err k)
+  unfit_point : {ps : List Point} → Bounds s ps → (InRange p.x → InRange p.y → ⊥) → Answered s p (Err No.Range)
+  placed : {ps : List Point} {l : Located} → Bounds s ps → InRange p.x → InRange p.y → Placed ps p l → Answered s p (Ok l)

@@ -11,8 +11,7 @@ use Rattle.follows.specs.Follows.{NoRS, read_part}
 use Rattle.reader.specs.declared.Reader.{Reader}
 use Rattle.reader.specs.Machine.{memory_of}
 use Rattle.corners.specs.Numbers.{is_number_byte, in_number, numbers_of}
-use Rattle.coordinate.specs.declared.Coordinate.{Coordinate}
-use Rattle.boundary.specs.Exact.{entries, is_unfit, unfit_in, filled, put_at}
+use Rattle.boundary.specs.Exact.{entries, unfit_in, filled}
 
 -- a byte between numbers: none of theirs, and no RS
 unfoldable pub is_gap_byte : ℕ → Bool
@@ -21,6 +20,10 @@ is_gap_byte b = not (is_number_byte b) && not (eqb b 0x1E)
 -- the bytes from place i up to j
 abbrev pub part : List ℕ → ℕ → ℕ → List ℕ
 part s i j = take (j - i) (drop i s)
+
+-- what is answered for a byte is the test f
+abbrev pub Tests : (ℕ → Bool → Type 0) → (ℕ → Bool) → Type 0
+Tests gives f = (b : ℕ) (r : Bool) → b < 256 → gives b r → r ≡ f b
 
 -- the bytes from place i up to j pass a test, and the next does not
 pub record Stretch (f : ℕ → Bool) (s : List ℕ) (i j : ℕ) : Type 0 where
@@ -32,11 +35,6 @@ pub record Stretch (f : ℕ → Bool) (s : List ℕ) (i j : ℕ) : Type 0 where
 -- a number at level 3 is being read
 unfoldable pub takes : Progress → Bool
 takes x = in_number x.mode && eqb x.level 3
-
--- the memory l after number n, which was read as c, is m, and u tells whether it is unfit
-pub record Took (l : List ℤ) (n : ℕ) (c : Coordinate) (m : List ℤ) (u : Bool) : Type 0 where
-  pub unfit : u ≡ is_unfit c
-  pub memory : m ≡ put_at l n c
 
 -- the first i bytes of the text s are fed to the reader r with the buffer w, and n numbers of them are taken into the memory l, u tells whether one of
 -- them is unfit

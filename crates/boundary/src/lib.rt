@@ -1,54 +1,34 @@
 // The boundary of a field: a text judged by book B and its corners taken, and the answer for a point. REQUIREMENT.md, section 9.
 #![tactic(auto)]
 
-ghost use Rattle.std.specs.Prelude.{◌≡◌, ◌≤◌, leb, pos, nat_abs, replicate};
-ghost use Rattle.table.specs.Flat.{table_in};
-ghost use Rattle.book.specs.Examples.{book_b};
-ghost use Rattle.load.specs.Loads.{book_table, Blank};
-ghost use Rattle.plane.specs.Corners.{Held};
-ghost use Rattle.boundary.specs.Boundary.{refusal_number, says};
-ghost use Rattle.boundary.specs.Exact.{HeldBy, in_range, answer_at, answer_by};
-ghost use Rattle.boundary.specs.Calls.{LoadsB, Refuses, bound_by, kept_by, Bounds, ReadOf, QueryOf};
+ghost use Rattle.std.specs.Prelude.{◌≡◌, leb, pos, nat_abs, replicate};
+ghost use Rattle.plane.specs.Lent.{corners_of};
+ghost use Rattle.boundary.specs.Boundary.{refusal_number};
+ghost use Rattle.boundary.specs.Exact.{in_range, answer_at};
+ghost use Rattle.boundary.specs.Calls.{LoadsB, bound_by, ReadOf, QueryOf};
 
 use geometry::{Located, Point};
+use plane::Corners;
 
 mod walk; // walk.rt: the text judged and its numbers taken, in one walk
 
 // Why a text or a point is refused.
-#[derive(Clone, Copy)]
+#[derive(Clone, Copy, PartialEq, Eq)]
 pub enum Refusal {
-    // 31: the text is not valid under book B
-    NotValid,
-    // 32: fewer than 3 or more than 1,024 corners
-    Count,
-    // 33: a number of a corner or the point that is out of range, or a corner's that is not in plain digits
-    Range,
+    // the text is not valid under book B
+    NotValid = 31,
+    // fewer than 3 or more than 1,024 corners
+    Count = 32,
+    // a number of a corner or the point that is out of range, or a corner's that is not in plain digits
+    Range = 33,
 }
 
-// What is read of a text: how many corners it has, or why it is refused.
-#[derive(Clone, Copy)]
-pub enum Boundary {
-    Corners(usize),
-    Refused(Refusal),
-}
-
-// What is answered for a point: where it lies, with the number of the nearest corner, or why it is refused.
-#[derive(Clone, Copy)]
-pub enum Answer {
-    Edge(usize),
-    Inside(usize),
-    Outside(usize),
-    Refused(Refusal),
-}
-
-// The number of a refusal.
-pub fn refusal_number(n: Refusal) -> u8
-    ensures { result ≡ refusal_number n }
-{
-    match n {
-        Refusal::NotValid => 31,
-        Refusal::Count => 32,
-        Refusal::Range => 33,
+impl Refusal {
+    // The number of a refusal.
+    pub fn number(self) -> u8
+        ensures { result ≡ refusal_number self }
+    {
+        self as u8
     }
 }
 
@@ -69,99 +49,74 @@ fn clear(corners: &mut [i32; 2048])
     *corners = [0; 2048];
 }
 
-// A refusal leaves no corners.
-fn refuse(corners: &mut [i32; 2048], n: Refusal) -> Boundary
-    ensures { Refuses n result corners.new }
+// How many corners a text with these numbers has, or why it is refused: 31, 32 and 33 in this order. A text that is not valid has none.
+fn bound(numbers: Option<walk::Numbers>) -> Result<usize, Refusal>
+    ensures { result ≡ bound_by numbers }
 {
-    clear(corners);
-    Boundary::Refused(n)
-}
-
-// The boundary of a text that was read: 31, 32 and 33 in this order, or its corners.
-fn bound(x: walk::Read, corners: &mut [i32; 2048]) -> Boundary
-    ensures { Bounds x corners.old result corners.new }
-{
-    if x.valid {
-        if x.taken < 6 {
-            return refuse(corners, Refusal::Count);
-        }
-        if 2048 < x.taken {
-            return refuse(corners, Refusal::Count);
-        }
-        if x.unfit {
-            return refuse(corners, Refusal::Range);
-        }
-        return Boundary::Corners(x.taken / 2);
+    let numbers = numbers.ok_or(Refusal::NotValid)?;
+    if !(6..=2048).contains(&numbers.taken) {
+        return Err(Refusal::Count);
     }
-    refuse(corners, Refusal::NotValid)
+    if numbers.unfit {
+        return Err(Refusal::Range);
+    }
+    Ok(numbers.taken / 2)
 }
 
-// Judges a text by book B and takes its corners, in one walk over its bytes. The lent table holds book B's table then, and the lent corners
-// their numbers, with zeros behind them; all zeros where the text or a corner is refused. Ruled out: a program that takes the corners of a text
-// that is not valid, and one that finds fault with a number before it counts the corners.
-pub fn read(text: &[u8], table: &mut [u8; 7920], corners: &mut [i32; 2048]) -> Boundary
+// Judges a text by book B and takes its corners, in one walk over its bytes: how many they are, or why the text is refused. The lent table
+// holds book B's table then, and the lent corners their numbers, with zeros behind them; all zeros where the text or a corner is refused.
+// Ruled out: a program that takes the corners of a text that is not valid, and one that finds fault with a number before it counts the corners.
+// Stays: the C interface lends the memory and takes the count, so they stand side by side until `Corners::new` joins them.
+pub fn read(
+    text: &[u8],
+    table: &mut [u8; 7920],
+    corners: &mut [i32; 2048],
+) -> Result<usize, Refusal>
     ensures { ReadOf text.now result corners.new table.new }
 {
     load_b(table);
     clear(corners);
-    let x = walk::read_text(text, table, corners);
-    bound(x, corners)
+    let read = bound(walk::read_text(text, table, corners));
+    if read.is_err() {
+        clear(corners);
+    }
+    read
 }
 
 // A number from -1,000,000 to 1,000,000.
 fn in_range(v: i32) -> bool
     ensures { result ≡ leb (nat_abs v) 1000000 }
 {
-    (-1000000 <= v) & (v <= 1000000)
+    (-1000000..=1000000).contains(&v)
 }
 
 // Both numbers of a point are in range.
 fn point_in_range(p: Point) -> bool
     ensures { result ≡ in_range p }
 {
-    in_range(p.x) & in_range(p.y)
+    in_range(p.x) && in_range(p.y)
 }
 
-fn told(l: Located) -> Answer
-    ensures { result ≡ says l }
+// The answer for a point: 33 where the point is out of range.
+pub fn answer_at(corners: &Corners, p: Point) -> Result<Located, Refusal>
+    ensures { result ≡ answer_at (corners_of corners.now) p }
 {
-    match l {
-        Located::Edge(i) => Answer::Edge(i),
-        Located::Inside(i) => Answer::Inside(i),
-        Located::Outside(i) => Answer::Outside(i),
+    if !point_in_range(p) {
+        return Err(Refusal::Range);
     }
-}
-
-// The answer for a point, where n corners were read: 33 where the point is out of range.
-pub fn answer_at(corners: &[i32; 2048], n: usize, p: Point) -> Answer
-    requires { Held corners.now n }
-    ensures { result ≡ answer_at corners.now n p }
-{
-    if point_in_range(p) {
-        return told(plane::locate(corners, n, p));
-    }
-    Answer::Refused(Refusal::Range)
-}
-
-// The answer for a point, where b was read of a text: where that is a refusal, the refusal.
-pub fn answer_by(corners: &[i32; 2048], b: Boundary, p: Point) -> Answer
-    requires { HeldBy b corners.now }
-    ensures { result ≡ answer_by b corners.now p }
-{
-    match b {
-        Boundary::Corners(n) => answer_at(corners, n, p),
-        Boundary::Refused(k) => Answer::Refused(k),
-    }
+    Ok(corners.locate(p))
 }
 
 // Reads a text as `read` does, and answers for a point. Ruled out: a program that answers for a point that is out of range, and
 // one that leaves the corners of a refused text in the lent memory.
-pub fn query(text: &[u8], p: Point, table: &mut [u8; 7920], corners: &mut [i32; 2048]) -> Answer
+pub fn query(
+    text: &[u8],
+    p: Point,
+    table: &mut [u8; 7920],
+    corners: &mut [i32; 2048],
+) -> Result<Located, Refusal>
     ensures { QueryOf text.now p result corners.new table.new }
 {
-    let b = read(text, table, corners);
-    match b {
-        Boundary::Corners(n) => answer_at(corners, n, p),
-        Boundary::Refused(k) => Answer::Refused(k),
-    }
+    let n = read(text, table, corners)?;
+    answer_at(&Corners::new(corners, n), p)
 }

@@ -1,18 +1,18 @@
 // A text fed to the reader piece by piece, and the numbers at level 3 taken from it, in one walk.
-ghost use Rattle.std.specs.Prelude.{Bool, true, false, cond, ◌≡◌, ◌≤◌, ◌<◌, ltb, length, set, replicate, pos};
+ghost use Rattle.std.specs.Prelude.{Bool, true, false, ◌||◌, ◌≡◌, ◌≤◌, ◌<◌, ◌+◌, ℕ, length, replicate, pos};
+ghost use Rattle.std.specs.Bool.{then_some};
 ghost use Rattle.table.specs.Flat.{table_in};
 ghost use Rattle.book.specs.Examples.{book_b};
 ghost use Rattle.load.specs.Loads.{book_table};
 ghost use Rattle.coordinate.specs.Exact.{coordinate_of};
 ghost use Rattle.corners.specs.Numbers.{is_number_byte, in_number};
-ghost use Rattle.boundary.specs.Walk.{is_gap_byte, Stretch, takes, Took, Walked};
-ghost use Rattle.boundary.specs.Steps.{Tells, Piece, WalkedOn, WalkedAll, says_valid, ReadsAs};
-ghost use Rattle.boundary.specs.Exact.{is_valid};
+ghost use Rattle.boundary.specs.Walk.{is_gap_byte, Tests, Stretch, takes, Walked};
+ghost use Rattle.boundary.specs.Steps.{Piece, WentOn, WalkedOn, WalkedAll, says_valid, ReadsAs};
+ghost use Rattle.boundary.specs.Exact.{is_unfit, put_at};
 ghost use Rattle.reader.specs.Machine.{close_of};
 ghost use Rattle.reader.specs.Start.{fresh_reader};
 ghost use Rattle.reader.specs.Tally.{zero_tally};
 
-use coordinate::Coordinate;
 use json_text::lexer::Mode;
 use progress::Progress;
 use reader::{Answer, Reader};
@@ -22,268 +22,188 @@ use verdict::Verdict;
 fn is_number_byte(b: u8) -> bool
     ensures { result ≡ is_number_byte b }
 {
-    ((0x30 <= b) & (b <= 0x39))
-        | ((b == 0x2D) | ((b == 0x2E) | (((b == 0x65) | (b == 0x45)) | (b == 0x2B))))
+    matches!(b, b'0'..=b'9' | b'-' | b'.' | b'e' | b'E' | b'+')
 }
 
 // A byte between numbers: none of theirs, and no RS.
 fn is_gap_byte(b: u8) -> bool
     ensures { result ≡ is_gap_byte b }
 {
-    !is_number_byte(b) & (b != 0x1E)
+    !is_number_byte(b) && b != 0x1E
 }
 
-// The end of the bytes between numbers that begin at a place.
-fn gap_end(text: &[u8], from: usize) -> usize
-    requires { from ≤ length text.now }
-    ensures { Stretch is_gap_byte text.now from result }
+// The end of the bytes that begin at a place and pass a test.
+fn run_end<F: Fn(u8) -> bool>(text: &[u8], from: usize, test: F) -> usize
+    requires callable { F.IsAlwaysCallable test }
+    requires inside { from ≤ length text.now }
+    ensures { (f : ℕ → Bool) → Tests (F.post test) f → Stretch f text.now from result }
 {
-    let mut i = from;
-    while i < text.len() {
-        if is_gap_byte(text[i]) {
-            i += 1;
-        } else {
+    for i in from..text.len() {
+        if !test(text[i]) {
             return i;
         }
     }
-    i
-}
-
-// The end of the bytes of numbers that begin at a place.
-fn run_end(text: &[u8], from: usize) -> usize
-    requires { from ≤ length text.now }
-    ensures { Stretch is_number_byte text.now from result }
-{
-    let mut i = from;
-    while i < text.len() {
-        if is_number_byte(text[i]) {
-            i += 1;
-        } else {
-            return i;
-        }
-    }
-    i
+    text.len()
 }
 
 fn in_number(m: Mode) -> bool
     ensures { result ≡ in_number m }
 {
-    match m {
-        Mode::At(_) => false,
-        Mode::Key(_) => false,
-        Mode::Text(_) => false,
-        Mode::Number(_) => true,
-        Mode::Word(_, _) => false,
-    }
+    matches!(m, Mode::Number(_))
 }
 
 // A number at level 3 is being read.
 fn takes(x: Progress) -> bool
     ensures { result ≡ takes x }
 {
-    let m = x.mode;
-    in_number(m) & (x.level == 3)
+    in_number(x.mode) & (x.level == 3)
 }
 
-// Puts number n in its place, where there is one.
-fn store(corners: &mut [i32; 2048], n: usize, v: i32)
-    ensures { corners.new ≡ cond (ltb n 2048) (set corners.old n v) corners.old }
+// Puts number n in its place, where there is one and the number is fit.
+fn put(corners: &mut [i32; 2048], n: usize, number: Option<i32>)
+    ensures { corners.new ≡ put_at corners.old n number }
 {
-    if n < 2048 {
+    if let Some(v) = number
+        && n < 2048
+    {
         corners[n] = v;
     }
 }
 
-// Puts number n in its place, where there is one and the number is fit. Answers whether it is unfit.
-fn put(corners: &mut [i32; 2048], n: usize, c: Coordinate) -> bool
-    ensures { Took corners.old n c corners.new result }
-{
-    match c {
-        Coordinate::At(v) => {
-            store(corners, n, v);
-            false
-        }
-        Coordinate::Unfit => true,
-    }
+// A text to be judged, and the table of book B.
+#[derive(Clone, Copy)]
+struct Source<'a> {
+    text: &'a [u8],
+    table: &'a [u8; 7920],
+    ghost book: { table_in table.now ≡ book_table book_b },
 }
 
-// Where the walk stands: the reader, the place in the text, how many numbers are taken, whether one of them is unfit, and whether it goes on.
+// Where the walk stands: the reader, the place in the text, how many numbers are taken, and whether one of them is unfit.
 #[derive(Clone, Copy)]
 struct Walk {
     reader: Reader,
     at: usize,
     taken: usize,
     unfit: bool,
-    going: bool,
 }
 
-// Takes the number that a piece ends with.
-fn take_number(w: Walk, next: Reader, end: usize, corners: &mut [i32; 2048], number: &[u8]) -> Walk
-    requires { w.taken < 18446744073709551615 }
-    ensures { Tells w.taken w.unfit next end (coordinate_of number.now) corners.old corners.new result }
-{
-    let taken = w.taken;
-    let c = coordinate::read(number);
-    let unfit = put(corners, taken, c);
-    Walk {
-        reader: next,
-        at: end,
-        taken: taken + 1,
-        unfit: w.unfit | unfit,
-        going: true,
+impl Walk {
+    // Takes the number that a piece ends with.
+    fn take_number(self, next: Reader, end: usize, corners: &mut [i32; 2048], number: &[u8]) -> Walk
+        requires { self.taken < 18446744073709551615 }
+        ensures walk { result ≡ record { reader = next; at = end; taken = self.taken + 1; unfit = self.unfit || is_unfit (coordinate_of number.now) } }
+        ensures memory { corners.new ≡ put_at corners.old self.taken (coordinate_of number.now) }
+    {
+        let c = coordinate::read(number);
+        put(corners, self.taken, c);
+        Walk {
+            reader: next,
+            at: end,
+            taken: self.taken + 1,
+            unfit: self.unfit | c.is_none(),
+        }
+    }
+
+    // Feeds a piece: bytes between numbers, up to the place `from`, then bytes of numbers. Takes these where they are a number at level 3.
+    fn feed_piece(
+        self,
+        source: &Source,
+        work: &mut [u8],
+        corners: &mut [i32; 2048],
+        from: usize,
+        end: usize,
+    ) -> Walk
+        requires { Piece (table_in source.now.table.now) source.now.text.now self.at self.reader work.old self.taken self.unfit corners.old from end }
+        ensures { WentOn (table_in source.now.table.now) source.now.text.now self.at result work.new corners.new }
+    {
+        let text = source.text;
+        let f = reader::feed(self.reader, source.table, work, &text[self.at..end]);
+        let next = f.reader;
+        if takes(next.progress) {
+            return self.take_number(next, end, corners, &text[from..end]);
+        }
+        Walk {
+            reader: next,
+            at: end,
+            ..self
+        }
+    }
+
+    // Feeds the bytes up to the end of the next bytes of numbers. The walk ends at an RS.
+    fn on(self, source: &Source, work: &mut [u8], corners: &mut [i32; 2048]) -> Option<Walk>
+        requires { Walked (table_in source.now.table.now) source.now.text.now self.at self.reader work.old self.taken self.unfit corners.old × (self.at < length source.now.text.now) }
+        ensures { WalkedOn (table_in source.now.table.now) source.now.text.now self.at result work.new corners.new }
+    {
+        let from = run_end(source.text, self.at, is_gap_byte);
+        let end = run_end(source.text, from, is_number_byte);
+        if end == self.at {
+            return None;
+        }
+        Some(self.feed_piece(source, work, corners, from, end))
     }
 }
 
-// Feeds a piece: bytes between numbers, up to the place `from`, then bytes of numbers. Takes these where they are a number at level 3.
-fn feed_piece<'a>(
-    w: Walk,
-    table: &'a [u8; 7920],
-    text: &'a [u8],
-    work: &mut [u8],
-    corners: &mut [i32; 2048],
-    from: usize,
-    end: usize,
-) -> Walk
-    requires { Piece (table_in table.now) text.now w.at w.reader work.old w.taken w.unfit corners.old from end }
-    ensures { WalkedOn (table_in table.now) text.now w.at result work.new corners.new }
-{
-    let at = w.at;
-    let r = w.reader;
-    let f = reader::feed(r, table, work, &text[at..end]);
-    let next = f.reader;
-    let x = next.progress;
-    if takes(x) {
-        return take_number(w, next, end, corners, &text[from..end]);
-    }
-    Walk {
-        reader: next,
-        at: end,
-        taken: w.taken,
-        unfit: w.unfit,
-        going: true,
-    }
-}
-
-// Feeds the bytes up to the end of the next bytes of numbers. The walk ends at an RS.
-fn walk_on<'a>(
-    w: Walk,
-    table: &'a [u8; 7920],
-    text: &'a [u8],
-    work: &mut [u8],
-    corners: &mut [i32; 2048],
-) -> Walk
-    requires { Walked (table_in table.now) text.now w.at w.reader work.old w.taken w.unfit corners.old × (w.at < length text.now) × (table_in table.now ≡ book_table book_b) }
-    ensures { WalkedOn (table_in table.now) text.now w.at result work.new corners.new }
-{
-    let at = w.at;
-    let from = gap_end(text, at);
-    let end = run_end(text, from);
-    if end == at {
-        let r = w.reader;
-        return Walk {
-            reader: r,
-            at: at,
-            taken: w.taken,
-            unfit: w.unfit,
-            going: false,
-        };
-    }
-    feed_piece(w, table, text, work, corners, from, end)
-}
-
-// Feeds the whole text to a reader behind an RS.
-fn walk_all<'a>(
-    r: Reader,
-    table: &'a [u8; 7920],
-    text: &'a [u8],
-    work: &mut [u8],
-    corners: &mut [i32; 2048],
-) -> Walk
-    requires { Walked (table_in table.now) text.now 0 r work.old 0 false corners.old × (table_in table.now ≡ book_table book_b) }
-    ensures { WalkedAll (table_in table.now) text.now result work.new corners.new }
+// Feeds the whole text to a reader behind an RS; none where it has an RS itself.
+fn walk_all(r: Reader, source: &Source, work: &mut [u8], corners: &mut [i32; 2048]) -> Option<Walk>
+    requires { Walked (table_in source.now.table.now) source.now.text.now 0 r work.old 0 false corners.old }
+    ensures { WalkedAll (table_in source.now.table.now) source.now.text.now result work.new corners.new }
 {
     let mut w = Walk {
         reader: r,
         at: 0,
         taken: 0,
         unfit: false,
-        going: true,
     };
-    while w.at < text.len() {
-        w = walk_on(w, table, text, work, corners);
-        if w.going {} else {
-            return w;
-        }
+    while w.at < source.text.len() {
+        w = w.on(source, work, corners)?;
     }
-    w
+    Some(w)
 }
 
 const RS: [u8; 1] = [0x1E];
 
 // A fresh reader, with the frames of a buffer of 288 bytes.
-fn started<'a>(table: &'a [u8; 7920], work: &'a [u8]) -> Reader
-    requires { (length work.now ≡ 288) × (table_in table.now ≡ book_table book_b) }
+fn started(source: &Source, work: &[u8]) -> Reader
+    requires { length work.now ≡ 288 }
     ensures { result ≡ fresh_reader 3 true zero_tally }
 {
-    let s = Reader::start(table, work);
+    let s = Reader::start(source.table, work);
     s.reader
 }
 
 // A reader behind an RS.
-fn behind_rs(table: &[u8; 7920], work: &mut [u8]) -> Reader
-    requires { (length work.old ≡ 288) × (table_in table.now ≡ book_table book_b) }
+fn behind_rs(source: &Source, work: &mut [u8]) -> Reader
+    requires { length work.old ≡ 288 }
     ensures { (result ≡ fresh_reader 3 false zero_tally) × (work.new ≡ work.old) }
 {
-    let r = started(table, work);
-    let f = reader::feed(r, table, work, &RS);
+    let r = started(source, work);
+    let f = reader::feed(r, source.table, work, &RS);
     f.reader
-}
-
-fn is_valid(v: Verdict) -> bool
-    ensures { result ≡ is_valid v }
-{
-    match v {
-        Verdict::Valid => true,
-        Verdict::Invalid => false,
-        Verdict::Malformed(_) => false,
-        Verdict::TooDeep(_) => false,
-        Verdict::TooLong => false,
-        Verdict::Unfinished(_) => false,
-        Verdict::Head => false,
-    }
 }
 
 // The call gives a record the verdict valid.
 fn says_valid(a: Answer) -> bool
     ensures { result ≡ says_valid a }
 {
-    match a {
-        Ok(None) => false,
-        Ok(Some(v)) => is_valid(v),
-        Err(_) => false,
-    }
+    matches!(a, Ok(Some(Verdict::Valid)))
 }
 
-// What is read of a text: whether it is valid under book B, how many numbers at level 3 it has, and whether one of them is unfit.
+// The numbers at level 3 of a text that is valid under book B: how many there are, and whether one of them is unfit.
 #[derive(Clone, Copy)]
-pub struct Read {
-    pub valid: bool,
+pub struct Numbers {
     pub taken: usize,
     pub unfit: bool,
 }
 
-// Ends the record that a text is.
-fn close_text<'a>(w: Walk, table: &'a [u8; 7920], work: &'a [u8]) -> Read
-    ensures { result ≡ record { valid = says_valid (close_of w.reader (table_in table.now) work.now).answer; taken = w.taken; unfit = w.unfit } }
+// Ends the record that a text is: its numbers, where it is valid.
+fn close_text(w: Walk, source: &Source, work: &[u8]) -> Option<Numbers>
+    ensures { result ≡ then_some (says_valid (close_of w.reader (table_in source.now.table.now) work.now).answer) (record { taken = w.taken; unfit = w.unfit }) }
 {
-    let r = w.reader;
-    let c = reader::close(r, table, work);
-    let a = c.answer;
-    Read {
-        valid: says_valid(a),
+    let c = reader::close(w.reader, source.table, work);
+    says_valid(c.answer).then_some(Numbers {
         taken: w.taken,
         unfit: w.unfit,
-    }
+    })
 }
 
 // 288 bytes of work: three frames.
@@ -293,20 +213,18 @@ fn work_space() -> [u8; 288]
     [0; 288]
 }
 
-// Judges a text by book B and takes its numbers at level 3, in one walk over its bytes.
-pub fn read_text<'a>(text: &'a [u8], table: &'a [u8; 7920], corners: &mut [i32; 2048]) -> Read
+// Judges a text by book B and takes its numbers at level 3, in one walk over its bytes; none where the text is not valid.
+pub fn read_text<'a>(
+    text: &'a [u8],
+    table: &'a [u8; 7920],
+    corners: &mut [i32; 2048],
+) -> Option<Numbers>
     requires { (table_in table.now ≡ book_table book_b) × (corners.old ≡ replicate 2048 (pos 0)) }
     ensures { ReadsAs text.now result corners.new }
 {
+    let source = Source { text, table };
     let mut work = work_space();
-    let r = behind_rs(table, &mut work);
-    let w = walk_all(r, table, text, &mut work, corners);
-    if w.going {
-        return close_text(w, table, &work);
-    }
-    Read {
-        valid: false,
-        taken: 0,
-        unfit: false,
-    }
+    let r = behind_rs(&source, &mut work);
+    let w = walk_all(r, &source, &mut work, corners)?;
+    close_text(w, &source, &work)
 }

@@ -13,8 +13,9 @@ use Rattle.json_text.specs.Bytes.{within}
 use Rattle.json_text.specs.Numbers.{is_digit, Digits, no_digits, digits, SomeDigits, some_digits}
 use Rattle.coordinate.specs.Coordinate.{value_from, Plain, plain, minus_plain, InRange, Reads, reads_at, reads_unfit}
 use Rattle.coordinate.specs.Exact.{whole_from, whole_of, negated, coordinate_of}
-use Rattle.coordinate.specs.declared.Coordinate.{Coordinate}
-use Rattle.coordinate.specs.declared.Coordinate.TheVariants.{At, Unfit}
+use Rattle.std.specs.Bool.{then_some}
+use Rattle.std.specs.Option.{option_map}
+use Rattle.std.specs.Prelude.{Option, Some, None}
 
 -- ---- digits
 
@@ -42,16 +43,16 @@ unfolding is_digit within
 minus-not-digit (some_digits h ds) = absurd h
 
 -- what `whole_of` says of its digits
-data Whole (ds : List ℕ) : Coordinate → Type 0 where
-  fit : SomeDigits ds → value_from 0 ds ≤ 1000000 → Whole ds (At (pos (value_from 0 ds)))
-  unfit : (SomeDigits ds → value_from 0 ds ≤ 1000000 → ⊥) → Whole ds Unfit
+data Whole (ds : List ℕ) : Option ℕ → Type 0 where
+  fit : SomeDigits ds → value_from 0 ds ≤ 1000000 → Whole ds (Some (value_from 0 ds))
+  unfit : (SomeDigits ds → value_from 0 ds ≤ 1000000 → ⊥) → Whole ds None
 
 whole-whole_of : (ds : List ℕ) → Whole ds (whole_of ds)
 unfolding whole_of whole_from
 whole-whole_of [] = unfit (elim [ ])
 whole-whole_of (d ∷ ds) = go (all is_digit (d ∷ ds)) refl (leb (value_from 0 (d ∷ ds)) 1000000) refl
   where
-    go : (t : Bool) → all is_digit (d ∷ ds) ≡ t → (l : Bool) → leb (value_from 0 (d ∷ ds)) 1000000 ≡ l → Whole (d ∷ ds) (cond (t && l) (At (pos (value_from 0 (d ∷ ds)))) Unfit)
+    go : (t : Bool) → all is_digit (d ∷ ds) ≡ t → (l : Bool) → leb (value_from 0 (d ∷ ds)) 1000000 ≡ l → Whole (d ∷ ds) (then_some (t && l) (value_from 0 (d ∷ ds)))
     go true p true q = fit (some_digits-of-all d ds (T-of-true _ p)) (leb-true _ 1000000 q)
     go true p false q = unfit (λ s h. omega (arith, leb-false (value_from 0 (d ∷ ds)) 1000000 q))
     go false p l q = unfit (λ s h. true-neq-false (sym (true-of-T _ (all-of-some_digits s)) ∙ p))
@@ -69,7 +70,7 @@ nat_abs-neg (suc n) = refl
 
 -- what is computed of the bytes is read of them
 pub reads-coordinate_of : (ds : List ℕ) → Reads ds (coordinate_of ds)
-unfolding coordinate_of negated
+unfolding coordinate_of
 reads-coordinate_of [] = reads_unfit never
   where
     none : SomeDigits [] → ⊥
@@ -79,7 +80,7 @@ reads-coordinate_of [] = reads_unfit never
     never z (plain s) r = none s
 reads-coordinate_of (b ∷ ds) = go (eqb b 0x2D) refl
   where
-    below : {c : Coordinate} → Whole ds c → Reads (0x2D ∷ ds) (negated c)
+    below : {c : Option ℕ} → Whole ds c → Reads (0x2D ∷ ds) (option_map negated c)
     below (fit s h) = reads_at (minus_plain s) (rw (nat_abs-neg (value_from 0 ds)) h)
     below (unfit k) = reads_unfit never
       where
@@ -87,12 +88,12 @@ reads-coordinate_of (b ∷ ds) = go (eqb b 0x2D) refl
         never z (plain s) r = minus-not-digit s
         never z (minus_plain s) r = k s (rw (nat_abs-neg (value_from 0 ds)) at r)
 
-    alone : (b ≡ 0x2D → ⊥) → {c : Coordinate} → Whole (b ∷ ds) c → Reads (b ∷ ds) c
+    alone : (b ≡ 0x2D → ⊥) → {c : Option ℕ} → Whole (b ∷ ds) c → Reads (b ∷ ds) (option_map pos c)
     alone e (fit s h) = reads_at (plain s) h
     alone e (unfit k) = reads_unfit (λ z p r. let w = digits-of-plain e p in k w.0 (rw w.1 at r))
 
-    go : (t : Bool) → eqb b 0x2D ≡ t → Reads (b ∷ ds) (cond t (negated (whole_of ds)) (whole_of (b ∷ ds)))
-    go true e = subst (λ (x : ℕ). Reads (x ∷ ds) (negated (whole_of ds))) (sym (eqb-true b 0x2D e)) (below (whole-whole_of ds))
+    go : (t : Bool) → eqb b 0x2D ≡ t → Reads (b ∷ ds) (cond t (option_map negated (whole_of ds)) (option_map pos (whole_of (b ∷ ds))))
+    go true e = subst (λ (x : ℕ). Reads (x ∷ ds) (option_map negated (whole_of ds))) (sym (eqb-true b 0x2D e)) (below (whole-whole_of ds))
     go false e = alone (eqb-false b 0x2D e) (whole-whole_of (b ∷ ds))
 
 -- the digits have one value
@@ -103,15 +104,15 @@ plain-unique (minus_plain s) (plain t) = minus-not-digit t
 plain-unique (minus_plain s) (minus_plain t) = refl
 
 -- one thing is read of the bytes
-pub reads-unique : {ds : List ℕ} {a b : Coordinate} → Reads ds a → Reads ds b → a ≡ b
-reads-unique (reads_at p h) (reads_at q k) = ap At (plain-unique p q)
+pub reads-unique : {ds : List ℕ} {a b : Option ℤ} → Reads ds a → Reads ds b → a ≡ b
+reads-unique (reads_at p h) (reads_at q k) = ap Some (plain-unique p q)
 reads-unique (reads_at p h) (reads_unfit f) = absurd (f _ p h)
 reads-unique (reads_unfit f) (reads_at q k) = absurd (f _ q k)
 reads-unique (reads_unfit f) (reads_unfit g) = refl
 
 -- a number that is read is in range
-pub in_range-of-coordinate : (ds : List ℕ) (z : ℤ) → coordinate_of ds ≡ At z → InRange z
+pub in_range-of-coordinate : (ds : List ℕ) (z : ℤ) → coordinate_of ds ≡ Some z → InRange z
 in_range-of-coordinate ds z e = go (subst (Reads ds) e (reads-coordinate_of ds))
   where
-    go : Reads ds (At z) → InRange z
+    go : Reads ds (Some z) → InRange z
     go (reads_at p h) = h

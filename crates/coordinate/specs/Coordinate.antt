@@ -1,8 +1,6 @@
 -- The number of a corner as it is written: REQUIREMENT.md, section 9. Stated. Assumes nothing.
-use Rattle.std.specs.Prelude.{List, [], ◌∷◌, ℕ, ◌+◌, ◌-◌, ◌*◌, ◌≤◌, ℤ, pos, neg_ℤ, nat_abs}
+use Rattle.std.specs.Prelude.{List, [], ◌∷◌, ℕ, ◌+◌, ◌-◌, ◌*◌, ◌≤◌, ℤ, pos, neg_ℤ, nat_abs, Option, Some, None}
 use Rattle.json_text.specs.Numbers.{SomeDigits}
-use Rattle.coordinate.specs.declared.Coordinate.{Coordinate}
-use Rattle.coordinate.specs.declared.Coordinate.TheVariants as Is
 
 -- the value of digits after those whose value is v
 abbrev pub value_from : ℕ → List ℕ → ℕ
@@ -18,7 +16,7 @@ pub data Plain : List ℕ → ℤ → Type 0 where
 abbrev pub InRange : ℤ → Type 0
 InRange z = nat_abs z ≤ 1000000
 
--- what is read of a number as it is written
-pub data Reads (ds : List ℕ) : Coordinate → Type 0 where
-  reads_at : {z : ℤ} → Plain ds z → InRange z → Reads ds (Is.At z)
-  reads_unfit : ((z : ℤ) → Plain ds z → InRange z → ⊥) → Reads ds Is.Unfit
+-- what is read of a number as it is written: its value, or none where it is not in plain digits or not in range
+pub data Reads (ds : List ℕ) : Option ℤ → Type 0 where
+  reads_at : {z : ℤ} → Plain ds z → InRange z → Reads ds (Some z)
+  reads_unfit : ((z : ℤ) → Plain ds z → InRange z → ⊥) → Reads ds None

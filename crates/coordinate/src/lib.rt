@@ -1,77 +1,41 @@
 // The number of a corner, from the bytes that it is written in.
 #![tactic(auto)]
 
-ghost use Rattle.std.specs.Prelude.{◌≡◌, ◌+◌, ◌*◌, ◌≤◌, pos, nat_abs, drop};
-ghost use Rattle.coordinate.specs.Exact.{UpTo, longer, whole_of, coordinate_of};
+ghost use Rattle.std.specs.Prelude.{◌≡◌, ◌≤◌};
+ghost use Rattle.coordinate.specs.Exact.{longer, whole_of, coordinate_of};
 
-// A number in plain digits and in range, or one that is not.
-#[derive(Clone, Copy)]
-pub enum Coordinate {
-    At(i32),
-    Unfit,
+// The value with one digit more: none where the byte is no digit, or the value leaves the range.
+fn longer(value: u32, b: u8) -> Option<u32>
+    requires { value ≤ 1000000 }
+    ensures { result ≡ longer value b }
+{
+    if !b.is_ascii_digit() {
+        return None;
+    }
+    let grown = value * 10 + (b - b'0') as u32;
+    (grown <= 1000000).then_some(grown)
 }
 
-// Ten times the value and a digit.
-fn appended(value: i32, digit: u8) -> i32
-    requires { UpTo 100000 value × (digit ≤ 9) }
-    ensures { result ≡ pos (nat_abs value * 10 + digit) }
+// The number that one or more digits are.
+fn whole(digits: &[u8]) -> Option<u32>
+    ensures { result ≡ whole_of digits.now }
 {
-    value * 10 + digit as i32
+    if digits.is_empty() {
+        return None;
+    }
+    let mut value = 0;
+    for b in digits {
+        value = longer(value, *b)?;
+    }
+    Some(value)
 }
 
-// The value with one digit more. Its size is tested before it is multiplied by ten.
-fn longer(value: i32, b: u8) -> Coordinate
-    requires { UpTo 1000000 value }
-    ensures { result ≡ longer (nat_abs value) b }
+// The number that the bytes are, whatever bytes they are; none where they are not in plain digits, or not in range.
+pub fn read(bytes: &[u8]) -> Option<i32>
+    ensures { result ≡ coordinate_of bytes.now }
 {
-    if b < 0x30 {
-        return Coordinate::Unfit;
+    match bytes.strip_prefix(b"-") {
+        Some(digits) => Some(-(whole(digits)? as i32)),
+        None => Some(whole(bytes)? as i32),
     }
-    if 0x39 < b {
-        return Coordinate::Unfit;
-    }
-    if value > 100000 {
-        return Coordinate::Unfit;
-    }
-    let grown = appended(value, b - 0x30);
-    if grown > 1000000 {
-        return Coordinate::Unfit;
-    }
-    Coordinate::At(grown)
-}
-
-// The number of the digits from a place on.
-fn whole(digits: &[u8], from: usize) -> Coordinate
-    ensures { result ≡ whole_of (drop from digits.now) }
-{
-    if digits.len() <= from {
-        return Coordinate::Unfit;
-    }
-    let mut value: i32 = 0;
-    let mut i = from;
-    while i < digits.len() {
-        let Coordinate::At(grown) = longer(value, digits[i]) else {
-            return Coordinate::Unfit;
-        };
-        value = grown;
-        i += 1;
-    }
-    Coordinate::At(value)
-}
-
-// The number that the bytes are, whatever bytes they are.
-pub fn read(digits: &[u8]) -> Coordinate
-    ensures { result ≡ coordinate_of digits.now }
-{
-    if digits.len() == 0 {
-        return Coordinate::Unfit;
-    }
-    if digits[0] != 0x2D {
-        return whole(digits, 0);
-    }
-    let Coordinate::At(value) = whole(digits, 1) else {
-        return Coordinate::Unfit;
-    };
-    let negative = -value;
-    Coordinate::At(negative)
 }

@@ -1,31 +1,14 @@
--- The numbers by which the library tells what is answered for a text and a point: LIBRARY.md. Stated. Assumes nothing.
-use Rattle.std.specs.Prelude.{ℕ}
-use Rattle.boundary.specs.declared.Answer.{Answer}
-use Rattle.boundary.specs.declared.Answer.TheVariants as Says
-use Rattle.boundary.specs.declared.Boundary.{Boundary}
-use Rattle.boundary.specs.declared.Boundary.TheVariants as Has
+-- The numbers by which the library tells what is answered for a text: LIBRARY.md; those of an answer are in crate replot. Stated. Assumes nothing.
+use Rattle.std.specs.Prelude.{ℕ, Result, Ok, Err}
+use Rattle.boundary.specs.declared.Refusal.{Refusal}
 use Rattle.boundary.specs.Boundary.{refusal_number}
 
--- the number of an answer: 0 outside, 1 inside, 2 on the edge, or that of the refusal
-abbrev pub answer_number : Answer → ℕ
-answer_number (Says.Outside i) = 0
-answer_number (Says.Inside i) = 1
-answer_number (Says.Edge i) = 2
-answer_number (Says.Refused k) = refusal_number k
-
--- the nearest corner; 0 where the answer is a refusal
-abbrev pub nearest_in : Answer → ℕ
-nearest_in (Says.Outside i) = i
-nearest_in (Says.Inside i) = i
-nearest_in (Says.Edge i) = i
-nearest_in (Says.Refused k) = 0
-
 -- how many corners a text has; 0 where it is refused
-abbrev pub corner_count : Boundary → ℕ
-corner_count (Has.Corners n) = n
-corner_count (Has.Refused k) = 0
+abbrev pub corner_count : Result ℕ Refusal → ℕ
+corner_count (Ok n) = n
+corner_count (Err k) = 0
 
 -- the number of a text's refusal; 0 where it is not refused
-abbrev pub text_refusal : Boundary → ℕ
-text_refusal (Has.Corners n) = 0
-text_refusal (Has.Refused k) = refusal_number k
+abbrev pub text_refusal : Result ℕ Refusal → ℕ
+text_refusal (Ok n) = 0
+text_refusal (Err k) = refusal_number k

@@ -6,7 +6,8 @@ use Rattle.boundary.specs.Exact.{boundary_of, left_corners, query_of}
 use Rattle.boundary.specs.Calls.{LoadsB}
 use Rattle.replot.specs.declared.TrackPoint.{TrackPoint}
 use Rattle.replot.specs.Exact.{track_of}
-use Rattle.fieldtext.specs.Field.{answer_number, nearest_in, corner_count, text_refusal}
+use Rattle.replot.specs.Numbers.{answer_number, nearest_in}
+use Rattle.fieldtext.specs.Field.{corner_count, text_refusal}
 
 -- what a call for the corners of the text s gives and leaves
 pub record CornersSaid (s : List ℕ) (count : ℕ) (table : List ℕ) (corners : List ℤ) (refusal : ℕ) : Type 0 where

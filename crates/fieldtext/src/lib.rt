@@ -7,13 +7,13 @@ ghost use Rattle.book.specs.Load.{loads};
 ghost use Rattle.load.specs.Loads.{book_table, Blank};
 ghost use Rattle.entries.specs.Feeds.{judge_table_of};
 ghost use Rattle.fieldtext.specs.Judge.{judge_of};
-ghost use Rattle.fieldtext.specs.Field.{answer_number, nearest_in, corner_count, text_refusal};
+ghost use Rattle.fieldtext.specs.Field.{text_refusal};
 ghost use Rattle.fieldtext.specs.Said.{CornersSaid, PointSaid, TrackSaid};
 
-use boundary::{Answer, Boundary};
+use boundary::Refusal;
 use entries::{entry, feeds};
 use geometry::Point;
-use replot::TrackPoint;
+use replot::{TrackPoint, answer_number, nearest_in};
 
 // Fills the table that is lent with what a book says, and answers the number of its refusal; 0 where it is accepted. After a refusal every byte of
 // the table is 0. Ruled out: a library that accepts every book, and one that leaves the lent table as it was.
@@ -84,45 +84,14 @@ pub extern "C" fn fieldtext_judge(
     fieldtext_judge_table(&table, stream, size, work, out)
 }
 
-// The number of an answer.
-fn answer_number(a: Answer) -> u8
-    ensures { result ≡ answer_number a }
-{
-    match a {
-        Answer::Outside(_) => 0,
-        Answer::Inside(_) => 1,
-        Answer::Edge(_) => 2,
-        Answer::Refused(k) => boundary::refusal_number(k),
-    }
-}
-
-// The nearest corner of an answer.
-fn nearest_in(a: Answer) -> usize
-    ensures { result ≡ nearest_in a }
-{
-    match a {
-        Answer::Outside(i) => i,
-        Answer::Inside(i) => i,
-        Answer::Edge(i) => i,
-        Answer::Refused(_) => 0,
-    }
-}
-
-fn corner_count(b: Boundary) -> usize
-    ensures { result ≡ corner_count b }
-{
-    match b {
-        Boundary::Corners(n) => n,
-        Boundary::Refused(_) => 0,
-    }
-}
-
-fn text_refusal(b: Boundary) -> u8
+// The number of a text's refusal.
+// Stays: the C interface has 0 where there is none.
+fn text_refusal(b: Result<usize, Refusal>) -> u8
     ensures { result ≡ text_refusal b }
 {
     match b {
-        Boundary::Corners(_) => 0,
-        Boundary::Refused(k) => boundary::refusal_number(k),
+        Ok(_) => 0,
+        Err(k) => k.number(),
     }
 }
 
@@ -140,7 +109,8 @@ pub extern "C" fn fieldtext_corners(
 {
     let b = boundary::read(text, table, corners);
     *refusal = text_refusal(b);
-    corner_count(b)
+    // Stays: the C interface has no corners, 0, for a refused text.
+    b.unwrap_or(0)
 }
 
 // Reads a text as `fieldtext_corners` does, and says where a point lies: 0 outside, 1 inside, 2 on the edge, with the number of the nearest
@@ -157,8 +127,7 @@ pub extern "C" fn fieldtext_locate(
 ) -> u8
     ensures { PointSaid text.now (record { x = x; y = y }) result table.new corners.new nearest.new }
 {
-    let p = Point { x: x, y: y };
-    let a = boundary::query(text, p, table, corners);
+    let a = boundary::query(text, Point { x, y }, table, corners);
     *nearest = nearest_in(a);
     answer_number(a)
 }

@@ -4,10 +4,8 @@ use mathlib.Core.List.{List, [], ◌∷◌, ◌++◌, reverse, reverse-cons}
 use mathlib.Core.Path.{◌≡◌, refl, sym, ap, ◌∙◌}
 use Rattle.laws.specs.Lists.{any}
 use Rattle.geometry.specs.declared.Point.{Point}
-use Rattle.geometry.specs.declared.Located.TheVariants as Is
 use Rattle.geometry.specs.Plane.{Side, side, sides_after, last_of, sides}
-use Rattle.geometry.specs.Kinds.{edge, inside, outside, kind_of}
-use Rattle.geometry.specs.Tests.{on_segment, crosses, on_side, crosses_side, odd_crossings, nearest, located}
+use Rattle.geometry.specs.Tests.{on_segment, crosses, on_side, crosses_side, odd_crossings, place, located}
 use Rattle.geometry.proofs.SegmentLaws.{on_segment-swap, crosses-swap}
 
 -- ---- sides in another order, or from the other end
@@ -72,19 +70,10 @@ odd_crossings-rearranged p (turn a b {ts} r) = ap (λ o. odd_of (crosses a b p) 
 odd_crossings-rearranged p (swap s t ss) = odd_of-swap (crosses_side p s) (crosses_side p t) (odd_crossings p ss)
 odd_crossings-rearranged p (join q r) = odd_crossings-rearranged p q ∙ odd_crossings-rearranged p r
 
--- the kind, by the two tests
-pub kind-located : (cs : List Point) (p : Point) → kind_of (located cs p) ≡ cond (any (on_side p) (sides cs)) edge (cond (odd_crossings p (sides cs)) inside outside)
-unfolding located kind_of
-kind-located cs p = go (any (on_side p) (sides cs)) (odd_crossings p (sides cs))
-  where
-    go : (b o : Bool) → kind_of (cond b (Is.Edge (nearest cs p)) (cond o (Is.Inside (nearest cs p)) (Is.Outside (nearest cs p)))) ≡ cond b edge (cond o inside outside)
-    go true o = refl
-    go false true = refl
-    go false false = refl
-
 -- boundaries with the same sides have the same points on the edge, inside and outside
-pub kind-of-rearranged : (cs ds : List Point) (p : Point) → Rearranged (sides cs) (sides ds) → kind_of (located cs p) ≡ kind_of (located ds p)
-kind-of-rearranged cs ds p r = cc (kind-located cs p, kind-located ds p, any-rearranged p r, odd_crossings-rearranged p r)
+pub kind-of-rearranged : (cs ds : List Point) (p : Point) → Rearranged (sides cs) (sides ds) → (located cs p).place ≡ (located ds p).place
+unfolding place located
+kind-of-rearranged cs ds p r = rw (any-rearranged p r, odd_crossings-rearranged p r)
 
 -- ---- another corner first
 
@@ -107,7 +96,7 @@ sides-rotate c [] = rearranged-refl (sides (c ∷ []))
 sides-rotate c (b ∷ cs) = rw (last_of-last b cs c) (sides-round c (b ∷ cs))
 
 -- where a point lies does not change with the corner that is first
-pub kind-rotate : (c : Point) (cs : List Point) (p : Point) → kind_of (located (cs ++ (c ∷ [])) p) ≡ kind_of (located (c ∷ cs) p)
+pub kind-rotate : (c : Point) (cs : List Point) (p : Point) → (located (cs ++ (c ∷ [])) p).place ≡ (located (c ∷ cs) p).place
 kind-rotate c cs p = sym (kind-of-rearranged (c ∷ cs) (cs ++ (c ∷ [])) p (sides-rotate c cs))
 
 -- ---- the other way round
@@ -129,5 +118,5 @@ sides-reverse (c ∷ cs) =
     (join (join (sides-round c cs) (sides_after-reverse c cs c)) (join (rearranged-sym (sides-round c (reverse cs))) (sides-rotate c (reverse cs))))
 
 -- where a point lies does not change with the way round
-pub kind-reverse : (cs : List Point) (p : Point) → kind_of (located (reverse cs) p) ≡ kind_of (located cs p)
+pub kind-reverse : (cs : List Point) (p : Point) → (located (reverse cs) p).place ≡ (located cs p).place
 kind-reverse cs p = sym (kind-of-rearranged cs (reverse cs) p (sides-reverse cs))

@@ -12,7 +12,7 @@ use Rattle.laws.proofs.TestLaws.{none-neq-some}
 use Rattle.integers.proofs.RingLaws.{at, lit, plus, minus, eq-of-linear, linear-of-eq}
 use Rattle.integers.proofs.OrderLaws.{le-of-linear, linear-of-le, square-nonneg, zero-of-square}
 use Rattle.geometry.specs.declared.Point.{Point}
-use Rattle.geometry.specs.declared.Located.TheVariants as Is
+use Rattle.geometry.specs.declared.Place.TheVariants as Is
 use Rattle.geometry.specs.Plane.{OnSegment, Side, side, sides_after, last_of, sides, distance, OnBoundary, Nearest, on_the_edge}
 use Rattle.geometry.specs.Tests.{nearest, located}
 use Rattle.geometry.proofs.PlacedLaws.{nearest-nearest, placed-located, placed-unique}
@@ -96,11 +96,11 @@ nearest-of-corner cs i {p} {k} e n = (
 )
 
 -- a corner is located on the edge, and nearest to itself
-pub located-corner : (cs : List Point) (i : ℕ) {p : Point} → get_elem? cs i ≡ some p → (k : ℕ) × (located cs p ≡ Is.Edge k) × (k ≤ i) × (get_elem? cs k ≡ some p)
+pub located-corner : (cs : List Point) (i : ℕ) {p : Point} → get_elem? cs i ≡ some p → (k : ℕ) × (located cs p ≡ record { place = Is.Edge; nearest = k }) × (k ≤ i) × (get_elem? cs k ≡ some p)
 located-corner [] i e = none-neq-some e
 located-corner (c ∷ cs) i {p} e = make (nearest-of-corner (c ∷ cs) i e (nearest-nearest c cs p))
   where
-    make : (nearest (c ∷ cs) p ≤ i) × (get_elem? (c ∷ cs) (nearest (c ∷ cs) p) ≡ some p) → (k : ℕ) × (located (c ∷ cs) p ≡ Is.Edge k) × (k ≤ i) × (get_elem? (c ∷ cs) k ≡ some p)
+    make : (nearest (c ∷ cs) p ≤ i) × (get_elem? (c ∷ cs) (nearest (c ∷ cs) p) ≡ some p) → (k : ℕ) × (located (c ∷ cs) p ≡ record { place = Is.Edge; nearest = k }) × (k ≤ i) × (get_elem? (c ∷ cs) k ≡ some p)
     make (l, f) = (
       nearest (c ∷ cs) p,
       placed-unique (placed-located c cs p) (on_the_edge (on_boundary-of-corner (c ∷ cs) i e) (nearest-nearest c cs p)),

@@ -17,10 +17,11 @@ use Rattle.laws.proofs.ListLaws.{any-of-member, member-of-any}
 use Rattle.integers.proofs.OrderLaws.{le_of_lt}
 use Rattle.geometry.specs.declared.Point.{Point}
 use Rattle.geometry.specs.declared.Located.{Located}
-use Rattle.geometry.specs.declared.Located.TheVariants as Is
+use Rattle.geometry.specs.declared.Place.{Place}
+use Rattle.geometry.specs.declared.Place.TheVariants as Is
 use Rattle.geometry.specs.Plane.{Side, sides, distance, OnBoundary, Crossings, no_sides, misses, Odd, CrossesRight, Nearest, Placed, on_the_edge, inside, outside}
 use Rattle.geometry.specs.Plane as Plane
-use Rattle.geometry.specs.Tests.{on_side, crosses_side, odd_crossings, nearest_from, nearest, located}
+use Rattle.geometry.specs.Tests.{on_side, crosses_side, odd_crossings, nearest_from, nearest, place, located}
 use Rattle.geometry.proofs.SegmentLaws.{on_segment-of-test, test-of-on_segment, crosses-of-test, test-of-crosses}
 
 -- ---- the boundary
@@ -155,35 +156,43 @@ nearest-unique {cs} {p} {i} {j} m n = le_antisymm (not-later n m) (not-later m n
 
 -- ---- the answer
 
+-- a place with the nearest corner
+abbrev at_nearest : List Point → Point → Place → Located
+at_nearest cs p w = record { place = w; nearest = nearest cs p }
+
 -- what `located` computes is where the point lies
 pub placed-located : (c : Point) (cs : List Point) (p : Point) → Placed (c ∷ cs) p (located (c ∷ cs) p)
-unfolding located
+unfolding located place
 placed-located c cs p =
     cond-elim
-    (λ l. Placed (c ∷ cs) p l)
+    (λ w. Placed (c ∷ cs) p (at_nearest (c ∷ cs) p w))
     (any (on_side p) (sides (c ∷ cs)))
     (λ h. on_the_edge (on_boundary-of-test (c ∷ cs) p h) (nearest-nearest c cs p))
     (λ h. apart (λ b. T_not (any (on_side p) (sides (c ∷ cs))) h (test-of-on_boundary b)) (crossings-exist p (sides (c ∷ cs))))
   where
-    apart : (OnBoundary (c ∷ cs) p → ⊥) → (n : ℕ) × Crossings p (sides (c ∷ cs)) n → Placed (c ∷ cs) p (cond (odd_crossings p (sides (c ∷ cs))) (Is.Inside (nearest (c ∷ cs) p)) (Is.Outside (nearest (c ∷ cs) p)))
+    apart : (OnBoundary (c ∷ cs) p → ⊥) → (n : ℕ) × Crossings p (sides (c ∷ cs)) n → Placed (c ∷ cs) p (at_nearest (c ∷ cs) p (cond (odd_crossings p (sides (c ∷ cs))) Is.Inside Is.Outside))
     apart off (n, k) =
         cond-elim
-        (λ l. Placed (c ∷ cs) p l)
+        (λ w. Placed (c ∷ cs) p (at_nearest (c ∷ cs) p w))
         (odd_crossings p (sides (c ∷ cs)))
         (λ h. inside off k (odd-of-test k h) (nearest-nearest c cs p))
         (λ h. outside off k (λ o. T_not (odd_crossings p (sides (c ∷ cs))) h (test-of-odd k o)) (nearest-nearest c cs p))
 
+-- the same place with the same corner
+located-at : (w : Place) {i j : ℕ} → i ≡ j → ◌≡◌ {A = Located} (record { place = w; nearest = i }) (record { place = w; nearest = j })
+located-at w e = ap (λ (i : ℕ). record { place = w; nearest = i }) e
+
 -- a point lies in one place
 pub placed-unique : {cs : List Point} {p : Point} {l m : Located} → Placed cs p l → Placed cs p m → l ≡ m
-placed-unique (on_the_edge b i) (on_the_edge c j) = ap Is.Edge (nearest-unique i j)
+placed-unique (on_the_edge b i) (on_the_edge c j) = located-at Is.Edge (nearest-unique i j)
 placed-unique (on_the_edge b i) (inside off k o j) = absurd (off b)
 placed-unique (on_the_edge b i) (outside off k o j) = absurd (off b)
 placed-unique (inside off k o i) (on_the_edge b j) = absurd (off b)
-placed-unique (inside off k o i) (inside off' k' o' j) = ap Is.Inside (nearest-unique i j)
+placed-unique (inside off k o i) (inside off' k' o' j) = located-at Is.Inside (nearest-unique i j)
 placed-unique (inside off k o i) (outside off' k' o' j) = absurd (o' (odd-of-test k' (test-of-odd k o)))
 placed-unique (outside off k o i) (on_the_edge b j) = absurd (off b)
 placed-unique (outside off k o i) (inside off' k' o' j) = absurd (o (odd-of-test k (test-of-odd k' o')))
-placed-unique (outside off k o i) (outside off' k' o' j) = ap Is.Outside (nearest-unique i j)
+placed-unique (outside off k o i) (outside off' k' o' j) = located-at Is.Outside (nearest-unique i j)
 
 -- a point lies where `located` says, and nowhere else
 pub placed-iff : (c : Point) (cs : List Point) (p : Point) (l : Located) → Placed (c ∷ cs) p l ↔ (l ≡ located (c ∷ cs) p)

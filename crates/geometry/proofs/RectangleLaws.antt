@@ -14,11 +14,11 @@ use Rattle.integers.proofs.RingLaws.{at, lit, minus}
 use Rattle.integers.proofs.OrderLaws.{le-of-linear, linear-of-le, lt-of-linear, linear-of-lt, le_of_lt, eq-of-le-of-le, le-or-gt, times-lt, lt-of-times}
 use Rattle.geometry.specs.declared.Point.{Point}
 use Rattle.geometry.specs.Plane.{OneAbove, RightOf, CrossesRight, sides}
-use Rattle.geometry.specs.Kinds.{edge, inside, outside, kind_of}
-use Rattle.geometry.specs.Tests.{cross, between, is_zero, on_segment, crosses, on_side, crosses_side, odd_crossings, located}
+use Rattle.geometry.specs.declared.Place.TheVariants.{Outside, Inside, Edge}
+use Rattle.geometry.specs.Tests.{cross, between, is_zero, on_segment, crosses, on_side, crosses_side, odd_crossings, place, located}
 use Rattle.geometry.proofs.FractionLaws.{Ratio, ratio-of-le, times-of-ratio, is_zero-of-eq, between-up, between-down, between-cases}
 use Rattle.geometry.proofs.SegmentLaws.{crosses-of-test, test-of-crosses, crosses-swap}
-use Rattle.geometry.proofs.BoundaryLaws.{odd_of, kind-located}
+use Rattle.geometry.proofs.BoundaryLaws.{odd_of}
 
 -- the point x across and y up
 abbrev pub point : ℤ → ℤ → Point
@@ -137,12 +137,12 @@ on_segment-level x x' y p e h =
 -- ---- inside
 
 -- inside is on no side, with an odd number of crossings
-tests-of-inside : (on odd : Bool) → cond on edge (cond odd inside outside) ≡ inside → (T on → ⊥) × T odd
+tests-of-inside : (on odd : Bool) → cond on Edge (cond odd Inside Outside) ≡ Inside → (T on → ⊥) × T odd
 tests-of-inside true odd e = let z : ◌≡◌ {A = ℕ} 0 1 = cc in absurd (omega arith)
 tests-of-inside false true e = (λ t. t, tt)
 tests-of-inside false false e = let z : ◌≡◌ {A = ℕ} 0 1 = cc in absurd (omega arith)
 
-inside-of-tests : (on odd : Bool) → (T on → ⊥) → T odd → cond on edge (cond odd inside outside) ≡ inside
+inside-of-tests : (on odd : Bool) → (T on → ⊥) → T odd → cond on Edge (cond odd Inside Outside) ≡ Inside
 inside-of-tests true odd f t = absurd (f tt)
 inside-of-tests false true f t = refl
 inside-of-tests false false f t = absurd t
@@ -174,8 +174,8 @@ module _ (x₀ x₁ y₀ y₁ : ℤ) (wide : x₀ <ℤ x₁) (tall : y₀ <ℤ y
   crosses-left low high l = subst T (crosses-swap (point x₀ y₀) (point x₀ y₁) p) (upright-crosses x₀ y₀ y₁ p low high l)
 
   -- what is inside the rectangle is strictly between its sides
-  pub between-of-inside : kind_of (located (rectangle x₀ x₁ y₀ y₁) p) ≡ inside → (x₀ <ℤ p.x) × (p.x <ℤ x₁) × (y₀ <ℤ p.y) × (p.y <ℤ y₁)
-  unfolding any on_side odd_crossings crosses_side odd_of
+  pub between-of-inside : (located (rectangle x₀ x₁ y₀ y₁) p).place ≡ Inside → (x₀ <ℤ p.x) × (p.x <ℤ x₁) × (y₀ <ℤ p.y) × (p.y <ℤ y₁)
+  unfolding any on_side odd_crossings crosses_side odd_of place located
   between-of-inside e =
       answer
       (only_third
@@ -189,7 +189,7 @@ module _ (x₀ x₁ y₀ y₁ : ℤ) (wide : x₀ <ℤ x₁) (tall : y₀ <ℤ y
       tests.1)
     where
       tests : (T (any (on_side p) (sides (rectangle x₀ x₁ y₀ y₁))) → ⊥) × T (odd_crossings p (sides (rectangle x₀ x₁ y₀ y₁)))
-      tests = tests-of-inside (any (on_side p) (sides (rectangle x₀ x₁ y₀ y₁))) (odd_crossings p (sides (rectangle x₀ x₁ y₀ y₁))) (sym (kind-located (rectangle x₀ x₁ y₀ y₁) p) ∙ e)
+      tests = tests-of-inside (any (on_side p) (sides (rectangle x₀ x₁ y₀ y₁))) (odd_crossings p (sides (rectangle x₀ x₁ y₀ y₁))) e
 
       further : (y₀ ≤ℤ p.y) × (p.y <ℤ y₁) × (p.x <ℤ x₀) → T (crosses (point x₁ y₀) (point x₁ y₁) p)
       further (low, high, l) = upright-crosses x₁ y₀ y₁ p low high (<ℤ-≤ℤ_trans l (le_of_lt wide))
@@ -224,9 +224,9 @@ module _ (x₀ x₁ y₀ y₁ : ℤ) (wide : x₀ <ℤ x₁) (tall : y₀ <ℤ y
                   (le-or-gt p.y y₀)
 
   -- what is strictly between the sides of the rectangle is inside it
-  pub inside-of-between : x₀ <ℤ p.x → p.x <ℤ x₁ → y₀ <ℤ p.y → p.y <ℤ y₁ → kind_of (located (rectangle x₀ x₁ y₀ y₁) p) ≡ inside
-  unfolding any on_side odd_crossings crosses_side odd_of
-  inside-of-between l r b t = kind-located (rectangle x₀ x₁ y₀ y₁) p ∙ inside-of-tests (any (on_side p) (sides (rectangle x₀ x₁ y₀ y₁))) (odd_crossings p (sides (rectangle x₀ x₁ y₀ y₁))) off odd
+  pub inside-of-between : x₀ <ℤ p.x → p.x <ℤ x₁ → y₀ <ℤ p.y → p.y <ℤ y₁ → (located (rectangle x₀ x₁ y₀ y₁) p).place ≡ Inside
+  unfolding any on_side odd_crossings crosses_side odd_of place located
+  inside-of-between l r b t = inside-of-tests (any (on_side p) (sides (rectangle x₀ x₁ y₀ y₁))) (odd_crossings p (sides (rectangle x₀ x₁ y₀ y₁))) off odd
     where
       off : T (any (on_side p) (sides (rectangle x₀ x₁ y₀ y₁))) → ⊥
       off h =
@@ -251,5 +251,5 @@ module _ (x₀ x₁ y₀ y₁ : ℤ) (wide : x₀ <ℤ x₁) (tall : y₀ <ℤ y
           (λ h. level-misses x₁ x₀ y₁ p h)
 
   -- inside is what is strictly between the sides
-  pub rectangle-iff : (kind_of (located (rectangle x₀ x₁ y₀ y₁) p) ≡ inside) ↔ ((x₀ <ℤ p.x) × (p.x <ℤ x₁) × (y₀ <ℤ p.y) × (p.y <ℤ y₁))
+  pub rectangle-iff : ((located (rectangle x₀ x₁ y₀ y₁) p).place ≡ Inside) ↔ ((x₀ <ℤ p.x) × (p.x <ℤ x₁) × (y₀ <ℤ p.y) × (p.y <ℤ y₁))
   rectangle-iff = (between-of-inside, λ h. inside-of-between h.0 h.1 h.2 h.3)

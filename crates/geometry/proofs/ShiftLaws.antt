@@ -10,7 +10,7 @@ use Rattle.integers.proofs.RingLaws.{at, plus, minus, eq-of-linear}
 use Rattle.integers.proofs.OrderLaws.{le_z-linear, lt_z-linear}
 use Rattle.geometry.specs.declared.Point.{Point}
 use Rattle.geometry.specs.Plane.{Side, side, sides_after, last_of, sides, distance}
-use Rattle.geometry.specs.Tests.{cross, between, on_segment, crosses, on_side, crosses_side, odd_crossings, nearest_from, nearest, located}
+use Rattle.geometry.specs.Tests.{cross, between, on_segment, crosses, on_side, crosses_side, odd_crossings, nearest_from, nearest, place, located}
 
 -- a point moved by dx across and dy up
 unfoldable pub shift : ℤ → ℤ → Point → Point
@@ -89,7 +89,7 @@ module _ (dx dy : ℤ) where
 
   -- where a point lies, and the nearest corner, stay as the corners and the point are shifted alike
   pub located-shift : (cs : List Point) (p : Point) → located (map (shift dx dy) cs) (shift dx dy p) ≡ located cs p
-  unfolding located
+  unfolding place located
   located-shift cs p =
       cc (
         sides-shift cs,

@@ -1,3 +1,2 @@
 pub mod Plane
 pub mod Tests
-pub mod Kinds

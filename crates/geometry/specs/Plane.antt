@@ -6,7 +6,7 @@ use Rattle.std.proofs.Math.Option.{some}
 use Rattle.std.proofs.Math.ListN.{get_elem?}
 use Rattle.geometry.specs.declared.Point.{Point}
 use Rattle.geometry.specs.declared.Located.{Located}
-use Rattle.geometry.specs.declared.Located.TheVariants as Is
+use Rattle.geometry.specs.declared.Place.TheVariants as Is
 
 -- ---- segments
 
@@ -93,7 +93,7 @@ pub record Nearest (cs : List Point) (p : Point) (i : ℕ) : Type 0 where
 -- ---- the answer
 
 pub data Placed (cs : List Point) (p : Point) : Located → Type 0 where
-  on_the_edge : {i : ℕ} → OnBoundary cs p → Nearest cs p i → Placed cs p (Is.Edge i)
+  on_the_edge : {i : ℕ} → OnBoundary cs p → Nearest cs p i → Placed cs p (record { place = Is.Edge; nearest = i })
   -- otherwise it is inside when the number of crossings is odd
-  inside : {i n : ℕ} → (OnBoundary cs p → ⊥) → Crossings p (sides cs) n → Odd n → Nearest cs p i → Placed cs p (Is.Inside i)
-  outside : {i n : ℕ} → (OnBoundary cs p → ⊥) → Crossings p (sides cs) n → (Odd n → ⊥) → Nearest cs p i → Placed cs p (Is.Outside i)
+  inside : {i n : ℕ} → (OnBoundary cs p → ⊥) → Crossings p (sides cs) n → Odd n → Nearest cs p i → Placed cs p (record { place = Is.Inside; nearest = i })
+  outside : {i n : ℕ} → (OnBoundary cs p → ⊥) → Crossings p (sides cs) n → (Odd n → ⊥) → Nearest cs p i → Placed cs p (record { place = Is.Outside; nearest = i })

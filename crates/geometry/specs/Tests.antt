@@ -5,7 +5,8 @@ use Rattle.std.specs.Int.Signed.{le_z, lt_z}
 use Rattle.laws.specs.Lists.{any}
 use Rattle.geometry.specs.declared.Point.{Point}
 use Rattle.geometry.specs.declared.Located.{Located}
-use Rattle.geometry.specs.declared.Located.TheVariants as Is
+use Rattle.geometry.specs.declared.Place.{Place}
+use Rattle.geometry.specs.declared.Place.TheVariants as Is
 use Rattle.geometry.specs.Plane.{Side, sides, distance}
 
 -- across b - a times up p - a, less up b - a times across p - a: twice the area of the triangle a, b, p, with a sign
@@ -49,5 +50,9 @@ unfoldable pub nearest : List Point → Point → ℕ
 nearest [] p = 0
 nearest (c ∷ cs) p = nearest_from p 1 0 (distance c p) cs
 
+-- on the edge, or else inside where an odd number of sides crosses
+unfoldable pub place : List Point → Point → Place
+place cs p = cond (any (on_side p) (sides cs)) Is.Edge (cond (odd_crossings p (sides cs)) Is.Inside Is.Outside)
+
 unfoldable pub located : List Point → Point → Located
-located cs p = cond (any (on_side p) (sides cs)) (Is.Edge (nearest cs p)) (cond (odd_crossings p (sides cs)) (Is.Inside (nearest cs p)) (Is.Outside (nearest cs p)))
+located cs p = record { place = place cs p; nearest = nearest cs p }

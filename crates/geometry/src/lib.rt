@@ -8,10 +8,17 @@ pub struct Point {
     pub y: i32,
 }
 
+// Where a point lies to a boundary.
+#[derive(Clone, Copy, PartialEq, Eq)]
+pub enum Place {
+    Outside,
+    Inside,
+    Edge,
+}
+
 // Where a point lies, and the number of the corner nearest to it.
 #[derive(Clone, Copy)]
-pub enum Located {
-    Edge(usize),
-    Inside(usize),
-    Outside(usize),
+pub struct Located {
+    pub place: Place,
+    pub nearest: usize,
 }

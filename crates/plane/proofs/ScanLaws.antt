@@ -13,9 +13,9 @@ use Rattle.laws.specs.Tab.{tab}
 use Rattle.integers.proofs.BoundLaws.{lt_z-of-within}
 use Rattle.geometry.specs.declared.Point.{Point}
 use Rattle.geometry.specs.declared.Located.{Located}
-use Rattle.geometry.specs.declared.Located.TheVariants as Is
+use Rattle.geometry.specs.declared.Place.TheVariants as Is
 use Rattle.geometry.specs.Plane.{sides_after, last_of, sides, distance}
-use Rattle.geometry.specs.Tests.{on_segment, crosses, on_side, crosses_side, odd_crossings, nearest_from, nearest, located}
+use Rattle.geometry.specs.Tests.{on_segment, crosses, on_side, crosses_side, odd_crossings, nearest_from, nearest, place, located}
 use Rattle.plane.specs.declared.Scan.{Scan}
 use Rattle.plane.specs.Corners.{corner_at, corners_in, PointInRange, Held}
 use Rattle.plane.specs.Scan.{begun, differ, stepped, answer, scanned, Scanned}
@@ -64,22 +64,7 @@ stepped-farther p i c s f g h k l = let t : lt_z (distance c p) s.distance ≡ f
 -- ---- the answer
 
 answer-of : Bool → Bool → ℕ → Located
-answer-of e o n = cond e (Is.Edge n) (cond o (Is.Inside n) (Is.Outside n))
-
--- the answer of a scan with the point on an edge
-pub answer-edge : (s : Scan) → s.edge ≡ true → Is.Edge s.nearest ≡ answer s
-unfolding answer
-answer-edge s e = rw e
-
--- the answer of a scan with an odd number of crossings
-pub answer-inside : (s : Scan) → s.edge ≡ false → s.odd ≡ true → Is.Inside s.nearest ≡ answer s
-unfolding answer
-answer-inside s e o = rw (e, o)
-
--- the answer of a scan with an even number of crossings
-pub answer-outside : (s : Scan) → s.edge ≡ false → s.odd ≡ false → Is.Outside s.nearest ≡ answer s
-unfolding answer
-answer-outside s e o = rw (e, o)
+answer-of e o n = record { place = cond e Is.Edge (cond o Is.Inside Is.Outside); nearest = n }
 
 -- ---- the corners that are left
 
@@ -108,7 +93,7 @@ last_of-tab f i (suc m) = last_of-tab f (suc i) m ∙ ap f (suc-add i m ∙ sym 
 
 -- the whole boundary, after the last corner, gives where p lies
 pub scanned-begun : (p c : Point) (cs : List Point) → PointInRange c → PointInRange p → scanned p 0 (begun (last_of c cs)) (c ∷ cs) ≡ located (c ∷ cs) p
-unfolding begun answer-of located nearest nearest_from
+unfolding begun answer-of place located nearest nearest_from
 scanned-begun p c cs hc hp =
     let near : lt_z (distance c p) (pos 8000000000001) ≡ true = lt_z-of-within (distance c p) (distance-within c p hc hp) (omega arith) in
     let around = sides (c ∷ cs) in

@@ -5,7 +5,7 @@ use Rattle.std.specs.Bool.{beq}
 use Rattle.std.specs.Int.Signed.{lt_z}
 use Rattle.geometry.specs.declared.Point.{Point}
 use Rattle.geometry.specs.declared.Located.{Located}
-use Rattle.geometry.specs.declared.Located.TheVariants as Is
+use Rattle.geometry.specs.declared.Place.TheVariants as Is
 use Rattle.geometry.specs.Plane.{distance}
 use Rattle.geometry.specs.Tests.{on_segment, crosses, located}
 use Rattle.laws.specs.Tab.{tab}
@@ -33,7 +33,7 @@ stepped p i c s =
 
 -- after the last corner
 unfoldable pub answer : Scan → Located
-answer s = cond s.edge (Is.Edge s.nearest) (cond s.odd (Is.Inside s.nearest) (Is.Outside s.nearest))
+answer s = record { place = cond s.edge Is.Edge (cond s.odd Is.Inside Is.Outside); nearest = s.nearest }
 
 -- after the corners that are left, from number i on
 unfoldable pub scanned : Point → ℕ → Scan → List Point → Located

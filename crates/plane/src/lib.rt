@@ -1,17 +1,66 @@
 // Where a point lies to the corners of a boundary, and which corner is nearest.
 #![tactic(auto)]
 
-ghost use Rattle.std.specs.Prelude.{◌≡◌, ◌+◌, ◌*◌, ◌<◌, ◌-ℤ◌, ◌*ℤ◌, length};
+ghost use Rattle.std.specs.Prelude.{◌≡◌, ◌+◌, ◌*◌, ◌/◌, ◌<◌, ◌-ℤ◌, ◌*ℤ◌, length};
 ghost use Rattle.geometry.specs.Plane.{distance};
-ghost use Rattle.geometry.specs.Tests.{cross, between, on_segment, crosses, located};
+ghost use Rattle.geometry.specs.Tests.{cross, between, on_segment, crosses};
 ghost use Rattle.coordinate.specs.Coordinate.{InRange};
-ghost use Rattle.plane.specs.Corners.{corner_at, corners_in, Held, PointInRange};
-ghost use Rattle.plane.specs.Scan.{begun, stepped, answer};
+ghost use Rattle.plane.specs.Corners.{corner_at, Held, PointInRange};
 
-use geometry::{Located, Point};
+use geometry::{Located, Place, Point};
 
 // Above every squared distance of two points in range.
 const FARTHER: i64 = 8_000_000_000_001;
+
+// The corners of a boundary, in lent memory: two numbers each, one after the other.
+#[derive(Clone, Copy)]
+pub struct Corners<'a> {
+    numbers: &'a [i32],
+    pub ghost held: { Held numbers.now (length numbers.now / 2) },
+}
+
+impl<'a> Corners<'a> {
+    ghost use Rattle.std.specs.Prelude.{◌≡◌, ◌+◌, ◌*◌, ◌<◌};
+    ghost use Rattle.geometry.specs.Tests.{located};
+    ghost use Rattle.plane.specs.Corners.{corner_at, corners_in, Held, PointInRange};
+    ghost use Rattle.plane.specs.Lent.{corners_of};
+
+    // The first n corners in lent memory.
+    pub fn new(memory: &'a [i32], n: usize) -> Corners<'a>
+        requires { Held memory.now n }
+        ensures { corners_of result ≡ corners_in memory.now n }
+    {
+        Corners {
+            numbers: &memory[..2 * n],
+        }
+    }
+
+    // Corner i: its numbers stand at 2 i and 2 i + 1.
+    fn corner(&self, i: usize) -> Point
+        requires { 2 * i + 1 < length self.now.numbers.now }
+        ensures { result ≡ corner_at self.now.numbers.now i }
+    {
+        Point {
+            x: self.numbers[2 * i],
+            y: self.numbers[2 * i + 1],
+        }
+    }
+
+    // Where p lies to the boundary, and which corner is nearest. Among the programs that this rules out: one that forgets the side from the
+    // last corner to the first, and one that gives the higher number of two corners that are as near.
+    pub fn locate(&self, p: Point) -> Located
+        requires { PointInRange p }
+        ensures { result ≡ located (corners_of self.now) p }
+    {
+        let n = self.numbers.len() / 2;
+        let mut s = Scan::begun(self.corner(n - 1));
+        for i in 0..n {
+            let c = self.corner(i);
+            s = s.stepped(i, c, p);
+        }
+        s.answer()
+    }
+}
 
 // What is known of the sides so far: the corner before the next one, whether the point is on one of them, whether an odd number of them
 // crosses, and the number of the nearest corner with its squared distance.
@@ -22,6 +71,66 @@ struct Scan {
     odd: bool,
     nearest: usize,
     distance: i64,
+}
+
+impl Scan {
+    ghost use Rattle.std.specs.Prelude.{◌≡◌};
+    ghost use Rattle.plane.specs.Corners.{PointInRange};
+    ghost use Rattle.plane.specs.Scan.{begun, stepped, answer};
+
+    // What is known before the first corner. The last one stands before it.
+    fn begun(last: Point) -> Scan
+        ensures { result ≡ begun last }
+    {
+        Scan {
+            before: last,
+            edge: false,
+            odd: false,
+            nearest: 0,
+            distance: FARTHER,
+        }
+    }
+
+    // What is known after corner i, which is c.
+    fn stepped(self, i: usize, c: Point, p: Point) -> Scan
+        requires { PointInRange self.before × PointInRange c × PointInRange p }
+        ensures { result ≡ stepped p i c self }
+    {
+        let area = cross(self.before, c, p);
+        let s = Scan {
+            before: c,
+            edge: self.edge | on_segment(self.before, c, p, area),
+            odd: self.odd != crosses(self.before, c, p, area),
+            ..self
+        };
+        let far = distance(c, p);
+        if far < self.distance {
+            Scan {
+                nearest: i,
+                distance: far,
+                ..s
+            }
+        } else {
+            s
+        }
+    }
+
+    // The answer, after the last corner.
+    fn answer(self) -> Located
+        ensures { result ≡ answer self }
+    {
+        let place = if self.edge {
+            Place::Edge
+        } else if self.odd {
+            Place::Inside
+        } else {
+            Place::Outside
+        };
+        Located {
+            place,
+            nearest: self.nearest,
+        }
+    }
 }
 
 // a less b. It always fits.
@@ -85,85 +194,4 @@ fn crosses(a: Point, b: Point, p: Point, area: i64) -> bool
     } else {
         (b.y <= p.y) & (area < 0)
     }
-}
-
-// Corner i: its numbers stand at 2 i and 2 i + 1.
-fn corner(corners: &[i32], i: usize) -> Point
-    requires { 2 * i + 1 < length corners.now }
-    ensures { result ≡ corner_at corners.now i }
-{
-    Point {
-        x: corners[2 * i],
-        y: corners[2 * i + 1],
-    }
-}
-
-// What is known before the first corner. The last one stands before it.
-fn begun(last: Point) -> Scan
-    ensures { result ≡ begun last }
-{
-    Scan {
-        before: last,
-        edge: false,
-        odd: false,
-        nearest: 0,
-        distance: FARTHER,
-    }
-}
-
-// What is known after corner i, which is c.
-fn stepped(s: Scan, i: usize, c: Point, p: Point) -> Scan
-    requires { PointInRange s.before × PointInRange c × PointInRange p }
-    ensures { result ≡ stepped p i c s }
-{
-    let before = s.before;
-    let area = cross(before, c, p);
-    let edge = s.edge | on_segment(before, c, p, area);
-    let odd = s.odd != crosses(before, c, p, area);
-    let far = distance(c, p);
-    if far < s.distance {
-        Scan {
-            before: c,
-            edge,
-            odd,
-            nearest: i,
-            distance: far,
-        }
-    } else {
-        Scan {
-            before: c,
-            edge,
-            odd,
-            nearest: s.nearest,
-            distance: s.distance,
-        }
-    }
-}
-
-// The answer, after the last corner.
-fn answer(s: Scan) -> Located
-    ensures { result ≡ answer s }
-{
-    if s.edge {
-        Located::Edge(s.nearest)
-    } else if s.odd {
-        Located::Inside(s.nearest)
-    } else {
-        Located::Outside(s.nearest)
-    }
-}
-
-// Where p lies to the boundary of the first n corners, and which of them is nearest. Among the programs that this rules out: one that
-// forgets the side from the last corner to the first, and one that gives the higher number of two corners that are as near.
-pub fn locate(corners: &[i32], n: usize, p: Point) -> Located
-    requires { Held corners.now n × InRange p.x × InRange p.y }
-    ensures { result ≡ located (corners_in corners.now n) p }
-{
-    let last = n - 1;
-    let mut s = begun(corner(corners, last));
-    for i in 0..n {
-        let c = corner(corners, i);
-        s = stepped(s, i, c, p);
-    }
-    answer(s)
 }

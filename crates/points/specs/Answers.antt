@@ -1,9 +1,12 @@
 -- The lines that the program of points writes: REQUIREMENT.md, section 9. Stated. Assumes nothing.
-use Rattle.std.specs.Prelude.{List, ◌++◌, ℕ}
+use Rattle.std.specs.Prelude.{List, ◌++◌, ℕ, Result, Ok, Err}
 use Rattle.laws.specs.Ascii.{ascii}
 use Rattle.text.specs.Text.{decimal, space, LF}
-use Rattle.points.specs.declared.answer.Said.{Said}
-use Rattle.points.specs.declared.answer.Said.TheVariants.{Edge, Inside, Outside, Refused}
+use Rattle.geometry.specs.declared.Place.{Place}
+use Rattle.geometry.specs.declared.Place.TheVariants.{Outside, Inside, Edge}
+use Rattle.geometry.specs.declared.Located.{Located}
+use Rattle.boundary.specs.declared.Refusal.{Refusal}
+use Rattle.boundary.specs.Boundary.{refusal_number}
 
 -- the first line
 abbrev pub answer_names : List ℕ
@@ -13,12 +16,16 @@ answer_names = ascii "answer corner" ++ LF
 unfoldable pub word_line : List ℕ → ℕ → List ℕ
 word_line w n = w ++ (space ++ (decimal n ++ LF))
 
+-- the word of a place
+abbrev pub place_word : Place → List ℕ
+place_word Edge = ascii "edge"
+place_word Inside = ascii "inside"
+place_word Outside = ascii "outside"
+
 -- where a point lies and the nearest corner, or the number of a refusal
-unfoldable pub said_line : Said → List ℕ
-said_line (Edge n) = word_line (ascii "edge") n
-said_line (Inside n) = word_line (ascii "inside") n
-said_line (Outside n) = word_line (ascii "outside") n
-said_line (Refused n) = word_line (ascii "refused") n
+unfoldable pub said_line : Result Located Refusal → List ℕ
+said_line (Ok l) = word_line (place_word l.place) l.nearest
+said_line (Err k) = word_line (ascii "refused") (refusal_number k)
 
 -- line k has no point
 unfoldable pub stop_line : ℕ → List ℕ

@@ -2,31 +2,21 @@
 // bytes from the place on, it writes nothing.
 ghost use Rattle.std.specs.Prelude.{◌≡◌, ◌+◌, ◌≤◌, length};
 ghost use Rattle.text.specs.Put.{Put, write};
-ghost use Rattle.points.specs.Answers.{answer_names, word_line, said_line, stop_line};
+ghost use Rattle.points.specs.Answers.{answer_names, place_word, word_line, said_line, stop_line};
 
+use boundary::Refusal;
+use geometry::{Located, Place};
 use text::put;
 
-const NAMES: [u8; 14] = *b"answer corner\n";
-
-const EDGE: [u8; 4] = *b"edge";
-
-const INSIDE: [u8; 6] = *b"inside";
-
-const OUTSIDE: [u8; 7] = *b"outside";
-
-const REFUSED: [u8; 7] = *b"refused";
-
-const LINE: [u8; 5] = *b"line ";
-
-const STOP: [u8; 24] = *b": not two whole numbers\n";
-
-// Where a point lies, with the nearest corner, or a refusal's number.
-#[derive(Clone, Copy)]
-pub enum Said {
-    Edge(usize),
-    Inside(usize),
-    Outside(usize),
-    Refused(usize),
+// The word of a place.
+fn place_word(p: Place) -> &'static [u8]
+    ensures { (result.now ≡ place_word p) × (length result.now ≤ 7) }
+{
+    match p {
+        Place::Outside => b"outside",
+        Place::Inside => b"inside",
+        Place::Edge => b"edge",
+    }
 }
 
 // A word and a number.
@@ -35,21 +25,19 @@ fn put_word(out: &mut [u8], at: usize, word: &[u8], n: usize) -> usize
     ensures { Put out.old at (word_line word.now n) out.new result }
 {
     let a = put::put_bytes(out, at, word);
-    let b = put::put(out, a, 32);
+    let b = put::put(out, a, b' ');
     let c = put::put_decimal(out, b, n);
-    put::put(out, c, 10)
+    put::put(out, c, b'\n')
 }
 
-// The line of what is said.
-fn put_said(out: &mut [u8], at: usize, a: Said) -> usize
+// The line of an answer.
+fn put_said(out: &mut [u8], at: usize, a: Result<Located, Refusal>) -> usize
     requires { at + 64 ≤ length out.old }
     ensures { Put out.old at (said_line a) out.new result }
 {
     match a {
-        Said::Edge(n) => put_word(out, at, &EDGE, n),
-        Said::Inside(n) => put_word(out, at, &INSIDE, n),
-        Said::Outside(n) => put_word(out, at, &OUTSIDE, n),
-        Said::Refused(n) => put_word(out, at, &REFUSED, n),
+        Ok(l) => put_word(out, at, place_word(l.place), l.nearest),
+        Err(k) => put_word(out, at, b"refused", k.number() as usize),
     }
 }
 
@@ -58,9 +46,9 @@ fn put_stop(out: &mut [u8], at: usize, k: usize) -> usize
     requires { at + 64 ≤ length out.old }
     ensures { Put out.old at (stop_line k) out.new result }
 {
-    let a = put::put_bytes(out, at, &LINE);
+    let a = put::put_bytes(out, at, b"line ");
     let b = put::put_decimal(out, a, k);
-    put::put_bytes(out, b, &STOP)
+    put::put_bytes(out, b, b": not two whole numbers\n")
 }
 
 // The first line.
@@ -68,13 +56,13 @@ pub fn write_names(out: &mut [u8], at: usize) -> usize
     ensures { record { out = out.exit.now; at = result } ≡ write out.entry.now at answer_names }
 {
     if text::has_room(out.len(), at) {
-        return put::put_bytes(out, at, &NAMES);
+        return put::put_bytes(out, at, b"answer corner\n");
     }
     at
 }
 
-// The line of what is said. Ruled out: a point inside that is said to be outside, and the number of another corner.
-pub fn write_said(out: &mut [u8], at: usize, a: Said) -> usize
+// The line of an answer. Ruled out: a point inside that is said to be outside, and the number of another corner.
+pub fn write_said(out: &mut [u8], at: usize, a: Result<Located, Refusal>) -> usize
     ensures { record { out = out.exit.now; at = result } ≡ write out.entry.now at (said_line a) }
 {
     if text::has_room(out.len(), at) {

@@ -1,121 +1,76 @@
 // Points from lines of text, and the lines that answer them.
 #![tactic(auto)]
 
-ghost use Rattle.std.specs.Prelude.{◌≡◌, ◌≤◌, length};
-ghost use Rattle.points.specs.Points.{is_blank, is_of, run, after_blanks, word, after_word, without_cr, both, point_from, point_of};
+ghost use Rattle.std.specs.Prelude.{◌≡◌, not, position};
+ghost use Rattle.points.specs.Points.{is_blank, after_blanks, word, after_word, without_cr, point_from, point_of};
 
-use number::Number;
+use geometry::Point;
 
 pub mod number; // number.rt: a whole number, as it is written
 pub mod answer; // answer.rt: the lines that are written
-
-// A line with a point, or another.
-#[derive(Clone, Copy)]
-pub enum Line {
-    At(i32, i32),
-    Other,
-}
 
 // The byte is a space or a tab.
 fn is_blank(b: u8) -> bool
     ensures { result ≡ is_blank b }
 {
-    b == 0x20 || b == 0x09
+    b == b' ' || b == b'\t'
 }
 
-// The byte is a blank, or none.
-fn is_of(blank: bool, b: u8) -> bool
-    ensures { result ≡ is_of blank b }
+// The place of the first byte that is no blank.
+// Stays: `returns` of `after_blanks` and `split_word` finds what `position` gives only where the chain is a function of its own.
+fn first_other(s: &[u8]) -> Option<usize>
+    ensures { result ≡ position (λ b. not (is_blank b)) s.now }
 {
-    let r = is_blank(b);
-    if blank {
-        return r;
-    }
-    !r
+    s.iter().position(|b| !is_blank(*b))
 }
 
-// How many blanks stand at the start, or how many other bytes.
-fn run(s: &[u8], blank: bool) -> usize
-    ensures { (result ≡ run blank s.now) × (result ≤ length s.now) }
+// The place of the first blank.
+fn first_blank(s: &[u8]) -> Option<usize>
+    ensures { result ≡ position is_blank s.now }
 {
-    let mut i = 0;
-    while i < s.len() {
-        if !is_of(blank, s[i]) {
-            return i;
-        }
-        i += 1;
-    }
-    i
+    s.iter().position(|b| is_blank(*b))
 }
 
 // What follows the blanks at the start.
 fn after_blanks(s: &[u8]) -> &[u8]
     ensures { result.now ≡ after_blanks s.now }
 {
-    let n = run(s, true);
+    let n = first_other(s).unwrap_or(s.len());
     &s[n..]
 }
 
-// The bytes before the first blank.
-fn word(s: &[u8]) -> &[u8]
-    ensures { result.now ≡ word s.now }
+// The bytes before the first blank, and that blank with what follows it.
+fn split_word(s: &[u8]) -> (&[u8], &[u8])
+    ensures { (result.0.now ≡ word s.now) × (result.1.now ≡ after_word s.now) }
 {
-    let n = run(s, false);
-    &s[..n]
-}
-
-// The first blank and what follows it.
-fn after_word(s: &[u8]) -> &[u8]
-    ensures { result.now ≡ after_word s.now }
-{
-    let n = run(s, false);
-    &s[n..]
+    let n = first_blank(s).unwrap_or(s.len());
+    s.split_at(n)
 }
 
 // The line but for a CR at its end.
 fn without_cr(s: &[u8]) -> &[u8]
     ensures { result.now ≡ without_cr s.now }
 {
-    if s.len() == 0 {
-        return s;
-    }
-    let n = s.len() - 1;
-    if s[n] != 0x0D {
-        return s;
-    }
-    &s[..n]
-}
-
-// A point, where both are numbers.
-fn both(x: Number, y: Number) -> Line
-    ensures { result ≡ both x y }
-{
-    let Number::Is(a) = x else {
-        return Line::Other;
-    };
-    let Number::Is(b) = y else {
-        return Line::Other;
-    };
-    Line::At(a, b)
+    s.strip_suffix(b"\r").unwrap_or(s)
 }
 
 // The point of a line whose first number is at its start.
-fn point_from(first: &[u8]) -> Line
-    ensures { result ≡ point_from first.now }
+fn point_from(line: &[u8]) -> Option<Point>
+    ensures { result ≡ point_from line.now }
 {
-    let second = after_blanks(after_word(first));
-    let end = after_blanks(after_word(second));
-    if end.len() != 0 {
-        return Line::Other;
+    let (first, rest) = split_word(line);
+    let (second, end) = split_word(after_blanks(rest));
+    if !after_blanks(end).is_empty() {
+        return None;
     }
-    both(
-        number::number_in(word(first)),
-        number::number_in(word(second)),
-    )
+    let x = number::number_in(first)?;
+    let y = number::number_in(second)?;
+    Some(Point { x, y })
 }
 
-// The point of a line, whatever its bytes are. Ruled out: a number more at the end, and a number beyond the range that is taken for another.
-pub fn point_in(line: &[u8]) -> Line
+// The point of a line, whatever its bytes are; none where they are not two whole numbers. Ruled out: a number more at the end, and a number
+// beyond the range that is taken for another.
+pub fn point_in(line: &[u8]) -> Option<Point>
     ensures { result ≡ point_of line.now }
 {
     point_from(after_blanks(without_cr(line)))

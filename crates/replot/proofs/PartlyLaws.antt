@@ -15,12 +15,6 @@ pub partly_none : {X : Type 0} (f : X → X) (xs : List X) → partly f 0 xs ≡
 unfolding partly
 partly_none f xs = refl
 
-pub length-partly : {X : Type 0} (f : X → X) (k : ℕ) (xs : List X) → length (partly f k xs) ≡ length xs
-unfolding partly
-length-partly f zero xs = refl
-length-partly f (suc k) [] = refl
-length-partly f (suc k) (x ∷ xs) = ap suc (length-partly f k xs)
-
 partly-set : {X : Type 0} (f : X → X) (k : ℕ) (xs : List X) (d : X) → k < length xs → set (partly f k xs) k (f (get_or (partly f k xs) k d)) ≡ partly f (suc k) xs
 unfolding partly
 partly-set f zero [] d l = absurd (not-suc-le-zero l)

@@ -3,21 +3,19 @@
 use mathlib.Core.List.{List, [], ◌∷◌, ◌++◌, map}
 use mathlib.Core.Logic.{◌↔◌}
 use mathlib.Core.Path.{◌≡◌, refl, sym, ap, subst, ◌∙◌}
-use Prim.Native.Nat.{ℕ, ◌≤◌}
-use Rattle.std.proofs.Common.{arith, length}
+use Prim.Native.Nat.{ℕ}
 use lib.IntN.{ℤ}
 use Rattle.geometry.specs.declared.Point.{Point}
 use Rattle.boundary.specs.declared.Refusal.{Refusal}
-use Rattle.boundary.specs.declared.Boundary.{Boundary}
-use Rattle.boundary.specs.declared.Boundary.TheVariants as Has
+use Rattle.std.specs.Prelude.{Result, Ok, Err}
+use Rattle.plane.specs.Corners.{corners_in}
 use Rattle.boundary.specs.Boundary.{Bounds, Refuses}
 use Rattle.boundary.specs.Exact.{boundary_of, left_corners, query_of}
 use Rattle.boundary.specs.Calls.{ReadOf}
 use Rattle.boundary.proofs.AnswerLaws.{read-bounds, read-refuses, Either, has-bounds, is-refused, either, answered-query, query-answered}
 use Rattle.replot.specs.declared.TrackPoint.{TrackPoint}
 use Rattle.replot.specs.Track.{point_of, with_answer, EachAnswered, no_entries, entry, Replots, answered, untouched}
-use Rattle.replot.specs.Exact.{end_of, answered_by, track_by, track_of}
-use Rattle.replot.proofs.PartlyLaws.{partly, partly-all}
+use Rattle.replot.specs.Exact.{answered_by, track_by, track_of}
 use Rattle.replot.specs.Calls.{ReplotOf}
 
 -- an entry with the answer for the text s and its point alone
@@ -26,20 +24,20 @@ alone s p = with_answer p (query_of s (point_of p))
 
 -- ---- the call is a map of the answer for one point, or changes nothing
 
-answered-alone : (s : List ℕ) (p : TrackPoint) → answered_by (boundary_of s) (left_corners s) p ≡ alone s p
+answered-alone : (s : List ℕ) (n : ℕ) (p : TrackPoint) → boundary_of s ≡ Ok n → answered_by (corners_in (left_corners s) n) p ≡ alone s p
 unfolding answered_by query_of
-answered-alone s p = refl
+answered-alone s n p e = rw e refl
 
 map_same : {A B : Type 0} (f g : A → B) → ((x : A) → f x ≡ g x) → (l : List A) → map f l ≡ map g l
 map_same f g e [] = refl
 map_same f g e (x ∷ l) = λ i. e x i ∷ map_same f g e l i
 
 module _ (s : List ℕ) (t : List TrackPoint) where
-  by-corners : {n : ℕ} → boundary_of s ≡ Has.Corners n → track_of s t ≡ map (alone s) t
+  by-corners : {n : ℕ} → boundary_of s ≡ Ok n → track_of s t ≡ map (alone s) t
   unfolding track_of
   by-corners {n} e =
-      ap (λ (b : Boundary). track_by b (left_corners s) t) e
-      ∙ map_same (answered_by (Has.Corners n) (left_corners s)) (alone s) (λ p. ap (λ (b : Boundary). answered_by b (left_corners s) p) (sym e) ∙ answered-alone s p) t
+      ap (λ (b : Result ℕ Refusal). track_by b (left_corners s) t) e
+      ∙ map_same (answered_by (corners_in (left_corners s) n)) (alone s) (λ p. answered-alone s n p e) t
 
   -- where the text has a boundary, every entry gets what its point gets alone
   pub track-map : {ps : List Point} → Bounds s ps → track_of s t ≡ map (alone s) t
@@ -48,7 +46,7 @@ module _ (s : List ℕ) (t : List TrackPoint) where
   -- where the text or a corner is refused, no entry changes
   pub track-untouched : {k : Refusal} → Refuses s k → track_of s t ≡ t
   unfolding track_of
-  track-untouched r = ap (λ (b : Boundary). track_by b (left_corners s) t) (read-refuses r)
+  track-untouched r = ap (λ (b : Result ℕ Refusal). track_by b (left_corners s) t) (read-refuses r)
 
 -- ---- what is stated
 
@@ -84,9 +82,9 @@ map-append f [] u = refl
 map-append f (x ∷ t) u = ap (λ (l : List _). f x ∷ l) (map-append f t u)
 
 -- a track may be handed over in parts, where the text is read once
-pub track_by-append : (b : Boundary) (l : List ℤ) (t u : List TrackPoint) → track_by b l (t ++ u) ≡ track_by b l t ++ track_by b l u
-track_by-append (Has.Corners n) l t u = map-append (answered_by (Has.Corners n) l) t u
-track_by-append (Has.Refused k) l t u = refl
+pub track_by-append : (b : Result ℕ Refusal) (l : List ℤ) (t u : List TrackPoint) → track_by b l (t ++ u) ≡ track_by b l t ++ track_by b l u
+track_by-append (Ok n) l t u = map-append (answered_by (corners_in l n)) t u
+track_by-append (Err k) l t u = refl
 
 pub track-append : (s : List ℕ) (t u : List TrackPoint) → track_of s (t ++ u) ≡ track_of s t ++ track_of s u
 unfolding track_of
@@ -95,17 +93,15 @@ track-append s t u = track_by-append (boundary_of s) (left_corners s) t u
 -- ---- the code's need
 
 -- what was read of the text, and the track after it
-pub replot-of-read : {s : List ℕ} {b : Boundary} {l : List ℤ} {m : List ℕ} {t u : List TrackPoint} → ReadOf s b l m → u ≡ track_by b l t → ReplotOf s t b u l m
-unfolding track_of
-replot-of-read {s} {t = t} x e =
-    record { boundary = x.boundary; track = e ∙ rw (x.boundary, x.corners_left) refl; corners_left = x.corners_left; table_left = x.table_left }
+module _ {s : List ℕ} {b : Result ℕ Refusal} {l : List ℤ} {m : List ℕ} {t : List TrackPoint} (x : ReadOf s b l m) where
+  replot-of-read : {u : List TrackPoint} → u ≡ track_by b l t → ReplotOf s t b u l m
+  unfolding track_of
+  replot-of-read e = record { boundary = x.boundary; track = e ∙ rw (x.boundary, x.corners_left) refl; corners_left = x.corners_left; table_left = x.table_left }
 
--- where the answers end: within the track, and there all of it is answered
-pub end_of-le : (d : Boundary) (n : ℕ) → end_of d n ≤ n
-end_of-le (Has.Corners k) n = omega arith
-end_of-le (Has.Refused k) n = omega arith
+  pub replot-of-corners : {n : ℕ} {cs : List Point} {u : List TrackPoint} → b ≡ Ok n → cs ≡ corners_in l n → u ≡ map (answered_by cs) t → ReplotOf s t (Ok n) u l m
+  replot-of-corners {n} {u = u} e f h =
+      subst (λ (r : Result ℕ Refusal). ReplotOf s t r u l m) e
+      (replot-of-read (h ∙ ap (λ (c : List Point). map (answered_by c) t) f ∙ ap (λ (r : Result ℕ Refusal). track_by r l t) (sym e)))
 
-pub partly-end_of : (d : Boundary) (l : List ℤ) (t : List TrackPoint) → partly (answered_by d l) (end_of d (length t)) t ≡ track_by d l t
-unfolding partly
-partly-end_of (Has.Corners k) l t = partly-all (answered_by (Has.Corners k) l) t
-partly-end_of (Has.Refused k) l t = refl
+  pub replot-of-refusal : {k : Refusal} → b ≡ Err k → ReplotOf s t (Err k) t l m
+  replot-of-refusal e = subst (λ (r : Result ℕ Refusal). ReplotOf s t r t l m) e (replot-of-read (ap (λ (r : Result ℕ Refusal). track_by r l t) (sym e)))

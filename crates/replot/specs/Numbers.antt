@@ -1,19 +1,23 @@
 -- The numbers by which an answer is told: REQUIREMENT.md, section 10. Stated. Assumes nothing.
-use Rattle.std.specs.Prelude.{ℕ}
-use Rattle.boundary.specs.declared.Answer.{Answer}
-use Rattle.boundary.specs.declared.Answer.TheVariants as Says
+use Rattle.std.specs.Prelude.{ℕ, Result, Ok, Err}
+use Rattle.geometry.specs.declared.Place.{Place}
+use Rattle.geometry.specs.declared.Place.TheVariants.{Outside, Inside, Edge}
+use Rattle.geometry.specs.declared.Located.{Located}
+use Rattle.boundary.specs.declared.Refusal.{Refusal}
 use Rattle.boundary.specs.Boundary.{refusal_number}
 
--- the number of an answer: 0 outside, 1 inside, 2 on the edge, or that of the refusal
-abbrev pub answer_number : Answer → ℕ
-answer_number (Says.Outside i) = 0
-answer_number (Says.Inside i) = 1
-answer_number (Says.Edge i) = 2
-answer_number (Says.Refused k) = refusal_number k
+-- 0 outside, 1 inside, 2 on the edge
+abbrev pub place_number : Place → ℕ
+place_number Outside = 0
+place_number Inside = 1
+place_number Edge = 2
+
+-- the number of an answer: that of the place, or of the refusal
+abbrev pub answer_number : Result Located Refusal → ℕ
+answer_number (Ok l) = place_number l.place
+answer_number (Err k) = refusal_number k
 
 -- the nearest corner; 0 where the answer is a refusal
-abbrev pub nearest_in : Answer → ℕ
-nearest_in (Says.Outside i) = i
-nearest_in (Says.Inside i) = i
-nearest_in (Says.Edge i) = i
-nearest_in (Says.Refused k) = 0
+abbrev pub nearest_in : Result Located Refusal → ℕ
+nearest_in (Ok l) = l.nearest
+nearest_in (Err k) = 0

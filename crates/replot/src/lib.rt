@@ -1,17 +1,19 @@
 // A whole track in one pass: each point of a track answered against the boundary of one text. REQUIREMENT.md, section 10.
 #![tactic(auto)]
 
-ghost use Rattle.std.specs.Prelude.{◌≡◌, ◌<◌};
-ghost use Rattle.boundary.specs.Exact.{HeldBy};
-ghost use Rattle.replot.specs.Numbers.{answer_number, nearest_in};
+ghost use Rattle.std.specs.Prelude.{◌≡◌, ◌<◌, map};
+ghost use Rattle.plane.specs.Lent.{corners_of};
+ghost use Rattle.replot.specs.Numbers.{place_number, answer_number, nearest_in};
 ghost use Rattle.replot.specs.Track.{point_of, with_answer};
-ghost use Rattle.replot.specs.Exact.{end_of, answered_by, track_by};
+ghost use Rattle.replot.specs.Exact.{answered_by};
 ghost use Rattle.replot.specs.Calls.{ReplotOf};
 
-use boundary::{Answer, Boundary};
-use geometry::Point;
+use boundary::Refusal;
+use geometry::{Located, Place, Point};
+use plane::Corners;
 
 // A point of a track, with room for its answer: the number of the answer, and the nearest corner. 16 bytes.
+// Stays: the C interface tells an answer by its number and a corner, which is 0 after a refusal.
 #[repr(C)]
 #[derive(Clone, Copy)]
 pub struct TrackPoint {
@@ -21,77 +23,69 @@ pub struct TrackPoint {
     pub nearest: u32,
 }
 
+fn place_number(p: Place) -> u8
+    ensures { result ≡ place_number p }
+{
+    match p {
+        Place::Outside => 0,
+        Place::Inside => 1,
+        Place::Edge => 2,
+    }
+}
+
 // The number of an answer.
-pub fn answer_number(a: Answer) -> u8
+pub fn answer_number(a: Result<Located, Refusal>) -> u8
     ensures { result ≡ answer_number a }
 {
     match a {
-        Answer::Outside(_) => 0,
-        Answer::Inside(_) => 1,
-        Answer::Edge(_) => 2,
-        Answer::Refused(k) => boundary::refusal_number(k),
+        Ok(l) => place_number(l.place),
+        Err(k) => k.number(),
     }
 }
 
-// The nearest corner of an answer.
-pub fn nearest_in(a: Answer) -> usize
+// The nearest corner of an answer; 0 where it is a refusal.
+pub fn nearest_in(a: Result<Located, Refusal>) -> usize
     ensures { result ≡ nearest_in a }
 {
-    match a {
-        Answer::Outside(i) => i,
-        Answer::Inside(i) => i,
-        Answer::Edge(i) => i,
-        Answer::Refused(_) => 0,
+    a.map_or(0, |l| l.nearest)
+}
+
+impl TrackPoint {
+    fn point(self) -> Point
+        ensures { result ≡ point_of self }
+    {
+        Point {
+            x: self.x,
+            y: self.y,
+        }
+    }
+
+    // The entry with an answer in its room.
+    fn with_answer(self, a: Result<Located, Refusal>) -> TrackPoint
+        requires { nearest_in a < 4294967296 }
+        ensures { result ≡ with_answer self a }
+    {
+        TrackPoint {
+            answer: u32::from(answer_number(a)),
+            nearest: nearest_in(a) as u32,
+            ..self
+        }
     }
 }
 
-// The point of an entry of a track.
-fn point_of(p: TrackPoint) -> Point
-    ensures { result ≡ point_of p }
+// An entry with its answer.
+fn answered(corners: &Corners, p: TrackPoint) -> TrackPoint
+    ensures { result ≡ answered_by (corners_of corners.now) p }
 {
-    Point { x: p.x, y: p.y }
+    p.with_answer(boundary::answer_at(corners, p.point()))
 }
 
-// An entry with an answer in its room.
-fn with_answer(p: TrackPoint, a: Answer) -> TrackPoint
-    requires { nearest_in a < 4294967296 }
-    ensures { result ≡ with_answer p a }
+// Answers each point of a track.
+pub fn answer_each(corners: &Corners, track: &mut [TrackPoint])
+    ensures { track.new ≡ map (answered_by (corners_of corners.now)) track.old }
 {
-    let mut q = p;
-    q.answer = answer_number(a) as u32;
-    q.nearest = nearest_in(a) as u32;
-    q
-}
-
-// An entry with its answer, where b was read of the text.
-fn answered(corners: &[i32; 2048], b: Boundary, p: TrackPoint) -> TrackPoint
-    requires { HeldBy b corners.now }
-    ensures { result ≡ answered_by b corners.now p }
-{
-    with_answer(p, boundary::answer_by(corners, b, point_of(p)))
-}
-
-// How many of n points are answered: all, or none where the text is refused.
-fn end_of(b: Boundary, n: usize) -> usize
-    ensures { result ≡ end_of b n }
-{
-    match b {
-        Boundary::Corners(_) => n,
-        Boundary::Refused(_) => 0,
-    }
-}
-
-// Answers each point of a track, where b was read of the text; where that is a refusal, no point is touched.
-pub fn answer_each(corners: &[i32; 2048], b: Boundary, track: &mut [TrackPoint])
-    requires { HeldBy b corners.now }
-    ensures { track.new ≡ track_by b corners.now track.old }
-{
-    let end = end_of(b, track.len());
-    let mut i = 0;
-    while i < end {
-        let p = track[i];
-        track[i] = answered(corners, b, p);
-        i += 1;
+    for p in track.iter_mut() {
+        *p = answered(corners, *p);
     }
 }
 
@@ -103,10 +97,10 @@ pub fn replot(
     track: &mut [TrackPoint],
     table: &mut [u8; 7920],
     corners: &mut [i32; 2048],
-) -> Boundary
+) -> Result<usize, Refusal>
     ensures { ReplotOf text.now track.old result track.new corners.new table.new }
 {
-    let b = boundary::read(text, table, corners);
-    answer_each(corners, b, track);
-    b
+    let n = boundary::read(text, table, corners)?;
+    answer_each(&Corners::new(corners, n), track);
+    Ok(n)
 }

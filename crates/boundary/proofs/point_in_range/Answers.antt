@@ -1,7 +1,10 @@
 -- `point_in_range` meets its contract. Assumes nothing.
-use Rattle.boundary.proofs.CallLaws.{point-test}
-use borrow.Author.Rules.{rules}
+use Rattle.std.proofs.Common.{rules}
+use Rattle.boundary.proofs.CallLaws.{point-there, point-beside}
 use Rattle.boundary.proofs.point_in_range.Goals as goal
 
-pub returns : goal.returns
-returns c = point-test c.args.p (search rules) (search rules) c.in_range.ensures c.in_range-2.ensures
+pub returns-then-in_range : goal.returns-then-in_range
+returns-then-in_range c = search (rules, point-there)
+
+pub returns-else-in_range : goal.returns-else-in_range
+returns-else-in_range c = search (rules, point-beside)

@@ -1,13 +1,6 @@
--- `whole`: the value so far is from 0 up, and with the digits that are left it leads to the number. Assumes nothing.
-use mathlib.Core.Path.{◌≡◌}
-use Prim.Native.Nat.{◌-◌}
-use lib.IntN.{pos, nat_abs}
-use lib.ListN.{length}
+-- `whole`: the value of the digits so far. Assumes nothing.
 use Rattle.coordinate.proofs.ReadLaws.{Reading}
 use Rattle.coordinate.proofs.whole.Given as goal
 
-abbrev pub invariant-loop-i : goal.invariant-loop-i
-invariant-loop-i l = (l.value ≡ pos (nat_abs l.value)) × Reading l.digits l.from (nat_abs l.value) l.i
-
-abbrev pub decreases-loop-i : goal.decreases-loop-i
-decreases-loop-i l = length l.digits - l.i
+abbrev pub invariant-loop-b : goal.invariant-loop-b
+invariant-loop-b l = Reading l.digits l.value l.b-index

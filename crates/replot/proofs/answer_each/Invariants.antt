@@ -1,14 +1,9 @@
--- `answer_each` meets its contract: the entries below i have their answers. Assumes nothing.
-use Rattle.std.proofs.Common.{◌-◌, ◌≡◌, ◌≤◌, length}
+-- `answer_each`: the entries so far have their answers. Assumes nothing.
+use Rattle.std.proofs.Common.{◌≡◌}
+use Rattle.plane.specs.Lent.{corners_of}
 use Rattle.replot.specs.Exact.{answered_by}
 use Rattle.replot.proofs.PartlyLaws.{partly}
 use Rattle.replot.proofs.answer_each.Given as goal
 
-abbrev pub invariant-loop-i : goal.invariant-loop-i
-invariant-loop-i l =
-    (l.i ≤ l.end)
-    × (l.end ≤ length l.initial.track)
-    × (l.track ≡ partly (answered_by l.b l.corners) l.i l.initial.track)
-
-abbrev pub decreases-loop-i : goal.decreases-loop-i
-decreases-loop-i l = l.end - l.i
+abbrev pub invariant-loop-p : goal.invariant-loop-p
+invariant-loop-p l = l.track ≡ partly (answered_by (corners_of l.corners)) l.p-index l.initial.track

@@ -4,9 +4,8 @@ use Rattle.replot.proofs.NearestLaws.{nearest-fits}
 use Rattle.replot.proofs.answered.Goals as goal
 
 pub with_answer-requires : goal.with_answer-requires
-with_answer-requires c =
-    rw c.answer_by.ensures (nearest-fits c.args.b c.args.corners.now c.point_of.result c.requires)
+with_answer-requires c = rw c.answer_at.ensures (nearest-fits c.args.corners.now c.point.result)
 
 pub returns : goal.returns
 unfolding answered_by
-returns c = simp (c.with_answer.ensures, c.answer_by.ensures, c.point_of.ensures)
+returns c = simp (c.with_answer.ensures, c.answer_at.ensures, c.point.ensures)

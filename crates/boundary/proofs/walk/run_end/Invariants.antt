@@ -1,12 +1,8 @@
--- `walk::run_end` meets its contract: a stretch of bytes of numbers grows byte by byte. Assumes nothing.
-use Prim.Native.Nat.{◌-◌}
-use lib.ListN.{length}
-use Rattle.corners.specs.Numbers.{is_number_byte}
+-- `walk::run_end`: the bytes so far pass the test. Assumes nothing.
+use Rattle.std.proofs.Common.{ℕ, Bool}
+use Rattle.boundary.specs.Walk.{Tests}
 use Rattle.boundary.proofs.StretchLaws.{Stretching}
 use Rattle.boundary.proofs.walk.run_end.Given as goal
 
 abbrev pub invariant-loop-i : goal.invariant-loop-i
-invariant-loop-i l = Stretching is_number_byte l.text l.from l.i
-
-abbrev pub decreases-loop-i : goal.decreases-loop-i
-decreases-loop-i l = length l.text - l.i
+invariant-loop-i g l = (f : ℕ → Bool) → Tests (goal.F-post g l.test) f → Stretching f l.text l.fn.from l.i

@@ -1,15 +1,11 @@
 -- `walk::walk_all` meets its contract: the walk goes on from turn to turn. Assumes nothing.
-use mathlib.Core.Bool.{true}
-use mathlib.Core.Path.{◌≡◌}
-use Prim.Native.Nat.{◌-◌}
-use lib.ListN.{length}
+use Rattle.std.proofs.Common.{◌≡◌, ◌-◌, length}
 use Rattle.table.specs.Flat.{table_in}
 use Rattle.boundary.specs.Walk.{Walked}
 use Rattle.boundary.proofs.walk.walk_all.Given as goal
 
 abbrev pub invariant-loop-w : goal.invariant-loop-w
-invariant-loop-w l =
-    (length l.work ≡ length l.initial.work) × Walked (table_in l.table) l.text l.w.at l.w.reader l.work l.w.taken l.w.unfit l.corners × (l.w.going ≡ true)
+invariant-loop-w l = (length l.work ≡ length l.initial.work) × Walked (table_in l.source.table.now) l.source.text.now l.w.at l.w.reader l.work l.w.taken l.w.unfit l.corners
 
 abbrev pub decreases-loop-w : goal.decreases-loop-w
-decreases-loop-w l = length l.text - l.w.at
+decreases-loop-w l = length l.source.text.now - l.w.at

@@ -2,18 +2,10 @@
 use Rattle.points.specs.Answers.{said_line}
 use Rattle.points.proofs.answer.put_said.Goals as goal
 
-pub returns-in-Edge : goal.returns-in-Edge
+pub returns-in-Ok : goal.returns-in-Ok
 unfolding said_line
-returns-in-Edge c = rw c.in-Edge.is c.put_word.ensures
+returns-in-Ok c = rw (c.in-Ok.is, ← c.place_word.ensures.0) c.put_word.ensures
 
-pub returns-in-Inside : goal.returns-in-Inside
+pub returns-in-Err : goal.returns-in-Err
 unfolding said_line
-returns-in-Inside c = rw c.in-Inside.is c.put_word-in-Inside.ensures
-
-pub returns-in-Outside : goal.returns-in-Outside
-unfolding said_line
-returns-in-Outside c = rw c.in-Outside.is c.put_word-in-Outside.ensures
-
-pub returns-in-Refused : goal.returns-in-Refused
-unfolding said_line
-returns-in-Refused c = rw c.in-Refused.is c.put_word-in-Refused.ensures
+returns-in-Err c = rw (c.in-Err.is, ← c.number.ensures) c.put_word-in-Err.ensures

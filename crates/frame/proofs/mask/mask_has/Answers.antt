@@ -7,6 +7,6 @@ pub returns-then-code-lt64 : goal.returns-then-code-lt64
 unfolding mask_has
 returns-then-code-lt64 c = search tests
 
-pub returns : goal.returns
+pub returns-else-code-lt64 : goal.returns-else-code-lt64
 unfolding mask_has
-returns c = search tests
+returns-else-code-lt64 c = search tests

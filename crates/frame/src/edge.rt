@@ -87,7 +87,9 @@ pub fn led_to<F: Fn(usize) -> bool>(table: &[u8; 7920], taken: F) -> States
 {
     let mut states = [0; 64];
     for e in 0..count(table) {
-        bits::set_if(taken(e), &mut states, next_state(table, e));
+        if taken(e) {
+            bits::set_if(true, &mut states, next_state(table, e));
+        }
     }
     states
 }

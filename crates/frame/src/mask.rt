@@ -39,9 +39,9 @@ pub fn mask_of(v: Finished) -> u64
     }
 }
 
-// The mask has a code.
+// The mask has a code: it has its last six bits, which most codes fail first, and the code has no others.
 pub fn mask_has(mask: u64, code: u8) -> bool
     ensures { result ≡ mask_has mask code }
 {
-    code < 64 && (mask >> code) % 2 == 1
+    (mask >> (code % 64)) % 2 == 1 && code < 64
 }

@@ -14,7 +14,9 @@ use Rattle.table.specs.declared.kind.Scalar.{Scalar}
 use Rattle.table.specs.declared.kind.Finished.TheVariants as Done
 use Rattle.table.specs.Kind.{rule_fits}
 use Rattle.table.specs.Keys.{key_found}
-use Rattle.frame.specs.Frame.{frame_at, put_frame, is_object, kind_number}
+use Rattle.frame.specs.declared.Kind.TheVariants.{Object, Array}
+use Rattle.frame.specs.Frame.{frame_at, put_frame, kind_in}
+use Rattle.frame.proofs.KindLaws.{object-of-kind, array-of-kind}
 use Rattle.frame.specs.Edges.{edges_of}
 use Rattle.frame.specs.Ops.{opened, keyed, valued, closed}
 use Rattle.progress.specs.declared.Progress.{Progress}
@@ -32,21 +34,13 @@ pub top-bare : (w : List ℕ) (l : ℕ) → l ≡ 0 → Is.Bare ≡ top_at w l
 unfolding top_at
 top-bare w l e = rw (eq-eqb l 0 e)
 
-object-of-kind : (b : Bool) → ◌≡◌ {A = ℕ} (cond b 1 2) 1 → b ≡ true
-object-of-kind true e = refl
-object-of-kind false e = absurd (omega arith)
+pub top-object : (w : List ℕ) (l : ℕ) → (l ≡ 0 → ⊥) → Object ≡ kind_in (frame_at w l) → Is.Object ≡ top_at w l
+unfolding top_at
+top-object w l n e = simp (ne_eqb l 0 n, object-of-kind (frame_at w l) e)
 
-array-of-kind : (b : Bool) → (◌≡◌ {A = ℕ} (cond b 1 2) 1 → ⊥) → b ≡ false
-array-of-kind true e = absurd (e refl)
-array-of-kind false e = refl
-
-pub top-object : (w : List ℕ) (l k : ℕ) → (l ≡ 0 → ⊥) → k ≡ kind_number (frame_at w l) → k ≡ 1 → Is.Object ≡ top_at w l
-unfolding top_at kind_number
-top-object w l k n e f = simp (ne_eqb l 0 n, object-of-kind (is_object (frame_at w l)) (sym e ∙ f))
-
-pub top-array : (w : List ℕ) (l k : ℕ) → (l ≡ 0 → ⊥) → k ≡ kind_number (frame_at w l) → (k ≡ 1 → ⊥) → Is.Array ≡ top_at w l
-unfolding top_at kind_number
-top-array w l k n e f = simp (ne_eqb l 0 n, array-of-kind (is_object (frame_at w l)) (λ q. f (e ∙ q)))
+pub top-array : (w : List ℕ) (l : ℕ) → (l ≡ 0 → ⊥) → Array ≡ kind_in (frame_at w l) → Is.Array ≡ top_at w l
+unfolding top_at
+top-array w l n e = simp (ne_eqb l 0 n, array-of-kind (frame_at w l) e)
 
 -- ---- the key
 

@@ -6,6 +6,7 @@ ghost use Rattle.table.specs.Flat.{table_in};
 ghost use Rattle.progress.specs.Memory.{mem, top_at};
 ghost use Rattle.turn.specs.Turn.{ClosedTo, named_at, PerformedTo, turned};
 
+use frame::Kind;
 use json_text::lexer::{Step, Top};
 use progress::{Progress, Task, act, key};
 use table::kind::{Finished, ValueKind};
@@ -25,10 +26,10 @@ pub fn top_of(work: &[u8], level: usize) -> Top
     if level == 0 {
         return Top::Bare;
     }
-    if frame::kind_at(work, level) == 1 {
-        return Top::Object;
+    match frame::kind_at(work, level) {
+        Kind::Object => Top::Object,
+        Kind::Array => Top::Array,
     }
-    Top::Array
 }
 
 // The value of a level is closed: it joins the level below; the root tells whether it fits rule 0.

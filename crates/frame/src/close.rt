@@ -57,7 +57,7 @@ fn accepts<'a>(states: &'a States, table: &'a [u8; 7920], kind: Kind, r: usize) 
     requires { r < 32 }
     ensures { result ≡ accepting_in (table_in table.now) (number_of kind) states.now r }
 {
-    edge::has_form(table, r, kind) && has_end(states, table, r)
+    edge::is_of_kind(table, r, kind) && has_end(states, table, r)
 }
 
 // The set with those of four rules that accept the states.

@@ -39,11 +39,19 @@ fn next_state(table: &[u8; 7920], e: usize) -> usize
     state_number(flat::rule(table, e), flat::next(table, e))
 }
 
-// The values of a kind may fit a rule. None may fit a rule above 31.
-pub fn has_form(table: &[u8; 7920], rule: usize, kind: Kind) -> bool
-    ensures { result ≡ has_form (table_in table.now).forms (number_of kind) rule }
+// The values of a kind may fit rule r.
+pub fn is_of_kind(table: &[u8; 7920], r: usize, kind: Kind) -> bool
+    requires { r < 32 }
+    ensures { result ≡ has_form (table_in table.now).forms (number_of kind) r }
 {
-    rule < 32 && flat::form(table, rule) == kind.number()
+    flat::form(table, r) == kind.number()
+}
+
+// A rule is an arr rule; one above 31 is not.
+fn is_arr(table: &[u8; 7920], rule: u8) -> bool
+    ensures { result ≡ has_form (table_in table.now).forms 2 rule }
+{
+    rule < 32 && is_of_kind(table, usize::from(rule), Kind::Array)
 }
 
 // Edge e is one of the key, and the mask has its kind.
@@ -60,7 +68,7 @@ pub fn stepping<'a>(table: &'a [u8; 7920], frame: &'a Frame, e: usize, m: u64) -
     ensures { result ≡ stepping_in (table_in table.now) m frame.now e }
 {
     mask::mask_has(m, flat::kind(table, e))
-        && has_form(table, usize::from(flat::rule(table, e)), Kind::Array)
+        && is_arr(table, flat::rule(table, e))
         && bits::get_bit(frame, 256 + state_of(table, e))
 }
 

@@ -23,7 +23,7 @@ fn add_eight(states: &mut States, table: &[u8; 7920], kind: Kind, from: usize)
     ensures { (xs : List ℕ) → states.old ≡ set_all (has_form (table_in table.now).forms (number_of kind)) (λ r. 16 * r) from xs → states.new ≡ set_all (has_form (table_in table.now).forms (number_of kind)) (λ r. 16 * r) (from + 8) xs }
 {
     for r in from..from + 8 {
-        states[2 * r] |= u8::from(edge::has_form(table, r, kind));
+        states[2 * r] |= u8::from(edge::is_of_kind(table, r, kind));
     }
 }
 

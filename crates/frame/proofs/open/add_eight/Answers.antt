@@ -9,4 +9,4 @@ loop-r-init c = λ xs e. e
 
 pub loop-r-preserved : goal.loop-r-preserved
 loop-r-preserved c = λ xs e.
-    set_all-more _ _ _ _ _ _ _ _ (c.loop-r.invariant xs e) c.has_form.ensures refl (rw c.from.ensures (first-state c.loop-r.states c.loop-r.r c.has_form.result))
+    set_all-more _ _ _ _ _ _ _ _ (c.loop-r.invariant xs e) c.is_of_kind.ensures refl (rw c.from.ensures (first-state c.loop-r.states c.loop-r.r c.is_of_kind.result))

@@ -2,7 +2,7 @@
 use mathlib.Core.Bool.{Bool, true, false, cond}
 use mathlib.Core.List.{List}
 use mathlib.Core.Path.{◌≡◌, refl, sym, ap, ◌∙◌}
-use Prim.Native.Nat.{ℕ, ◌-◌}
+use Prim.Native.Nat.{ℕ, ◌-◌, ◌≤◌}
 use native.Mathlib.Omega.{arith}
 use lib.ListN.{length, replicate}
 use borrow.Author.Tests.{eq-eqb, ne_eqb}
@@ -10,6 +10,9 @@ use Rattle.json_text.specs.Lexer.{step_of}
 use Rattle.json_text.specs.declared.lexer.Top.TheVariants as Is
 use Rattle.json_text.specs.declared.lexer.Step.{Step}
 use Rattle.table.specs.Table.{Table}
+use Rattle.table.specs.Limits.{within_limits}
+use Rattle.table.proofs.LimitLaws.{within_limits-sound}
+use Rattle.laws.proofs.TestLaws.{T-of-true}
 use Rattle.table.specs.declared.kind.Scalar.{Scalar}
 use Rattle.table.specs.declared.kind.Finished.TheVariants as Done
 use Rattle.table.specs.Kind.{rule_fits}
@@ -26,7 +29,13 @@ use Rattle.progress.specs.declared.Advanced.{Advanced}
 use Rattle.progress.specs.Act.{kept_in}
 use Rattle.progress.specs.Progress.{advanced}
 use Rattle.progress.specs.Memory.{Mem, mem, top_at, value_at, rules_at, close_at, perform, step_mem}
-use Rattle.turn.specs.Turn.{ClosedTo, named_at, PerformedTo, turned}
+use Rattle.turn.specs.Turn.{ClosedTo, named_at, turned}
+
+-- ---- what the test of a table tells
+
+-- a table that passes the test has at most 128 keys
+pub keys_le : (t : Table) → within_limits t ≡ true → t.keys ≤ 128
+keys_le t e = (within_limits-sound t (T-of-true (within_limits t) e)).keys
 
 -- ---- the innermost open value
 
@@ -66,47 +75,6 @@ module _ (t : Table) (w : List ℕ) (l s d : ℕ) (v : List ℕ) (root : Bool)
   -- any value but the root is closed
   pub closed-inner : (l ≡ 1 → ⊥) → ClosedTo t w l root root v
   closed-inner h = record { root = rw (ne_eqb l 1 h); work = work_closed }
-
--- ---- the tasks
-
-module _ (t : Table) (k : Task) (level len up : ℕ) (root : Bool) (key w : List ℕ) where
-  pub idle-done : k ≡ To.Idle → PerformedTo k t level len up root key w root key w
-  idle-done h = record { same = λ old x p q u. rw h }
-
-  pub begin-done : (r : Bool) (next : List ℕ) → k ≡ To.Begin → length key ≡ 32 → next ≡ replicate (length key) 0 → r ≡ false
-      → PerformedTo k t level len up root key w r next w
-  begin-done r next h l e none = record { same = λ old x p q u. rw (h, e, l, none) }
-
-  pub put-done : (c : ℕ) (next : List ℕ) → k ≡ To.Put c → next ≡ kept_in key len c → PerformedTo k t level len up root key w root next w
-  put-done c next h e = record { same = λ old x p q u. rw (h, q, e) }
-
-  pub named-done : (v : List ℕ) → k ≡ To.Named → v ≡ named_at t key len w level → PerformedTo k t level len up root key w root key v
-  named-done v h e = record { same = λ old x p q u. rw (h, q, p, e) }
-
-  pub opened-done : (o : Bool) (v : List ℕ) → k ≡ To.Open o → v ≡ put_frame w up (opened t.forms o) → PerformedTo k t level len up root key w root key v
-  opened-done o v h e = record { same = λ old x p q u. rw (h, u, e) }
-
-  pub finish-done : (s : Scalar) (v : List ℕ) → k ≡ To.Finish s
-      → v ≡ put_frame w level (valued (edges_of t.edges t.edge_rule t.edge_state t.edge_key t.edge_next) t.edge_kind t.forms (Done.Scalar s) (frame_at w level))
-      → PerformedTo k t level len up root key w root key v
-  unfolding value_at
-  finish-done s v h e = record { same = λ old x p q u. rw (h, p, e) }
-
-  pub close-done : (r : Bool) (v : List ℕ) → k ≡ To.Close → ClosedTo t w level root r v → PerformedTo k t level len up root key w r key v
-  unfolding close_at
-  close-done r v h e = record { same = λ old x p q u. rw (h, p, e.root, e.work) }
-
-  pub finish-close-done : (s : Scalar) (o : List ℕ) (r : Bool) (v : List ℕ) → k ≡ To.FinishClose s
-      → o ≡ put_frame w level (valued (edges_of t.edges t.edge_rule t.edge_state t.edge_key t.edge_next) t.edge_kind t.forms (Done.Scalar s) (frame_at w level))
-      → ClosedTo t o level root r v → PerformedTo k t level len up root key w r key v
-  unfolding close_at value_at
-  finish-close-done s o r v h g e = record { same = λ old x p q u. rw (h, p, e.root, e.work, g) }
-
--- where the task and the record after the byte are what the limits make of the step, a turn has done the task
-pub turned-of-performed : (t : Table) (n : ℕ) (old : Progress) (root : Bool) (key w : List ℕ) (b : ℕ) (st : Step) (a : Advanced) (r : Bool) (kept v : List ℕ) → a ≡ advanced old n b st
-    → PerformedTo a.task t old.level old.len a.progress.level root key w r kept v → mem a.progress r kept v ≡ turned t n (mem old root key w) b st
-turned-of-performed t n old root key w b st a r kept v f h =
-    h.same old a.progress refl refl refl ∙ ap (λ (x : Advanced). perform x.task t (mem old root key w) x.progress) f
 
 -- where the limits make of the step st what they make of the byte's own, a turn is the step of the memory
 pub turned-step_mem : (t : Table) (n : ℕ) (m : Mem) (b : ℕ) (st : Step)

@@ -4,10 +4,4 @@ use borrow.Author.Rules.{rules}
 use Rattle.piece.proofs.read_on.Goals as goal
 
 pub read_byte-requires : goal.read_byte-requires
-read_byte-requires c = (search rules, search rules, search rules, search (rules, step-passed))
-
-pub returns-then-at-piece : goal.returns-then-at-piece
-returns-then-at-piece c = search (rules, went_on)
-
-pub returns : goal.returns
-returns c = search (rules, went-all)
+read_byte-requires c = (search rules, search (rules, step-passed))

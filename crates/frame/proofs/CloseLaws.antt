@@ -4,11 +4,9 @@ use mathlib.Core.List.{List, []}
 use mathlib.Core.Path.{◌≡◌, refl, sym}
 use Prim.Native.Nat.{ℕ, ◌<◌, ◌≤◌}
 use native.Mathlib.Nat.{zero-div}
-use native.Mathlib.Omega.{arith}
 use lib.Dec.{ltb}
-use lib.ListN.{length, get_or, take, drop, length-drop}
-use lib.Seq.{take_all}
-use borrow.Author.Tests.{lt-ltb, le-ltb, eq-eqb, ne_eqb}
+use lib.ListN.{get_or, drop}
+use borrow.Author.Tests.{lt-ltb, le-ltb}
 use Rattle.table.specs.Kind.{rule_fits}
 use Rattle.frame.specs.Frame.{is_object, marked}
 use Rattle.frame.specs.Edges.{Edges}

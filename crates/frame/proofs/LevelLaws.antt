@@ -5,9 +5,8 @@ use mathlib.Core.Logic.{◌⊎◌, inr, ⊎_elim}
 use mathlib.Core.Path.{◌≡◌, refl, sym, ap, ◌∙◌}
 use Prim.Native.Nat.{ℕ, zero, suc, ◌*◌, ◌+◌, ◌-◌, ◌<◌, ◌≤◌}
 use native.Mathlib.Decide.{dec_lt}
-use native.Mathlib.Nat.{add-zero}
 use native.Mathlib.Omega.{arith}
-use lib.Dec.{eqb, ltb, leb, ltb→lt, leb→le, lit<}
+use lib.Dec.{ltb, leb, ltb→lt, leb→le}
 use lib.ListN.{length, get_or, take, drop, length-append, length-drop, take-append-drop, drop_of_length-le, get_or-append}
 use lib.Seq.{take_all, take_at, drop_at, drop-drop, length-take-le, take-append-le, drop-append-le, drop-append-add, get_or-take, get_or-drop}
 use borrow.Author.Tests.{lt-ltb, le-leb, le-ltb, lt-leb}

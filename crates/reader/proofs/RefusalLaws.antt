@@ -1,6 +1,6 @@
 -- Laws of ladders and gates: what an open gate tells, what a shut one tells, and the gates by the code's tests. Assumes nothing.
 use mathlib.Core.Bool.{Bool, true, false, cond, ◌&&◌}
-use mathlib.Core.List.{List, [], ◌∷◌}
+use mathlib.Core.List.{List, ◌∷◌}
 use mathlib.Core.Path.{◌≡◌, refl, sym, ◌∙◌}
 use Prim.Native.Nat.{ℕ, ◌*◌, ◌<◌, ◌≤◌}
 use native.Mathlib.Omega.{arith}
@@ -12,7 +12,7 @@ use Rattle.laws.proofs.TestLaws.{true-neq-false, T-of-true, T-and-left, T-and-ri
 use Rattle.reader.specs.declared.Refusal.{Refusal}
 use Rattle.reader.specs.declared.Refusal.TheVariants as No
 use Rattle.std.proofs.Common.{Ok, Err}
-use Rattle.reader.specs.Refusals.{Gate, let_in, fit_reader, Rung, first_refusal, table_rung, start_gate, call_gate, through, is_open}
+use Rattle.reader.specs.Refusals.{Gate, let_in, fit_reader, Rung, first_refusal, start_gate, call_gate, through, is_open}
 
 -- ---- a gate
 
@@ -106,6 +106,11 @@ module _ (f : ℕ) (t : Table) (n : ℕ) where
 -- ---- the bounds of a reader
 
 module _ (f l k : ℕ) where
+  -- with as many frames as there may be and no more levels than frames, the length of the key decides
+  pub fit_all : 1 ≤ f → f ≤ 64 → l ≤ f → leb k 33 ≡ fit_reader f l k
+  unfolding fit_reader
+  fit_all a b c = simp (le-leb 1 f a, le-leb f 64 b, le-leb l f c)
+
   -- the bounds of a reader that is within them
   pub bounds-of-fit : fit_reader f l k ≡ true → (1 ≤ f) × (f ≤ 64) × (l ≤ f) × (k ≤ 33)
   unfolding fit_reader

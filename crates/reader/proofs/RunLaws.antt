@@ -8,7 +8,7 @@ use lib.ListN.{length, drop, drop_of_length-le}
 use Rattle.table.specs.Table.{Table}
 use Rattle.verdict.specs.declared.Verdict.{Verdict}
 use Rattle.progress.specs.Progress.{judged}
-use Rattle.progress.specs.Memory.{Mem, mem, run_mem}
+use Rattle.progress.specs.Memory.{Mem, run_mem}
 use Rattle.piece.specs.Went.{WentTo}
 use Rattle.reader.specs.declared.Reader.{Reader}
 use Rattle.reader.specs.declared.Answer.TheVariants as Says

@@ -1,10 +1,8 @@
 -- What the parts of a turn tell is what the definitions say: laws in the form of the code's needs, and `turned-step_mem`. Assumes nothing.
-use mathlib.Core.Bool.{Bool, true, false, cond}
+use mathlib.Core.Bool.{Bool, true}
 use mathlib.Core.List.{List}
-use mathlib.Core.Path.{◌≡◌, refl, sym, ap, ◌∙◌}
+use mathlib.Core.Path.{◌≡◌, ap, ◌∙◌}
 use Prim.Native.Nat.{ℕ, ◌-◌, ◌≤◌}
-use native.Mathlib.Omega.{arith}
-use lib.ListN.{length, replicate}
 use borrow.Author.Tests.{eq-eqb, ne_eqb}
 use Rattle.json_text.specs.Lexer.{step_of}
 use Rattle.json_text.specs.declared.lexer.Top.TheVariants as Is
@@ -13,7 +11,6 @@ use Rattle.table.specs.Table.{Table}
 use Rattle.table.specs.Limits.{within_limits}
 use Rattle.table.proofs.LimitLaws.{within_limits-sound}
 use Rattle.laws.proofs.TestLaws.{T-of-true}
-use Rattle.table.specs.declared.kind.Scalar.{Scalar}
 use Rattle.table.specs.declared.kind.Finished.TheVariants as Done
 use Rattle.table.specs.Kind.{rule_fits}
 use Rattle.table.specs.Keys.{key_found}
@@ -21,14 +18,10 @@ use Rattle.frame.specs.declared.Kind.TheVariants.{Object, Array}
 use Rattle.frame.specs.Frame.{frame_at, put_frame, kind_in}
 use Rattle.frame.proofs.KindLaws.{object-of-kind, array-of-kind}
 use Rattle.frame.specs.Edges.{edges_of}
-use Rattle.frame.specs.Ops.{opened, keyed, valued, closed}
-use Rattle.progress.specs.declared.Progress.{Progress}
-use Rattle.progress.specs.declared.Task.{Task}
-use Rattle.progress.specs.declared.Task.TheVariants as To
+use Rattle.frame.specs.Ops.{keyed, valued, closed}
 use Rattle.progress.specs.declared.Advanced.{Advanced}
-use Rattle.progress.specs.Act.{kept_in}
 use Rattle.progress.specs.Progress.{advanced}
-use Rattle.progress.specs.Memory.{Mem, mem, top_at, value_at, rules_at, close_at, perform, step_mem}
+use Rattle.progress.specs.Memory.{Mem, top_at, value_at, rules_at, perform, step_mem}
 use Rattle.turn.specs.Turn.{ClosedTo, named_at, turned}
 
 -- ---- what the test of a table tells

@@ -1,5 +1,5 @@
 -- `frame_of` meets its contract: what is lent begins with the frame, and without a frame nothing is lent. Assumes nothing.
-use Rattle.std.proofs.Common.{◌-◌, ◌<◌, ◌∙◌, ◌≡◌, [], List, ℕ, arith, length, None, Some, MatchOption, take, drop, length-drop}
+use Rattle.std.proofs.Common.{◌-◌, ◌<◌, ◌∙◌, ◌≡◌, [], arith, length, None, Some, MatchOption, take, drop, length-drop}
 use Rattle.std.specs.Array.{IsFirstChunk}
 use lib.Seq.{length-take-le}
 use Rattle.frame.specs.Frame.{frame_at}

@@ -1,5 +1,4 @@
 -- `place` meets its contract: the levels counted are those that have a frame. Assumes nothing.
-use borrow.Author.Rules.{rules}
 use Rattle.frame.proofs.LevelLaws.{has_frame-counted, no_frame-below, no_frame-above, fits-of-has_frame}
 use native.Mathlib.Omega.{arith}
 use mathlib.Core.Path.{refl}

@@ -1,5 +1,5 @@
 -- `read_on` meets its contract: what is after the bytes passed over gives what the whole gives. Assumes nothing.
-use Rattle.piece.proofs.PieceLaws.{step-passed, went-all, went_on}
+use Rattle.piece.proofs.PieceLaws.{step-passed}
 use borrow.Author.Rules.{rules}
 use Rattle.piece.proofs.read_on.Goals as goal
 

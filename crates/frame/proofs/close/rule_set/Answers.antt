@@ -1,8 +1,7 @@
 -- `close::rule_set` meets its contract. Assumes nothing.
-use Rattle.std.proofs.Common.{◌≡◌, ◌+◌, ◌*◌, ◌^◌, ◌∙◌, sym, ap, arith, refl}
+use Rattle.std.proofs.Common.{◌≡◌, ◌+◌, ◌*◌, ◌∙◌, sym, arith, refl}
 use Rattle.table.specs.Flat.{table_in}
 use Rattle.frame.specs.Frame.{number_of}
-use Rattle.frame.specs.InTable.{accepting_in}
 use Rattle.frame.specs.Ops.{rule_set}
 use Rattle.frame.proofs.QuietLaws.{rule_set-quiet}
 use Rattle.frame.proofs.close.rule_set.Goals as goal

@@ -1,5 +1,4 @@
 -- `close::walk` meets its contract. Assumes nothing.
-use Rattle.std.proofs.Common.{◌≡◌, ◌*◌, ◌∙◌, sym, refl}
 use Rattle.frame.specs.Ops.{walked}
 use Rattle.frame.proofs.WalkLaws.{walked-next-byte}
 use Rattle.frame.proofs.close.walk.Goals as goal

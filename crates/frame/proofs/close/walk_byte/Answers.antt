@@ -1,5 +1,5 @@
 -- `close::walk_byte` meets its contract. Assumes nothing.
-use Rattle.std.proofs.Common.{◌≡◌, ◌*◌, ◌∙◌, sym, refl, add-one, arith}
+use Rattle.std.proofs.Common.{◌∙◌, refl, add-one}
 use Rattle.frame.specs.Frame.{seen_in}
 use Rattle.frame.specs.Ops.{walked}
 use Rattle.frame.proofs.WalkLaws.{walked-byte-zero}

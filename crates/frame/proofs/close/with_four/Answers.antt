@@ -1,5 +1,5 @@
 -- `close::with_four` meets its contract: the new bit lies above the set. Assumes nothing.
-use Rattle.std.proofs.Common.{◌≡◌, ◌+◌, ◌^◌, ◌<◌, ◌∙◌, arith, add-one, sym, subst, ℕ}
+use Rattle.std.proofs.Common.{◌∙◌, arith, add-one}
 use Rattle.laws.proofs.BitLaws.{one_shl}
 use Rattle.frame.specs.Ops.{rule_set}
 use Rattle.frame.proofs.RuleLaws.{rule_set-lt, with-bit-lt}

@@ -1,6 +1,6 @@
 -- `edge::fitting` meets its contract. Assumes nothing.
 use Rattle.frame.specs.Edges.{fitting}
-use Rattle.frame.proofs.ReadLaws.{fitting-hit, fitting-miss}
+use Rattle.frame.proofs.ReadLaws.{fitting-hit}
 use borrow.Author.Rules.{rules}
 use Rattle.laws.proofs.Tests.{tests}
 use Rattle.frame.proofs.edge.fitting.Goals as goal

@@ -1,7 +1,6 @@
 -- `edge::is_arr` meets its contract. Assumes nothing.
 use Rattle.frame.specs.Edges.{has_form}
 use Rattle.laws.proofs.Tests.{tests}
-use borrow.Author.Rules.{rules}
 use Rattle.frame.proofs.edge.is_arr.Goals as goal
 
 pub returns-then-rule-lt32 : goal.returns-then-rule-lt32

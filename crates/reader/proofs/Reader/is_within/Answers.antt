@@ -1,7 +1,6 @@
 -- `Reader::is_within` meets its contract, bound by bound. Assumes nothing.
-use Rattle.std.proofs.Common.{Bool, true, false, ◌&&◌, ◌≡◌, sym, ap, ◌∙◌, leb}
+use Rattle.std.proofs.Common.{Bool, ◌&&◌, ◌≡◌, sym, ap, ◌∙◌, leb}
 use borrow.Author.Tests.{le-leb, lt-leb}
-use Rattle.reader.specs.declared.Reader.{Reader}
 use Rattle.reader.specs.Refusals.{fit_reader}
 use Rattle.reader.proofs.RefusalLaws.{fit-in-order}
 use Rattle.reader.proofs.Reader.is_within.Goals as goal

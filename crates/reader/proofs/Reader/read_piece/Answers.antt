@@ -1,5 +1,5 @@
 -- `Reader::read_piece` meets its contract. Assumes nothing.
-use Rattle.std.proofs.Common.{refl, rules, ◌∙◌}
+use Rattle.std.proofs.Common.{refl, rules}
 use Rattle.reader.proofs.RunLaws.{left-start, left-on, piece-ended, piece-read}
 use Rattle.reader.proofs.Reader.read_piece.Goals as goal
 

@@ -1,5 +1,5 @@
 -- `Tally::count` meets its contract, verdict by verdict. Assumes nothing.
-use Rattle.std.proofs.Common.{ℕ, ◌<◌, ◌^◌, ◌∙◌, rules}
+use Rattle.std.proofs.Common.{rules}
 use Rattle.reader.proofs.TallyLaws.{bump-min, tallied-refused}
 use Rattle.reader.proofs.Tally.count.Goals as goal
 

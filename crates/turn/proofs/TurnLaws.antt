@@ -13,16 +13,15 @@ use Rattle.table.proofs.LimitLaws.{within_limits-sound}
 use Rattle.laws.proofs.TestLaws.{T-of-true}
 use Rattle.table.specs.declared.kind.Finished.TheVariants as Done
 use Rattle.table.specs.Kind.{rule_fits}
-use Rattle.table.specs.Keys.{key_found}
 use Rattle.frame.specs.declared.Kind.TheVariants.{Object, Array}
 use Rattle.frame.specs.Frame.{frame_at, put_frame, kind_in}
 use Rattle.frame.proofs.KindLaws.{object-of-kind, array-of-kind}
 use Rattle.frame.specs.Edges.{edges_of}
-use Rattle.frame.specs.Ops.{keyed, valued, closed}
+use Rattle.frame.specs.Ops.{valued, closed}
 use Rattle.progress.specs.declared.Advanced.{Advanced}
 use Rattle.progress.specs.Progress.{advanced}
 use Rattle.progress.specs.Memory.{Mem, top_at, value_at, rules_at, perform, step_mem}
-use Rattle.turn.specs.Turn.{ClosedTo, named_at, turned}
+use Rattle.turn.specs.Turn.{ClosedTo, turned}
 
 -- ---- what the test of a table tells
 
@@ -43,12 +42,6 @@ top-object w l n e = simp (ne_eqb l 0 n, object-of-kind (frame_at w l) e)
 pub top-array : (w : List ℕ) (l : ℕ) → (l ≡ 0 → ⊥) → Array ≡ kind_in (frame_at w l) → Is.Array ≡ top_at w l
 unfolding top_at
 top-array w l n e = simp (ne_eqb l 0 n, array-of-kind (frame_at w l) e)
-
--- ---- the key
-
--- the number found goes into the frame
-pub named-of-found : (t : Table) (key : List ℕ) (len k l : ℕ) (w v : List ℕ) → k ≡ key_found t key len → v ≡ put_frame w l (keyed k (frame_at w l)) → v ≡ named_at t key len w l
-named-of-found t key len k l w v e f = rw (← e) f
 
 -- ---- closing
 

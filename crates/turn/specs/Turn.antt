@@ -5,9 +5,6 @@ use Rattle.table.specs.Kind.{rule_fits}
 use Rattle.table.specs.declared.kind.Finished.TheVariants as Done
 use Rattle.json_text.specs.declared.lexer.Step.{Step}
 use Rattle.table.specs.Table.{Table}
-use Rattle.table.specs.Keys.{key_found}
-use Rattle.frame.specs.Frame.{frame_at, put_frame}
-use Rattle.frame.specs.Ops.{keyed}
 use Rattle.progress.specs.Progress.{advanced}
 use Rattle.progress.specs.Memory.{Mem, mem, rules_at, value_at, perform}
 use Rattle.turn.specs.declared.Record.{Record}
@@ -20,10 +17,6 @@ memory r w = mem r.progress r.root r.key w
 pub record ClosedTo (t : Table) (w : List ℕ) (l : ℕ) (old new : Bool) (v : List ℕ) : Type 0 where
   pub root : new ≡ cond (eqb l 1) (rule_fits (rules_at t w l) 0) old
   pub work : v ≡ value_at t w (l - 1) (Done.Rules (rules_at t w l))
-
--- the buffer where the key of level l is finished, of which len characters are kept
-abbrev pub named_at : Table → List ℕ → ℕ → List ℕ → ℕ → List ℕ
-named_at t key len w l = put_frame w l (keyed (key_found t key len) (frame_at w l))
 
 -- the memory after byte b, of which the lexer makes the step st, with n frames
 abbrev pub turned : Table → ℕ → Mem → ℕ → Step → Mem

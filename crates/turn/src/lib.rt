@@ -7,7 +7,7 @@ ghost use Rattle.std.specs.Prelude.{◌≡◌};
 ghost use Rattle.table.specs.Flat.{table_in};
 ghost use Rattle.progress.specs.declared.Progress.{Progress};
 ghost use Rattle.progress.specs.Memory.{mem, top_at, perform};
-ghost use Rattle.turn.specs.Turn.{ClosedTo, memory, named_at, turned};
+ghost use Rattle.turn.specs.Turn.{ClosedTo, memory, turned};
 
 use frame::Kind;
 use json_text::lexer::{Step, Top};
@@ -39,29 +39,19 @@ pub fn top_of(work: &[u8], level: usize) -> Top
     }
 }
 
+// The value of a level is closed: it joins the level below. Gives whether the root fits rule 0, which is told where it is the root.
+fn close_value(work: &mut [u8], level: usize, root: bool, table: &[u8; 7920]) -> bool
+    ensures { ClosedTo (table_in table.now) work.old level root result work.new }
+{
+    let set = frame::close_level(work, level, table);
+    frame::value_level(work, act::down(level), table, Finished::Rules(set));
+    if level == 1 {
+        return kind::fits(ValueKind::Rule(0), Finished::Rules(set));
+    }
+    root
+}
+
 impl Record {
-    // The innermost value is closed: it joins the level below; the root tells whether it fits rule 0.
-    fn close_value(&mut self, work: &mut [u8], table: &[u8; 7920])
-        ensures progress { self.new.progress ≡ self.old.progress }
-        ensures key { self.new.key ≡ self.old.key }
-        ensures closed { ClosedTo (table_in table.now) work.old self.old.progress.level self.old.root self.new.root work.new }
-    {
-        let level = self.progress.level;
-        let set = frame::close_level(work, level, table);
-        frame::value_level(work, act::down(level), table, Finished::Rules(set));
-        if level == 1 {
-            self.root = kind::fits(ValueKind::Rule(0), Finished::Rules(set));
-        }
-    }
-
-    // The key is finished: its number goes into the frame of the level.
-    fn name(&self, work: &mut [u8], rules: Rules)
-        ensures { work.new ≡ named_at (table_in rules.entry.table.now) self.now.key self.now.progress.len work.old self.now.progress.level }
-    {
-        let number = keys::number(rules.table, &self.key, self.progress.len);
-        frame::key_level(work, self.progress.level, number);
-    }
-
     // Does a task to the root, the key and the frames, all but the progress: up is the level after the byte.
     fn perform(&mut self, task: Task, up: usize, work: &mut [u8], rules: Rules)
         ensures progress { self.new.progress ≡ self.old.progress }
@@ -76,13 +66,16 @@ impl Record {
                 self.key = [0; 32];
             }
             Task::Put(c) => key::keep_char(&mut self.key, self.progress.len, c),
-            Task::Named => self.name(work, rules),
+            Task::Named => {
+                let number = keys::number(table, &self.key, self.progress.len);
+                frame::key_level(work, level, number);
+            }
             Task::Open(object) => frame::open_level(work, up, object, table),
             Task::Finish(s) => frame::value_level(work, level, table, Finished::Scalar(s)),
-            Task::Close => self.close_value(work, table),
+            Task::Close => self.root = close_value(work, level, self.root, table),
             Task::FinishClose(s) => {
                 frame::value_level(work, level, table, Finished::Scalar(s));
-                self.close_value(work, table);
+                self.root = close_value(work, level, self.root, table);
             }
         }
     }

@@ -1,30 +1,24 @@
 -- `open::start_states` meets its contract. Assumes nothing.
 use Rattle.laws.specs.Bits.{set_all}
+use Rattle.laws.proofs.BitLaws.{set_all-more}
+use Rattle.table.specs.Flat.{table_in}
 use Rattle.frame.specs.Edges.{has_form}
 use Rattle.frame.specs.Frame.{number_of}
 use Rattle.frame.specs.Ops.{start_states}
-use Rattle.table.specs.Flat.{table_in}
-use Rattle.frame.proofs.QuietLaws.{set_all-quiet}
-use Rattle.frame.proofs.KindLaws.{number_of-nonzero}
-use Rattle.std.proofs.Common.{◌≡◌, ◌*◌, ◌+◌, sym, ap, ◌∙◌, replicate, arith, refl}
+use Rattle.frame.proofs.QuietLaws.{first-state}
+use Rattle.std.proofs.Common.{◌≡◌, ◌*◌, ap, ◌∙◌, replicate, arith, refl}
 use Rattle.frame.proofs.open.start_states.Goals as goal
-use Rattle.frame.proofs.open.start_states.Goals.{then-not-no_lines, else-not-no_lines}
 
-pub loop-i-init : goal.loop-i-init
+pub loop-r-init : goal.loop-r-init
 unfolding set_all
-loop-i-init c = refl
+loop-r-init c = refl
 
-pub loop-i-preserved : goal.loop-i-preserved
-loop-i-preserved c =
-    let a = c.args in
-    let f = (table_in a.table.now).forms in
-    let n = number_of a.kind in
-    let e : 8 * (c.loop-i.i + 1) ≡ 8 * c.loop-i.i + 8 = omega arith in
-    rw e (elim c.if-not-no_lines.branch [
-      | then-not-no_lines w ↦ w.states-is ∙ w.add_eight.ensures (replicate 64 0) c.loop-i.invariant
-      | else-not-no_lines w ↦ w.states-is ∙ c.loop-i.invariant ∙ sym (set_all-quiet f n (8 * c.loop-i.i) (replicate 64 0) (number_of-nonzero a.kind) (c.no_lines.ensures w.if-not-no_lines.false))
-    ])
+pub loop-r-preserved : goal.loop-r-preserved
+loop-r-preserved c =
+    set_all-more _ _ _ _ _ _ _ _ c.loop-r.invariant c.is_of_kind.ensures refl (rw c.from.ensures (first-state c.loop-r.states c.loop-r.r c.is_of_kind.result))
 
 pub returns : goal.returns
 unfolding start_states
-returns c = let e : 8 * c.loop-i.i ≡ 32 = omega arith in c.loop-i.invariant ∙ ap (λ n. set_all (has_form (table_in c.args.table.now).forms (number_of c.args.kind)) (λ r. 16 * r) n (replicate 64 0)) e
+returns c =
+    let e : c.loop-r.r ≡ 32 = omega arith in
+    c.loop-r.invariant ∙ ap (λ n. set_all (has_form (table_in c.args.table.now).forms (number_of c.args.kind)) (λ r. 16 * r) n (replicate 64 0)) e

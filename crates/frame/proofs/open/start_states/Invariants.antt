@@ -1,4 +1,4 @@
--- `open::start_states` meets its contract. The loop has set the bits of the rules below 8 i. Assumes nothing.
+-- `open::start_states` meets its contract. The loop has set the bits of the rules below r. Assumes nothing.
 use Rattle.std.proofs.Common.{◌≡◌, ◌*◌, replicate}
 use Rattle.laws.specs.Bits.{set_all}
 use Rattle.table.specs.Flat.{table_in}
@@ -6,5 +6,5 @@ use Rattle.frame.specs.Edges.{has_form}
 use Rattle.frame.specs.Frame.{number_of}
 use Rattle.frame.proofs.open.start_states.Given as goal
 
-abbrev pub invariant-loop-i : goal.invariant-loop-i
-invariant-loop-i l = l.states ≡ set_all (has_form (table_in l.table).forms (number_of l.kind)) (λ r. 16 * r) (8 * l.i) (replicate 64 0)
+abbrev pub invariant-loop-r : goal.invariant-loop-r
+invariant-loop-r l = l.states ≡ set_all (has_form (table_in l.table).forms (number_of l.kind)) (λ r. 16 * r) l.r (replicate 64 0)

@@ -1,4 +1,4 @@
--- State 0 of a rule, and bytes that are 0, which a loop passes over: no state. Assumes nothing.
+-- Bytes that are 0, which loops pass over: no state, and no rule with lines. Assumes nothing.
 use mathlib.Core.Bool.{Bool, true, false, cond, not, and-false}
 use mathlib.Core.List.{List}
 use mathlib.Core.Path.{◌≡◌, ap, ◌∙◌}
@@ -10,11 +10,31 @@ use lib.Dec.{eqb}
 use mir.Val.{bool_byte}
 use lib.ListN.{get_or, set}
 use lib.Seq.{set-get_or}
-use Rattle.laws.specs.Bits.{set_bit}
+use borrow.Author.Tests.{ne_eqb}
+use Rattle.laws.specs.Bits.{set_bit, set_all}
+use Rattle.frame.specs.Edges.{has_form}
 use Rattle.frame.specs.Ops.{accepting, has_end, rule_set}
 use Rattle.frame.proofs.RuleLaws.{has_end-of-bytes}
 
--- ---- the first state of a rule
+-- ---- rules without lines
+
+-- where no number of m more passes, no bit more is set
+pub set_all-same : (p : ℕ → Bool) (f : ℕ → ℕ) (n m : ℕ) (xs : List ℕ) → ((k : ℕ) → k < m → p (n + k) ≡ false) → set_all p f (n + m) xs ≡ set_all p f n xs
+unfolding set_all
+set_all-same p f n zero xs h = ap (λ (k : ℕ). set_all p f k xs) (add-zero n)
+set_all-same p f n (suc m) xs h =
+    ap (λ (k : ℕ). set_all p f k xs) (add-suc n m) ∙ rw (h m (le_refl (suc m))) (set_all-same p f n m xs (λ k l. h k (omega arith)))
+
+-- a rule without lines has no form but 0
+has_form-quiet : (forms : List ℕ) (form r : ℕ) → 0 < form → get_or forms r 0 ≡ 0 → has_form forms form r ≡ false
+unfolding has_form
+has_form-quiet forms form r h e = rw (ne_eqb (get_or forms r 0) form (λ q. omega arith), and-false)
+
+-- eight rules without lines have no states to start in
+pub set_all-quiet : (forms : List ℕ) (form r : ℕ) (xs : List ℕ) → 0 < form → ((k : ℕ) → k < 8 → get_or forms (r + k) 0 ≡ 0)
+    → set_all (has_form forms form) (λ i. 16 * i) (r + 8) xs ≡ set_all (has_form forms form) (λ i. 16 * i) r xs
+set_all-quiet forms form r xs h e =
+    set_all-same (has_form forms form) (λ i. 16 * i) r 8 xs (λ k l. has_form-quiet forms form (r + k) h (e k l))
 
 -- state 0 of rule r is bit 0 of byte 2 r
 pub first-state : (s : List ℕ) (r : ℕ) (on : Bool) → set s (2 * r) (bit_or (get_or s (2 * r) 0) (bool_byte on)) ≡ cond on (set_bit s (16 * r)) s

@@ -36,7 +36,8 @@ fn walk_byte<'a>(states: &mut States, frame: &'a Frame, table: &'a [u8; 7920], i
 fn walk<'a>(frame: &'a Frame, table: &'a [u8; 7920]) -> States
     ensures { result ≡ walked (edges_in (table_in table.now)) frame.now 0 (start_states (table_in table.now).forms 1) 128 }
 {
-    let mut states = open::start_states(table, Kind::Object);
+    let mut states = [0; 64];
+    open::add_starts(&mut states, table, Kind::Object);
     for i in 0..16 {
         walk_byte(&mut states, frame, table, i);
     }

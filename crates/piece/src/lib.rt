@@ -25,6 +25,7 @@ fn ends_record(x: Progress, b: u8) -> bool
 // Reads the byte at place i, with its step: an RS that ends the record, or a byte of it.
 fn read_byte(
     record: &mut Record,
+    key: &mut [u8; 32],
     work: &mut [u8],
     rules: Rules,
     piece: &[u8],
@@ -32,13 +33,13 @@ fn read_byte(
     step: Step,
 ) -> ControlFlow<usize, usize>
     requires { (i < length piece.now) × StepsAs record.old.progress rules.frames work.old (get_or piece.now i 0) step }
-    ensures { MatchControlFlow result (λ at. WentTo (table_in rules.entry.table.now) rules.entry.frames (memory record.old work.old) piece.now i (memory record.new work.new) at false) (λ at. WentTo (table_in rules.entry.table.now) rules.entry.frames (memory record.old work.old) piece.now i (memory record.new work.new) at true) }
+    ensures { MatchControlFlow result (λ at. WentTo (table_in rules.entry.table.now) rules.entry.frames (memory record.old key.old work.old) piece.now i (memory record.new key.new work.new) at false) (λ at. WentTo (table_in rules.entry.table.now) rules.entry.frames (memory record.old key.old work.old) piece.now i (memory record.new key.new work.new) at true) }
 {
     let b = piece[i];
     if ends_record(record.progress, b) {
         return ControlFlow::Break(i + 1);
     }
-    record.turn(step, work, rules, b);
+    record.turn(step, key, work, rules, b);
     ControlFlow::Continue(i + 1)
 }
 
@@ -46,6 +47,7 @@ fn read_byte(
 // later place.
 pub fn read_on(
     record: &mut Record,
+    key: &mut [u8; 32],
     work: &mut [u8],
     rules: Rules,
     classes: &[u8; 256],
@@ -53,14 +55,14 @@ pub fn read_on(
     i: usize,
 ) -> ControlFlow<usize, usize>
     requires { (classes.now ≡ class_table) × (i < length piece.now) }
-    ensures { MatchControlFlow result (λ at. WentTo (table_in rules.entry.table.now) rules.entry.frames (memory record.old work.old) piece.now i (memory record.new work.new) at false) (λ at. WentTo (table_in rules.entry.table.now) rules.entry.frames (memory record.old work.old) piece.now i (memory record.new work.new) at true) }
+    ensures { MatchControlFlow result (λ at. WentTo (table_in rules.entry.table.now) rules.entry.frames (memory record.old key.old work.old) piece.now i (memory record.new key.new work.new) at false) (λ at. WentTo (table_in rules.entry.table.now) rules.entry.frames (memory record.old key.old work.old) piece.now i (memory record.new key.new work.new) at true) }
 {
-    let kept = pass::keep(classes, record.progress, &mut record.key, piece, i);
+    let kept = pass::keep(classes, record.progress, key, piece, i);
     let top = top_of(work, kept.progress.level);
     let passed = pass::pass(classes, kept.progress, top, piece, kept.at);
     record.progress = passed.progress;
     if passed.at < piece.len() {
-        return read_byte(record, work, rules, piece, passed.at, passed.step);
+        return read_byte(record, key, work, rules, piece, passed.at, passed.step);
     }
     ControlFlow::Continue(passed.at)
 }

@@ -175,10 +175,9 @@ impl Reader {
     }
 
     // The reader with another open record.
-    fn with_record(self, open: Record) -> Reader
-        ensures { result ≡ record { frames = self.frames; progress = open.progress; root = open.root; key = open.key; tally = self.tally } }
+    fn with_record(self, open: Record, key: [u8; 32]) -> Reader
+        ensures { result ≡ record { frames = self.frames; progress = open.progress; root = open.root; key = key; tally = self.tally } }
     {
-        let key = open.key;
         Reader {
             progress: open.progress,
             root: open.root,
@@ -207,19 +206,19 @@ impl Reader {
         let mut record = Record {
             progress: self.progress,
             root: self.root,
-            key: self.key,
         };
+        let mut key = self.key;
         let mut i = 0;
         while i < piece.len() {
-            match piece::read_on(&mut record, work, rules, &classes, piece, i) {
+            match piece::read_on(&mut record, &mut key, work, rules, &classes, piece, i) {
                 ControlFlow::Continue(at) => i = at,
                 ControlFlow::Break(at) => {
-                    *self = self.with_record(record);
+                    *self = self.with_record(record, key);
                     return (at, Answer::Judged(self.end_record(false)));
                 }
             }
         }
-        *self = self.with_record(record);
+        *self = self.with_record(record, key);
         (i, Answer::Quiet)
     }
 }

@@ -9,9 +9,9 @@ use Rattle.progress.specs.Progress.{advanced}
 use Rattle.progress.specs.Memory.{Mem, mem, rules_at, value_at, perform}
 use Rattle.turn.specs.declared.Record.{Record}
 
--- the memory of an open record whose frames are in the buffer w
-abbrev pub memory : Record → List ℕ → Mem
-memory r w = mem r.progress r.root r.key w
+-- the memory of an open record with its key, whose frames are in the buffer w
+abbrev pub memory : Record → List ℕ → List ℕ → Mem
+memory r key w = mem r.progress r.root key w
 
 -- the value of level l is closed: what becomes of the root and of the buffer
 pub record ClosedTo (t : Table) (w : List ℕ) (l : ℕ) (old new : Bool) (v : List ℕ) : Type 0 where

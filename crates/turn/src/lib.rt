@@ -16,14 +16,13 @@ use rules::Rules;
 use table::kind::{Finished, ValueKind};
 use table::{keys, kind};
 
-// The open record between two bytes, its frames aside.
+// The open record between two bytes, its key and its frames aside.
+// Stays: the key apart, since an array that is read by index keeps the whole record in memory, which costs 4 in 100 instructions.
 #[derive(Clone, Copy)]
 pub struct Record {
     pub progress: Progress,
     // the root is closed, and fits rule 0
     pub root: bool,
-    // the characters of the open key
-    pub key: [u8; 32],
 }
 
 // The kind of the innermost open value.
@@ -53,9 +52,9 @@ fn close_value(work: &mut [u8], level: usize, root: bool, table: &[u8; 7920]) ->
 
 impl Record {
     // Does a task to the root, the key and the frames, all but the progress: up is the level after the byte.
-    fn perform(&mut self, task: Task, up: usize, work: &mut [u8], rules: Rules)
+    fn perform(&mut self, task: Task, up: usize, key: &mut [u8; 32], work: &mut [u8], rules: Rules)
         ensures progress { self.new.progress ≡ self.old.progress }
-        ensures performed { (x : Progress) → x.level ≡ up → mem x self.new.root self.new.key work.new ≡ perform task (table_in rules.entry.table.now) (memory self.old work.old) x }
+        ensures performed { (x : Progress) → x.level ≡ up → mem x self.new.root key.new work.new ≡ perform task (table_in rules.entry.table.now) (memory self.old key.old work.old) x }
     {
         let table = rules.table;
         let level = self.progress.level;
@@ -63,11 +62,11 @@ impl Record {
             Task::Idle => {}
             Task::Begin => {
                 self.root = false;
-                self.key = [0; 32];
+                *key = [0; 32];
             }
-            Task::Put(c) => key::keep_char(&mut self.key, self.progress.len, c),
+            Task::Put(c) => key::keep_char(key, self.progress.len, c),
             Task::Named => {
-                let number = keys::number(table, &self.key, self.progress.len);
+                let number = keys::number(table, key, self.progress.len);
                 frame::key_level(work, level, number);
             }
             Task::Open(object) => frame::open_level(work, up, object, table),
@@ -81,11 +80,11 @@ impl Record {
     }
 
     // The byte b, of which the lexer makes a step: the record after it, its key and its frames.
-    pub fn turn(&mut self, step: Step, work: &mut [u8], rules: Rules, b: u8)
-        ensures { memory self.new work.new ≡ turned (table_in rules.entry.table.now) rules.entry.frames (memory self.old work.old) b step }
+    pub fn turn(&mut self, step: Step, key: &mut [u8; 32], work: &mut [u8], rules: Rules, b: u8)
+        ensures { memory self.new key.new work.new ≡ turned (table_in rules.entry.table.now) rules.entry.frames (memory self.old key.old work.old) b step }
     {
         let next = progress::advance(self.progress, rules.frames, b, step);
-        self.perform(next.task, next.progress.level, work, rules);
+        self.perform(next.task, next.progress.level, key, work, rules);
         self.progress = next.progress;
     }
 }

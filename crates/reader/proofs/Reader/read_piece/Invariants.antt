@@ -9,7 +9,7 @@ use Rattle.reader.proofs.Reader.read_piece.Given as goal
 
 abbrev pub invariant-loop-i : goal.invariant-loop-i
 invariant-loop-i l =
-    record { reader : l.self ≡ l.fn.self; left : Left (table_in l.rules.table.now) l.rules.frames l.piece (memory_of l.fn.self l.fn.work) (memory l.record l.work) l.i }
+    record { reader : l.self ≡ l.fn.self; left : Left (table_in l.rules.table.now) l.rules.frames l.piece (memory_of l.fn.self l.fn.work) (memory l.record l.key l.work) l.i }
 
 abbrev pub decreases-loop-i : goal.decreases-loop-i
 decreases-loop-i l = length l.piece - l.i

@@ -1,5 +1,5 @@
 -- The walk from its first byte to the verdict, in the form of the code's needs. Assumes nothing.
-use Rattle.std.specs.Prelude.{Ok, None}
+use Rattle.std.specs.Prelude.{Option, Ok, None}
 use mathlib.Core.Bool.{Bool, true, false, cond}
 use mathlib.Core.List.{List, [], ◌∷◌}
 use mathlib.Core.Path.{◌≡◌, refl, sym, ap, subst, ◌∙◌}
@@ -10,7 +10,6 @@ use lib.IntN.{ℤ, pos}
 use lib.ListN.{length, take, replicate}
 use lib.Seq.{take_all}
 use Rattle.laws.specs.Lists.{any}
-use Rattle.std.specs.Prelude.{Option}
 use Rattle.std.specs.Bool.{then_some}
 use Rattle.table.specs.Table.{Table}
 use Rattle.book.specs.Examples.{book_b}

@@ -1,6 +1,5 @@
 -- What a turn of the walk gives. Derived: the laws in proofs/ carry `Walked` over it. Assumes nothing.
-use Rattle.std.specs.Prelude.{Ok, Err, Some, None}
-use Rattle.std.specs.Prelude.{Bool, true, false, List, ◌≡◌, ℕ, ◌<◌, ℤ, length, Option, Some, None}
+use Rattle.std.specs.Prelude.{Bool, true, false, List, ◌≡◌, ℕ, ◌<◌, ℤ, length, Option, Some, None, Ok, Err}
 use Rattle.table.specs.Table.{Table}
 use Rattle.reader.specs.declared.Reader.{Reader}
 use Rattle.reader.specs.Answer.{Answer}

@@ -1,6 +1,5 @@
 -- A stream that the library starts, feeds in pieces and closes, and the entries of the answers: docs/LIBRARY.md. Stated. Assumes nothing.
-use Rattle.std.specs.Prelude.{Ok, Err, Some, None}
-use Rattle.std.specs.Prelude.{Bool, true, false, cond, List, [], ◌∷◌, ◌++◌, ◌≡◌, ℕ, zero, suc, ◌+◌, ◌-◌, ◌%◌, eqb, ltb, length, take, drop}
+use Rattle.std.specs.Prelude.{Bool, true, false, cond, List, [], ◌∷◌, ◌++◌, ◌≡◌, ℕ, zero, suc, ◌+◌, ◌-◌, ◌%◌, eqb, ltb, length, take, drop, Ok, Err, Some, None}
 use Rattle.table.specs.Table.{Table}
 use Rattle.reader.specs.declared.Reader.{Reader}
 use Rattle.reader.specs.Answer.{Answer}

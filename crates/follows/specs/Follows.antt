@@ -1,7 +1,6 @@
 -- What the memory of a reader shows of the machine that finds verdicts: the frames its stack, the kept characters its key, the counts its number.
 -- Derived, nothing to believe: `tracks-step` and `judged-part` in proofs/ join it to the track of crate verdict. Assumes nothing.
-use Rattle.std.specs.Prelude.{Some, None}
-use Rattle.std.specs.Prelude.{Bool, true, false, not, ◌⊎◌, ◌≡◌, ℕ, suc, ◌*◌, ◌≤◌, ◌<◌, T, eqb, ltb, length, take}
+use Rattle.std.specs.Prelude.{Bool, true, false, not, ◌⊎◌, ◌≡◌, ℕ, suc, ◌*◌, ◌≤◌, ◌<◌, T, eqb, ltb, length, take, Some, None}
 use mathlib.Core.List.{List, [], ◌∷◌, Memᴰ}
 use Rattle.laws.specs.Lists.{all, any}
 use Rattle.json_text.specs.Machine.{Stack, bare, whole, in_array, in_object, depth, Token, State, at}

@@ -4,11 +4,9 @@ use mathlib.Core.List.{List, []}
 use mathlib.Core.Path.{◌≡◌, refl, sym}
 use Prim.Native.Nat.{ℕ, ◌<◌, ◌≤◌}
 use native.Mathlib.Nat.{zero-div}
-use native.Mathlib.Omega.{arith}
 use lib.Dec.{ltb}
-use lib.ListN.{length, get_or, take, drop, length-drop}
-use lib.Seq.{take_all}
-use borrow.Author.Tests.{lt-ltb, le-ltb, eq-eqb, ne_eqb}
+use lib.ListN.{get_or, drop}
+use borrow.Author.Tests.{lt-ltb, le-ltb}
 use Rattle.table.specs.Kind.{rule_fits}
 use Rattle.frame.specs.Frame.{is_object, marked}
 use Rattle.frame.specs.Edges.{Edges}
@@ -39,23 +37,20 @@ module _ (t : Edges) (forms ends : List ℕ) where
 
   module _ (f : List ℕ) where
     -- no rule fits an object that met an unknown or repeated key
-    pub closed-marked : get_or f 0 0 ≡ 1 → 0 < get_or f 2 0 → 0 ≡ closed t forms ends f
-    unfolding closed is_object marked
-    closed-marked o m = rw (eq-eqb (get_or f 0 0) 1 o, lt-ltb 0 (get_or f 2 0) m)
+    pub closed-marked : is_object f ≡ true → 0 < get_or f 2 0 → 0 ≡ closed t forms ends f
+    unfolding closed marked
+    closed-marked o m = rw (o, lt-ltb 0 (get_or f 2 0) m)
 
     -- the rules that an object without the mark fits are those that accept after the walk
-    pub closed-object : (s : List ℕ) (n : ℕ) → get_or f 0 0 ≡ 1 → get_or f 2 0 ≤ 0 → s ≡ walked t f 0 (start_states forms 1) 128
+    pub closed-object : (s : List ℕ) (n : ℕ) → is_object f ≡ true → get_or f 2 0 ≤ 0 → s ≡ walked t f 0 (start_states forms 1) 128
         → n ≡ rule_set (accepting forms ends 1 s) 32 → n ≡ closed t forms ends f
-    unfolding closed is_object marked
-    closed-object s n o m h q = rw (eq-eqb (get_or f 0 0) 1 o, le-ltb 0 (get_or f 2 0) m, ← h) q
+    unfolding closed marked
+    closed-object s n o m h q = rw (o, le-ltb 0 (get_or f 2 0) m, ← h) q
 
     -- the rules that an array fits are those that accept by its states, the bytes from 32 on
-    pub closed-array : (n : ℕ) → length f ≡ 96 → (get_or f 0 0 ≡ 1 → ⊥) → n ≡ rule_set (accepting forms ends 2 (take 64 (drop 32 f))) 32
-        → n ≡ closed t forms ends f
-    unfolding closed is_object
-    closed-array n l o q =
-        let e : take 64 (drop 32 f) ≡ drop 32 f = take_all 64 (drop 32 f) (simp length-drop (omega arith)) in
-        rw (ne_eqb (get_or f 0 0) 1 o, ← e) q
+    pub closed-array : (s : List ℕ) (n : ℕ) → is_object f ≡ false → s ≡ drop 32 f → n ≡ rule_set (accepting forms ends 2 s) 32 → n ≡ closed t forms ends f
+    unfolding closed
+    closed-array s n o e q = rw (o, ← e) q
 
     -- ---- the rules that fit, by membership
 

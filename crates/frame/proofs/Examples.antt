@@ -13,7 +13,8 @@ use Rattle.table.specs.declared.kind.Scalar.TheVariants.{Null, Str, Num, Int}
 use Rattle.table.specs.declared.kind.Finished.{Finished}
 use Rattle.table.specs.declared.kind.Finished.TheVariants as Done
 use Rattle.frame.specs.Edges.{Edges, edges_of, has_form, state_number, fits_code, fitting, stepping, walking}
-use Rattle.frame.specs.Frame.{has_frame, frame_at, put_frame, is_object, kind_number, current_key, marked, seen_in, held_in}
+use Rattle.frame.specs.declared.Kind.TheVariants.{Array}
+use Rattle.frame.specs.Frame.{has_frame, frame_at, put_frame, is_object, kind_in, current_key, marked, seen_in, held_in}
 use Rattle.frame.specs.Ops.{start_states, opened, keyed, with_edges, with_states, valued, key_states, walked, has_end, accepting, rule_set, closed}
 
 -- ---- book B: the keys are corners, 0, and name, 1; the edges are `corners r1`, `name str`, `r2`, `int` and `int`
@@ -190,8 +191,8 @@ frames =
     ∷ []
 
 -- a kind of 7 is an array's
-pub kind-of-seven : kind_number (frame (at 0 7 ∷ [])) ≡ 2
-unfolding kind_number is_object frame bytes
+pub kind-of-seven : kind_in (frame (at 0 7 ∷ [])) ≡ Array
+unfolding kind_in is_object frame bytes
 kind-of-seven = refl
 
 -- a current key of 128 is unknown: an array that rule 2 fits adds no edge, though edge 2 asks for rule 2 and has no key

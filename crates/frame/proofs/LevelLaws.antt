@@ -1,19 +1,17 @@
 -- Laws of `frame_at` and `put_frame`: what a level reads and what it leaves. Assumes nothing.
-use mathlib.Core.Bool.{Bool, true, false, cond, ◌&&◌}
-use mathlib.Core.List.{List, [], ◌++◌, append_assoc}
+use mathlib.Core.Bool.{Bool, true, false, cond, ◌&&◌, and-false}
+use mathlib.Core.List.{List, [], ◌++◌, append_assoc, append-nil}
 use mathlib.Core.Logic.{◌⊎◌, inr, ⊎_elim}
 use mathlib.Core.Path.{◌≡◌, refl, sym, ap, ◌∙◌}
 use Prim.Native.Nat.{ℕ, zero, suc, ◌*◌, ◌+◌, ◌-◌, ◌<◌, ◌≤◌}
 use native.Mathlib.Decide.{dec_lt}
-use native.Mathlib.Nat.{add-zero}
 use native.Mathlib.Omega.{arith}
-use lib.Dec.{eqb, ltb, leb, ltb→lt, leb→le, lit<}
-use lib.ListN.{length, get_or, take, drop, length-append, length-drop, take-append-drop, get_or-append}
-use lib.Seq.{take_at, drop_at, drop-drop, length-take-le, take-append-le, drop-append-le, drop-append-add, get_or-take, get_or-drop}
-use borrow.Author.Tests.{lt-ltb, le-leb}
+use lib.Dec.{ltb, leb, ltb→lt, leb→le}
+use lib.ListN.{length, get_or, take, drop, length-append, length-drop, take-append-drop, drop_of_length-le, get_or-append}
+use lib.Seq.{take_all, take_at, drop_at, drop-drop, length-take-le, take-append-le, drop-append-le, drop-append-add, get_or-take, get_or-drop}
+use borrow.Author.Tests.{lt-ltb, le-leb, le-ltb, lt-leb}
 use Rattle.laws.proofs.TestLaws.{true-of-T, T-of-true, T-and-left, T-and-right, cond-elim}
-use Rattle.frame.specs.Frame.{frame_count, frame_start, has_frame, frame_at, put_frame, is_object, kind_number}
-use Rattle.frame.specs.Place.{frame_place}
+use Rattle.frame.specs.Frame.{frame_count, frame_start, has_frame, frame_at, put_frame}
 
 -- ---- where a level's frame is
 
@@ -33,27 +31,18 @@ pub has_frame-of-le : (n size l : ℕ) → n ≤ 64 → 96 * n ≤ size → 1 �
 unfolding has_frame
 has_frame-of-le n size l few long lo hi = rw (lt-ltb 0 l lo, le-leb l (frame_count size) (omega arith))
 
--- a place before the end is that of a frame
-pub frame-of-place : (n l a : ℕ) → a ≡ frame_place n l → a < n → (has_frame n l ≡ true) × (a ≡ frame_start l)
-unfolding frame_place
-frame-of-place n l a p h = go (has_frame n l) refl p
-  where
-    go : (b : Bool) → has_frame n l ≡ b → a ≡ cond b (frame_start l) n → (has_frame n l ≡ true) × (a ≡ frame_start l)
-    go true e q = (e, q)
-    go false e q = absurd (omega arith)
+-- a level below 1, or above those counted, has none
+pub no_frame-below : (n l : ℕ) → l ≤ 0 → has_frame n l ≡ false
+unfolding has_frame
+no_frame-below n l h = rw (le-ltb 0 l h)
 
--- the buffer has the 96 bytes of a frame from its place on
-pub fits-of-place : (n l a : ℕ) → a ≡ frame_place n l → a < n → a + 96 ≤ n
-fits-of-place n l a p h = let f = frame-of-place n l a p h in let g = fits-of-has_frame n l f.0 in omega arith
+pub no_frame-above : (n l : ℕ) → frame_count n < l → has_frame n l ≡ false
+unfolding has_frame
+no_frame-above n l h = rw (lt-leb l (frame_count n) h, and-false)
 
--- the place at the end is that of no frame
-pub none-of-place : (n l a : ℕ) → a ≡ frame_place n l → n ≤ a → has_frame n l ≡ false
-unfolding frame_place
-none-of-place n l a p h = go (has_frame n l) refl p
-  where
-    go : (b : Bool) → has_frame n l ≡ b → a ≡ cond b (frame_start l) n → has_frame n l ≡ false
-    go true e q = let g = fits-of-has_frame n l e in absurd (omega arith)
-    go false e q = e
+pub has_frame-counted : (n l : ℕ) → 0 < l → l ≤ frame_count n → has_frame n l ≡ true
+unfolding has_frame
+has_frame-counted n l lo hi = rw (lt-ltb 0 l lo, le-leb l (frame_count n) hi)
 
 -- ---- a level without a frame
 
@@ -65,38 +54,25 @@ pub put_frame-none : (w f : List ℕ) (l : ℕ) → has_frame (length w) l ≡ f
 unfolding put_frame
 put_frame-none w f l e = rw e
 
--- ---- a frame that was lent as the 96 bytes from its place on
+-- ---- a frame that was lent as the first 96 bytes of a part
 
-module _ (w : List ℕ) (l a : ℕ) (p : a ≡ frame_place (length w) l) (h : a < length w) where
-  -- the lent bytes are the frame
-  pub frame_at-of-lent : take (a + 96 - a) (drop a w) ≡ frame_at w l
-  unfolding frame_at
-  frame_at-of-lent =
-      let f = frame-of-place (length w) l a p h in
-      let k : a + 96 - a ≡ 96 = omega arith in
-      rw (k, f.0, f.1)
+-- what is lent from the place of a level on begins with its frame
+pub frame_at-of-part : (w : List ℕ) (l a n : ℕ) → has_frame (length w) l ≡ true → a ≡ frame_start l → length w ≤ a + n
+    → take 96 (take n (drop a w)) ≡ frame_at w l
+unfolding frame_at
+frame_at-of-part w l a n e p h =
+    let d : length (drop a w) ≤ n = simp length-drop (omega arith) in
+    rw (e, take_all n (drop a w) d, p)
 
-  -- the lent bytes are given back as op made them of the frame
-  pub put_frame-of-lent : (op : List ℕ → List ℕ) (g : List ℕ) → g ≡ op (take (a + 96 - a) (drop a w))
-      → take a w ++ (g ++ drop (a + 96 - a) (drop a w)) ≡ put_frame w l (op (frame_at w l))
-  unfolding put_frame frame_at
-  put_frame-of-lent op g e =
-      let f = frame-of-place (length w) l a p h in
-      let k : a + 96 - a ≡ 96 = omega arith in
-      rw (e, k, f.0, f.1)
+-- and comes back with the frame that was put there
+pub put_frame-of-part : (w f v : List ℕ) (l a n : ℕ) → has_frame (length w) l ≡ true → a ≡ frame_start l → length w ≤ a + n
+    → v ≡ f ++ drop 96 (take n (drop a w)) → take a w ++ (v ++ drop n (drop a w)) ≡ put_frame w l f
+unfolding put_frame
+put_frame-of-part w f v l a n e p h q =
+    let d : length (drop a w) ≤ n = simp length-drop (omega arith) in
+    rw (q, take_all n (drop a w) d, drop_of_length-le (drop a w) d, append-nil, e, p)
 
 -- ---- the bytes of a frame
-
-pub get_d-frame_at : (w : List ℕ) (l i : ℕ) → has_frame (length w) l ≡ true → i < 96 → get_or (frame_at w l) i 0 ≡ get_or w (frame_start l + i) 0
-unfolding frame_at
-get_d-frame_at w l i e h = rw e (get_or-take 96 (drop (frame_start l) w) i 0 h ∙ get_or-drop (frame_start l) w i 0)
-
--- the kind of a frame is that of the byte at its place
-pub kind_number-of-place : (w : List ℕ) (l a : ℕ) → a ≡ frame_place (length w) l → a < length w → kind_number (frame_at w l) ≡ cond (eqb (get_or w a 0) 1) 1 2
-unfolding kind_number is_object
-kind_number-of-place w l a p h =
-    let f = frame-of-place (length w) l a p h in
-    rw (get_d-frame_at w l 0 f.0 (lit< tt), add-zero (frame_start l), f.1)
 
 -- a frame has 96 bytes
 pub length-frame_at : (w : List ℕ) (l : ℕ) → has_frame (length w) l ≡ true → length (frame_at w l) ≡ 96

@@ -1,5 +1,5 @@
-pub mod ListLaws
 pub mod LevelLaws
+pub mod KindLaws
 pub mod PartLaws
 pub mod EdgeLaws
 pub mod MaskLaws
@@ -9,7 +9,6 @@ pub mod ValueLaws
 pub mod WalkLaws
 pub mod RuleLaws
 pub mod QuietLaws
-pub mod SkipLaws
 pub mod CloseLaws
 pub mod Examples
 pub mod ReadLaws

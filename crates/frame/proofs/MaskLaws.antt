@@ -1,13 +1,13 @@
 -- A mask has the code of each kind that the value fits, and no other. Assumes nothing.
-use mathlib.Core.Bool.{Bool, true, false, beq}
+use mathlib.Core.Bool.{Bool, true, false, cond, beq}
 use mathlib.Core.Path.{◌≡◌, sym, ap, ◌∙◌}
 use Prim.Native.Nat.{ℕ, zero, suc, ◌+◌, ◌-◌, ◌*◌, ◌/◌, ◌%◌, ◌^◌, ◌<◌, ◌≤◌}
 use native.Mathlib.Decide.{dec_lt}
-use native.Mathlib.Nat.{div-eq_of_lt, lt_of_lt_of_le}
+use native.Mathlib.Nat.{div-eq_of_lt, lt_of_lt_of_le, mod-eq_of_lt}
 use native.Mathlib.Omega.{arith}
-use lib.Dec.{T, eqb}
+use lib.Dec.{T, eqb, ltb}
 use lib.Pow.{shl_exact, shl-shr, shr-shr, pow_mono}
-use borrow.Author.Tests.{lt-ltb, le-ltb, ne_eqb}
+use borrow.Author.Tests.{lt-ltb, le-ltb, eq-eqb, ne_eqb}
 use Rattle.laws.specs.Tab.{every}
 use Rattle.laws.proofs.TestLaws.{eq-of-beq}
 use Rattle.laws.proofs.TabLaws.{T-of-every}
@@ -19,6 +19,26 @@ use Rattle.table.specs.declared.kind.ValueKind.TheVariants.{Plain, Rule}
 use Rattle.table.specs.declared.kind.Finished.TheVariants as Done
 use Rattle.frame.specs.Edges.{fits_code}
 use Rattle.frame.specs.Mask.{mask_has, bit_if_fits, scalar_mask}
+
+-- ---- the test of a code, first by its last six bits
+
+-- a code whose bit is set is the mask's where it is below 64
+pub mask_has-low : (m c : ℕ) → m / 2 ^ (c % 64) % 2 ≡ 1 → ltb c 64 ≡ mask_has m c
+unfolding mask_has
+mask_has-low m c h = go (dec_lt c 64)
+  where
+    go : Dec (c < 64) → ltb c 64 ≡ cond (ltb c 64) (eqb (m / 2 ^ c % 2) 1) false
+    go (yes l) = rw (lt-ltb c 64 l) (sym (eq-eqb (m / 2 ^ c % 2) 1 (rw (mod-eq_of_lt l) at h)))
+    go (no l) = rw (le-ltb c 64 (omega arith))
+
+-- a code whose bit is not set is not
+pub mask_has-none : (m c : ℕ) → (m / 2 ^ (c % 64) % 2 ≡ 1 → ⊥) → false ≡ mask_has m c
+unfolding mask_has
+mask_has-none m c h = go (dec_lt c 64)
+  where
+    go : Dec (c < 64) → false ≡ cond (ltb c 64) (eqb (m / 2 ^ c % 2) 1) false
+    go (yes l) = rw (lt-ltb c 64 l) (sym (ne_eqb (m / 2 ^ c % 2) 1 (λ e. h (rw (mod-eq_of_lt l) e))))
+    go (no l) = rw (le-ltb c 64 (omega arith))
 
 -- a code from 6 on is that of a rule
 pub kind_of-rule : (c : ℕ) → 6 ≤ c → kind_of c ≡ Rule (c - 6)

@@ -7,6 +7,7 @@ use native.Mathlib.Nat.{add-zero, add-suc, le_refl}
 use native.Mathlib.Omega.{arith}
 use lib.Bits.{bit_and, bit_or, or_zero_r, and_zero_l}
 use lib.Dec.{eqb}
+use mir.Val.{bool_byte}
 use lib.ListN.{get_or, set}
 use lib.Seq.{set-get_or}
 use borrow.Author.Tests.{ne_eqb}
@@ -36,7 +37,7 @@ set_all-quiet forms form r xs h e =
     set_all-same (has_form forms form) (λ i. 16 * i) r 8 xs (λ k l. has_form-quiet forms form (r + k) h (e k l))
 
 -- state 0 of rule r is bit 0 of byte 2 r
-pub first-state : (s : List ℕ) (r : ℕ) (on : Bool) → set s (2 * r) (bit_or (get_or s (2 * r) 0) (cond on 1 0)) ≡ cond on (set_bit s (16 * r)) s
+pub first-state : (s : List ℕ) (r : ℕ) (on : Bool) → set s (2 * r) (bit_or (get_or s (2 * r) 0) (bool_byte on)) ≡ cond on (set_bit s (16 * r)) s
 unfolding set_bit
 first-state s r true =
     let q : 16 * r / 8 ≡ 2 * r = omega arith in

@@ -13,11 +13,9 @@ use Rattle.table.specs.Flat.{table_in}
 use Rattle.table.proofs.FlatLaws.{get_d_part}
 use Rattle.frame.specs.Edges.{has_form, state_number, fitting, stepping, walking}
 use Rattle.frame.specs.Frame.{held_in}
-use Rattle.frame.specs.Mask.{mask_has}
 use Rattle.frame.specs.Ops.{has_end, accepting}
 use Rattle.frame.proofs.EdgeLaws.{has_form-below}
 use Rattle.frame.proofs.RuleLaws.{has_end-of-bytes}
-use Rattle.frame.proofs.SkipLaws.{NoneOf, kinds-more, keys-more}
 
 -- the form of a rule below 32
 pub has_form-read : (forms : List ℕ) (form r x : ℕ) → r < 32 → x ≡ get_or forms r 0 → eqb x form ≡ has_form forms form r
@@ -36,15 +34,6 @@ no_lines l r q h f e k u =
 pub state_number-read : (rules states : List ℕ) (e r q n : ℕ) → r ≡ get_or rules e 0 → q ≡ get_or states e 0 → n ≡ 16 * r + q → n ≡ state_number rules states e
 unfolding state_number
 state_number-read rules states e r q n a b h = h ∙ rw (a, b)
-
--- ---- skipped edges
-pub keys-more-read : (keys : List ℕ) (key a b x : ℕ) → NoneOf (λ k. eqb (get_or keys k 0) key) a b → x ≡ get_or keys b 0 → (x ≡ key → ⊥)
-    → NoneOf (λ k. eqb (get_or keys k 0) key) a (b + 1)
-keys-more-read keys key a b x none e h = keys-more keys key a b none (λ q. h (e ∙ q))
-
-pub kinds-more-read : (m : ℕ) (kinds : List ℕ) (a b x : ℕ) → NoneOf (λ k. mask_has m (get_or kinds k 0)) a b → x ≡ get_or kinds b 0
-    → (m / 2 ^ (x % 64) % 2 ≡ 1 → ⊥) → NoneOf (λ k. mask_has m (get_or kinds k 0)) a (b + 1)
-kinds-more-read m kinds a b x none e h = kinds-more m kinds a b none (λ q. h (rw e q))
 
 -- ---- an edge of a key
 module _ (fits : ℕ → Bool) (keys kinds : List ℕ) (k e x : ℕ) (q : x ≡ get_or keys e 0) where
@@ -93,17 +82,3 @@ module _ (ends s : List ℕ) (r a : ℕ) (x : get_or s (2 * r) 0 < 256) (y : get
 
   pub has_end-high : (b : ℕ) → bit_and (get_or s (2 * r) 0) a ≡ 0 → b ≡ get_or ends (2 * r + 1) 0 → not (eqb (bit_and (get_or s (2 * r + 1) 0) b) 0) ≡ has_end ends s r
   has_end-high b h w = rw (has_end-of-bytes ends s r x y, eq-eqb (bit_and (get_or s (2 * r) 0) (get_or ends (2 * r) 0)) 0 (ap (bit_and (get_or s (2 * r) 0)) (sym q) ∙ h), w)
-
-module _ (forms ends : List ℕ) (form : ℕ) (s : List ℕ) (r n x : ℕ) (l : r < 32) (q : x ≡ get_or forms r 0) where
-  pub accepting-other : (x ≡ form → ⊥) → n ≡ cond (accepting forms ends form s r) (2 ^ r + n) n
-  unfolding accepting
-  accepting-other h = rw (has_form-below forms form r l, ne_eqb (get_or forms r 0) form (λ z. h (q ∙ z)))
-
-  module _ (h : x ≡ form) (b : Bool) (p : b ≡ has_end ends s r) where
-    pub accepting-yes : (m : ℕ) → b ≡ true → m ≡ 2 ^ r → m + n ≡ cond (accepting forms ends form s r) (2 ^ r + n) n
-    unfolding accepting
-    accepting-yes m z w = rw (has_form-below forms form r l, eq-eqb (get_or forms r 0) form (sym q ∙ h), sym p ∙ z, w)
-
-    pub accepting-no : b ≡ false → n ≡ cond (accepting forms ends form s r) (2 ^ r + n) n
-    unfolding accepting
-    accepting-no z = rw (has_form-below forms form r l, eq-eqb (get_or forms r 0) form (sym q ∙ h), sym p ∙ z)

@@ -2,14 +2,14 @@
 use mathlib.Core.Bool.{Bool, true, false, cond}
 use mathlib.Core.List.{List, ◌++◌, append-nil}
 use mathlib.Core.Logic.{◌⊎◌, inl, inr, ⊎_elim, ◌↔◌}
-use mathlib.Core.Path.{◌≡◌, refl, ap, subst, ◌∙◌}
+use mathlib.Core.Path.{◌≡◌, refl, subst, ◌∙◌}
 use Prim.Native.Nat.{ℕ, ◌+◌, ◌/◌, ◌<◌, ◌≤◌}
 use native.Mathlib.Decide.{dec_lt}
 use native.Mathlib.Omega.{arith}
 use lib.Dec.{T, ltb, lit<}
 use lib.ListN.{length, get_or, take, drop, replicate, length-append, length-drop, drop_of_length-le, get_or-append}
-use lib.Seq.{get_or-take, length-take-le, take_at, drop_at, take_all}
-use borrow.Author.Tests.{lt-ltb, le-ltb, eq-eqb, ne_eqb}
+use lib.Seq.{get_or-take, length-take-le}
+use borrow.Author.Tests.{lt-ltb, le-ltb}
 use Rattle.laws.specs.Bits.{bit_at, set_all}
 use Rattle.laws.proofs.BitLaws.{bit_at-of-byte, length-set_all, get_d-set_all-other, bit_at-set_all-of-bit_at, bit_at-set_all-of-test, test-or-bit_at-of-set_all, test-of-set_all-zeros}
 use Rattle.laws.proofs.TestLaws.{cond-elim}
@@ -23,59 +23,38 @@ use Rattle.frame.proofs.PartLaws.{held_in-of-append}
 -- ---- the states of a frame, replaced
 
 -- the frame with other bytes from 32 on
-abbrev put : List ℕ → List ℕ → List ℕ
+abbrev pub put : List ℕ → List ℕ → List ℕ
 put f s = take 32 f ++ (s ++ drop 64 (drop 32 f))
 
-put-states : (f s : List ℕ) → length f ≡ 96 → put f s ≡ take 32 f ++ s
+pub put-states : (f s : List ℕ) → length f ≡ 96 → put f s ≡ take 32 f ++ s
 put-states f s l =
     let d : length (drop 32 f) ≤ 64 = simp length-drop (omega arith) in
     rw (drop_of_length-le (drop 32 f) d, append-nil)
-
-head-of-put : (f s : List ℕ) → length f ≡ 96 → take 32 (put f s) ≡ take 32 f
-head-of-put f s l = rw (put-states f s l) (take_at (take 32 f) s 32 (length-take-le 32 f (omega arith)))
-
-states-of-put : (f s : List ℕ) → length f ≡ 96 → length s ≡ 64 → take 64 (drop 32 (put f s)) ≡ s
-states-of-put f s l k = rw (put-states f s l, drop_at (take 32 f) s 32 (length-take-le 32 f (omega arith))) (take_all 64 s (omega arith))
 
 -- ---- by case
 
 module _ (t : Edges) (kinds forms : List ℕ) (v : Finished) (f : List ℕ) where
   -- a finished value in an object with a known current key; any test of codes that agrees with the value's will do
-  pub valued-known : (fits : ℕ → Bool) (g : List ℕ) → ((c : ℕ) → fits c ≡ fits_code v c) → get_or f 0 0 ≡ 1 → get_or f 1 0 < 128
+  pub valued-known : (fits : ℕ → Bool) (g : List ℕ) → ((c : ℕ) → fits c ≡ fits_code v c) → is_object f ≡ true → get_or f 1 0 < 128
       → g ≡ set_all (fitting fits t.keys kinds (get_or f 1 0)) (λ e. 256 + e) (edge_count t.count) f → g ≡ valued t kinds forms v f
-  unfolding valued with_edges is_object current_key
+  unfolding valued with_edges current_key
   valued-known fits g same o k h =
       let e : fits ≡ fits_code v = λ i c. same c i in
-      rw (eq-eqb (get_or f 0 0) 1 o, lt-ltb (get_or f 1 0) 128 k, lt-ltb (get_or f 1 0) 128 k, ← e) h
+      rw (o, lt-ltb (get_or f 1 0) 128 k, lt-ltb (get_or f 1 0) 128 k, ← e) h
 
   -- a finished value in an object with an unknown current key changes nothing
-  pub valued-unknown : get_or f 0 0 ≡ 1 → 128 ≤ get_or f 1 0 → f ≡ valued t kinds forms v f
-  unfolding valued with_edges is_object current_key
-  valued-unknown o k = rw (eq-eqb (get_or f 0 0) 1 o, le-ltb (get_or f 1 0) 128 k)
+  pub valued-unknown : is_object f ≡ true → 128 ≤ get_or f 1 0 → f ≡ valued t kinds forms v f
+  unfolding valued with_edges current_key
+  valued-unknown o k = rw (o, le-ltb (get_or f 1 0) 128 k)
 
   -- a finished value in an array
-  pub valued-array : (fits : ℕ → Bool) (g next : List ℕ) → ((c : ℕ) → fits c ≡ fits_code v c) → (get_or f 0 0 ≡ 1 → ⊥)
+  pub valued-array : (fits : ℕ → Bool) (g next : List ℕ) → ((c : ℕ) → fits c ≡ fits_code v c) → is_object f ≡ false
       → next ≡ set_all (stepping fits t.rules t.states kinds forms f) (state_number t.rules t.nexts) (edge_count t.count) (replicate 64 0)
       → g ≡ take 32 f ++ next → g ≡ valued t kinds forms v f
-  unfolding valued with_states is_object
+  unfolding valued with_states
   valued-array fits g next same o h q =
       let e : fits ≡ fits_code v = λ i c. same c i in
-      rw (ne_eqb (get_or f 0 0) 1 o, ← e, ← h) q
-
-  -- a finished value in an array whose old states were kept apart, and cleared before the new ones were added
-  pub valued-cleared : (fits : ℕ → Bool) (old clear next : List ℕ) → ((c : ℕ) → fits c ≡ fits_code v c) → (get_or f 0 0 ≡ 1 → ⊥) → length f ≡ 96
-      → old ≡ f → clear ≡ replicate (length (take 64 (drop 32 f))) 0
-      → next ≡ set_all (stepping fits t.rules t.states kinds forms old) (state_number t.rules t.nexts) (edge_count t.count) (take 64 (drop 32 (put f clear)))
-      → put (put f clear) next ≡ valued t kinds forms v f
-  valued-cleared fits old clear next same o l d z q =
-      let m : length (take 64 (drop 32 f)) ≡ 64 = length-take-le 64 (drop 32 f) (simp length-drop (omega arith)) in
-      let c : clear ≡ replicate 64 0 = z ∙ ap (λ (n : ℕ). replicate n 0) m in
-      let k : length clear ≡ 64 = ap length c in
-      let n : length (put f clear) ≡ 96 = rw (put-states f clear l, length-append (take 32 f) clear, length-take-le 32 f (omega arith)) (omega arith) in
-      valued-array fits (put (put f clear) next) next same o
-      (q ∙ ap (λ (x : List ℕ). set_all (stepping fits t.rules t.states kinds forms x) (state_number t.rules t.nexts) (edge_count t.count) (take 64 (drop 32 (put f clear)))) d
-      ∙ ap (set_all (stepping fits t.rules t.states kinds forms f) (state_number t.rules t.nexts) (edge_count t.count)) (states-of-put f clear l k ∙ c))
-      (put-states (put f clear) next n ∙ ap (λ (x : List ℕ). x ++ next) (head-of-put f clear l))
+      rw (o, ← e, ← h) q
 
 -- ---- the parts of the frame
 

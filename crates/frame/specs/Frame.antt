@@ -1,6 +1,8 @@
 -- The frames of a work buffer and the parts of a frame: REQUIREMENT.md, section 5. Stated. Assumes nothing.
 use Rattle.std.specs.Prelude.{Bool, cond, ◌&&◌, List, [], ◌++◌, ℕ, ◌+◌, ◌*◌, ◌-◌, ◌/◌, min, eqb, ltb, leb, length, get_or, take, drop}
 use Rattle.laws.specs.Bits.{bit_at}
+use Rattle.frame.specs.declared.Kind.{Kind}
+use Rattle.frame.specs.declared.Kind.TheVariants.{Object, Array}
 
 -- ---- the buffer
 
@@ -30,9 +32,14 @@ put_frame w l f = cond (has_frame (length w) l) (take (frame_start l) w ++ (f ++
 unfoldable pub is_object : List ℕ → Bool
 is_object f = eqb (get_or f 0 0) 1
 
--- the kind's number as it counts
-unfoldable pub kind_number : List ℕ → ℕ
-kind_number f = cond (is_object f) 1 2
+-- the kind as it counts
+unfoldable pub kind_in : List ℕ → Kind
+kind_in f = cond (is_object f) Object Array
+
+-- the number of a kind, which is also that of the form of the rules that its values may fit: 1 obj, 2 arr
+abbrev pub number_of : Kind → ℕ
+number_of Object = 1
+number_of Array = 2
 
 -- byte 1: the current key's number; above 127 it counts as 255, unknown or none
 unfoldable pub current_key : List ℕ → ℕ

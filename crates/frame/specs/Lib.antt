@@ -1,5 +1,4 @@
 pub mod Frame
-pub mod Place
 pub mod Edges
 pub mod Mask
 pub mod Ops

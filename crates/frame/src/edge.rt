@@ -1,25 +1,26 @@
-// Edges of a table: how many count, and the tests of one of them.
-ghost use Rattle.std.specs.Prelude.{false, ◌≡◌, ℕ, ◌+◌, ◌*◌, ◌<◌, ◌≤◌, eqb, get_or};
+// Edges of a table: how many count, the tests of one of them, and the states that some lead to.
+ghost use Rattle.std.specs.Prelude.{Bool, ◌≡◌, ℕ, ◌+◌, ◌*◌, ◌<◌, ◌≤◌, replicate};
+ghost use Rattle.laws.specs.Bits.{set_all};
 ghost use Rattle.table.specs.Flat.{table_in};
 ghost use Rattle.frame.specs.Edges.{edge_count, has_form};
+ghost use Rattle.frame.specs.Frame.{number_of};
 ghost use Rattle.frame.specs.InTable.{leaves, leads_to, fitting_in, stepping_in, walking_in};
 
-use crate::mask;
+use crate::{Frame, Kind, States, mask};
 use table::{bits, flat};
 
 // How many edges of a table count: at most 512.
 pub fn count(table: &[u8; 7920]) -> usize
     ensures { result ≡ edge_count (table_in table.now).edges }
 {
-    let n = flat::edges(table);
-    if n < 512 { n } else { 512 }
+    flat::edges(table).min(512)
 }
 
 // The number of a rule's state.
 fn state_number(rule: u8, state: u8) -> usize
     ensures { (result ≡ 16 * rule + state) × (result ≤ 4335) }
 {
-    16 * (rule as usize) + (state as usize)
+    16 * usize::from(rule) + usize::from(state)
 }
 
 // The number of the state that edge e leaves.
@@ -31,37 +32,26 @@ fn state_of(table: &[u8; 7920], e: usize) -> usize
 }
 
 // The number of the state that edge e leads to.
-pub fn next_state(table: &[u8; 7920], e: usize) -> usize
+fn next_state(table: &[u8; 7920], e: usize) -> usize
     requires { e < 512 }
     ensures { result ≡ leads_to (table_in table.now) e }
 {
     state_number(flat::rule(table, e), flat::next(table, e))
 }
 
-// A rule is of form arr; a rule above 31 has no form.
+// The values of a kind may fit rule r.
+pub fn is_of_kind(table: &[u8; 7920], r: usize, kind: Kind) -> bool
+    requires { r < 32 }
+    ensures { result ≡ has_form (table_in table.now).forms (number_of kind) r }
+{
+    flat::form(table, r) == kind.number()
+}
+
+// A rule is an arr rule; one above 31 is not.
 fn is_arr(table: &[u8; 7920], rule: u8) -> bool
     ensures { result ≡ has_form (table_in table.now).forms 2 rule }
 {
-    let i = rule as usize;
-    if i < 32 {
-        return flat::form(table, i) == 2;
-    }
-    false
-}
-
-// The first edge of the key from `from` on, or n.
-pub fn next_of(table: &[u8; 7920], key: u8, from: usize, n: usize) -> usize
-    requires { (from ≤ n) × (n ≤ 512) }
-    ensures { (from ≤ result) × (result ≤ n) × ((k : ℕ) → from ≤ k → k < result → eqb (get_or (table_in table.now).edge_key k 0) key ≡ false) }
-{
-    let mut e = from;
-    while e < n {
-        if flat::key(table, e) == key {
-            return e;
-        }
-        e += 1;
-    }
-    e
+    rule < 32 && is_of_kind(table, usize::from(rule), Kind::Array)
 }
 
 // Edge e is one of the key, and the mask has its kind.
@@ -69,42 +59,45 @@ pub fn fitting(table: &[u8; 7920], e: usize, key: u8, m: u64) -> bool
     requires { e < 512 }
     ensures { result ≡ fitting_in (table_in table.now) m key e }
 {
-    if flat::key(table, e) == key {
-        return mask::mask_has(m, flat::kind(table, e));
-    }
-    false
+    flat::key(table, e) == key && mask::mask_has(m, flat::kind(table, e))
 }
 
 // The mask has the kind of edge e, its rule is an arr rule, and its state is one of the frame's.
-pub fn stepping<'a>(table: &'a [u8; 7920], frame: &'a [u8], e: usize, m: u64) -> bool
+pub fn stepping<'a>(table: &'a [u8; 7920], frame: &'a Frame, e: usize, m: u64) -> bool
     requires { e < 512 }
     ensures { result ≡ stepping_in (table_in table.now) m frame.now e }
 {
-    if mask::mask_has(m, flat::kind(table, e)) {
-        if is_arr(table, flat::rule(table, e)) {
-            return bits::get_bit(frame, 256 + state_of(table, e));
-        }
-        return false;
-    }
-    false
+    mask::mask_has(m, flat::kind(table, e))
+        && is_arr(table, flat::rule(table, e))
+        && bits::get_bit(frame, 256 + state_of(table, e))
 }
 
 // Edge e is one of the key, is among the frame's fitting edges, and its state is one of the states.
 pub fn walking<'a>(
     table: &'a [u8; 7920],
-    frame: &'a [u8],
-    states: &'a [u8],
+    frame: &'a Frame,
+    states: &'a States,
     e: usize,
     key: u8,
 ) -> bool
     requires { e < 512 }
     ensures { result ≡ walking_in (table_in table.now) frame.now states.now key e }
 {
-    if flat::key(table, e) == key {
-        if bits::get_bit(frame, 256 + e) {
-            return bits::get_bit(states, state_of(table, e));
+    flat::key(table, e) == key
+        && bits::get_bit(frame, 256 + e)
+        && bits::get_bit(states, state_of(table, e))
+}
+
+// The states that those edges lead to which are taken.
+pub fn led_to<F: Fn(usize) -> bool>(table: &[u8; 7920], taken: F) -> States
+    requires { (e : ℕ) → e < 512 → F.pre taken e }
+    ensures { (p : ℕ → Bool) → ((e : ℕ) (b : Bool) → e < 512 → F.post taken e b → b ≡ p e) → result ≡ set_all p (leads_to (table_in table.now)) (edge_count (table_in table.now).edges) (replicate 64 0) }
+{
+    let mut states = [0; 64];
+    for e in 0..count(table) {
+        if taken(e) {
+            bits::set_if(true, &mut states, next_state(table, e));
         }
-        return false;
     }
-    false
+    states
 }

@@ -1,12 +1,12 @@
 // A finished key: REQUIREMENT.md, section 5.
-ghost use Rattle.std.specs.Prelude.{◌≡◌, length};
+ghost use Rattle.std.specs.Prelude.{◌≡◌};
 ghost use Rattle.frame.specs.Ops.{keyed};
 
+use crate::Frame;
 use table::bits;
 
 // A finished key in a frame: its number, and its bit or, where it was seen or is unknown, the mark.
-pub fn key_frame(frame: &mut [u8], key: u8)
-    requires { length frame.old ≡ 96 }
+pub fn key_frame(frame: &mut Frame, key: u8)
     ensures { frame.new ≡ keyed key frame.old }
 {
     if key < 128 {

@@ -9,11 +9,11 @@ mod mask; // mask.rt: the kinds that a finished value fits
 mod open; // open.rt: a fresh frame
 mod value; // value.rt: a finished value
 
-ghost use Rattle.std.specs.Prelude.{◌≡◌};
+ghost use Rattle.std.specs.Prelude.{List, [], true, false, ◌≡◌, ℕ, ◌+◌, ◌≤◌, ◌++◌, length, take, drop, MatchOption};
+ghost use Rattle.std.specs.Fn.{FnOnceReturnsAtMut};
 ghost use Rattle.table.specs.Flat.{table_in};
 ghost use Rattle.frame.specs.Edges.{edges_in};
-ghost use Rattle.frame.specs.Frame.{frame_count, frame_at, put_frame, kind_number};
-ghost use Rattle.frame.specs.Place.{frame_place};
+ghost use Rattle.frame.specs.Frame.{frame_count, has_frame, frame_start, frame_at, put_frame, kind_in, number_of};
 ghost use Rattle.frame.specs.Ops.{opened, keyed, valued, closed};
 
 use table::kind::Finished;
@@ -24,40 +24,95 @@ pub const FRAME: usize = 96;
 // The most levels.
 pub const LEVELS: usize = 64;
 
+// A frame: the kind of its value, the current key, a mark, the keys seen, and from byte 32 on an object's fitting edges or an array's states.
+pub type Frame = [u8; FRAME];
+
+// States of a table's rules: bit q of rule r is bit 16 r + q.
+pub type States = [u8; 64];
+
+// The kind of an open value. Its number stands in a frame of the kind, and in a table as the form of the rules that such values may fit.
+#[derive(Clone, Copy, PartialEq, Eq)]
+pub enum Kind {
+    Object = 1,
+    Array = 2,
+}
+
+impl Kind {
+    // The number that a frame and a table have for the kind.
+    fn number(self) -> u8
+        ensures { result ≡ number_of self }
+    {
+        self as u8
+    }
+}
+
 // The number of frames of a buffer of n bytes: one for each 96, at most 64.
 // Ruled out: a program that counts a frame of fewer than 96 bytes at the end; one that counts a 65th.
 pub fn frames(n: usize) -> usize
     ensures { result ≡ frame_count n }
 {
-    let k = n / FRAME;
-    if k < LEVELS { k } else { LEVELS }
+    (n / FRAME).min(LEVELS)
 }
 
-// The place of a level's first byte in a buffer of n bytes, or n where there is no frame of the level.
-fn place(n: usize, level: usize) -> usize
-    ensures { result ≡ frame_place n level }
+// Where the frame of a level begins, if a buffer of n bytes has one.
+fn place(n: usize, level: usize) -> Option<usize>
+    ensures { MatchOption result (has_frame n level ≡ false) (λ a. (has_frame n level ≡ true) × (a ≡ frame_start level) × (a + 96 ≤ n)) }
 {
-    if 0 < level {
-        if level <= frames(n) {
-            return FRAME * (level - 1);
-        }
-        return n;
+    if 0 < level && level <= frames(n) {
+        return Some(FRAME * (level - 1));
     }
-    n
+    None
 }
 
-// The kind of the value that is open at a level: 1 object, 2 array, which any other byte counts as.
+// The frame of a level.
+fn frame_of(work: &[u8], level: usize) -> Option<&Frame>
+    ensures { MatchOption result (frame_at work.now level ≡ []) (λ f. f.now ≡ frame_at work.now level) }
+{
+    let start = place(work.len(), level)?;
+    work[start..].first_chunk()
+}
+
+// Changes the first frame of a buffer that has one.
+fn change_first<F: FnOnce(&mut Frame)>(work: &mut [u8], change: F)
+    requires callable { F.IsAlwaysCallable change }
+    requires has_room { 96 ≤ length work.old }
+    ensures { (op : List ℕ → List ℕ) → ((f g : List ℕ) → FnOnceReturnsAtMut F.FnOnce change f tt g → g ≡ op f) → work.new ≡ op (take 96 work.old) ++ drop 96 work.old }
+{
+    if let Some(frame) = work.first_chunk_mut() {
+        change(frame);
+    }
+}
+
+// Changes the frame of a level, and no other byte.
+fn change_frame<F: FnOnce(&mut Frame)>(work: &mut [u8], level: usize, change: F)
+    requires { F.IsAlwaysCallable change }
+    ensures { (op : List ℕ → List ℕ) → ((f g : List ℕ) → FnOnceReturnsAtMut F.FnOnce change f tt g → g ≡ op f) → work.new ≡ put_frame work.old level (op (frame_at work.old level)) }
+{
+    if let Some(start) = place(work.len(), level) {
+        change_first(&mut work[start..], change);
+    }
+}
+
+// The kind of the value that a frame is of: any number but that of an object counts as that of an array.
+fn kind_of(frame: &Frame) -> Kind
+    ensures { result ≡ kind_in frame.now }
+{
+    if frame[0] == Kind::Object.number() {
+        Kind::Object
+    } else {
+        Kind::Array
+    }
+}
+
+// The kind of the value that is open at a level.
 // Ruled out: a program that hands out the byte as it stands; one that reads the frame of the level below.
-pub fn kind_at(work: &[u8], level: usize) -> u8
-    ensures { result ≡ kind_number (frame_at work.now level) }
+pub fn kind_at(work: &[u8], level: usize) -> Kind
+    ensures { result ≡ kind_in (frame_at work.now level) }
 {
-    let a = place(work.len(), level);
-    if a < work.len() {
-        if work[a] == 1 {
-            return 1;
-        }
+    match frame_of(work, level) {
+        Some(frame) => kind_of(frame),
+        None => Kind::Array,
     }
-    2
 }
 
 // Opens an object or an array at a level: all 96 bytes of its frame are written, and no other byte.
@@ -65,11 +120,7 @@ pub fn kind_at(work: &[u8], level: usize) -> u8
 pub fn open_level(work: &mut [u8], level: usize, object: bool, table: &[u8; 7920])
     ensures { work.new ≡ put_frame work.old level (opened (table_in table.now).forms object) }
 {
-    let a = place(work.len(), level);
-    if a < work.len() {
-        let b = a + FRAME;
-        open::open_frame(&mut work[a..b], object, table);
-    }
+    change_frame(work, level, |frame| open::open_frame(frame, object, table));
 }
 
 // A finished key in the frame of a level: the number of a key of the book, or any number above 127 for a key that it does not have.
@@ -77,11 +128,7 @@ pub fn open_level(work: &mut [u8], level: usize, object: bool, table: &[u8; 7920
 pub fn key_level(work: &mut [u8], level: usize, key: u8)
     ensures { work.new ≡ put_frame work.old level (keyed key (frame_at work.old level)) }
 {
-    let a = place(work.len(), level);
-    if a < work.len() {
-        let b = a + FRAME;
-        key::key_frame(&mut work[a..b], key);
-    }
+    change_frame(work, level, |frame| key::key_frame(frame, key));
 }
 
 // A finished value in the frame of the level that it stands in: adds an object's fitting edges, replaces an array's states.
@@ -89,11 +136,7 @@ pub fn key_level(work: &mut [u8], level: usize, key: u8)
 pub fn value_level(work: &mut [u8], level: usize, table: &[u8; 7920], v: Finished)
     ensures { work.new ≡ put_frame work.old level (valued (edges_in (table_in table.now)) (table_in table.now).edge_kind (table_in table.now).forms v (frame_at work.old level)) }
 {
-    let a = place(work.len(), level);
-    if a < work.len() {
-        let b = a + FRAME;
-        value::value_frame(&mut work[a..b], table, v);
-    }
+    change_frame(work, level, |frame| value::value_frame(frame, table, v));
 }
 
 // Closes the value of a level: gives the rules that it fits, rule N at bit N, and writes nothing.
@@ -101,10 +144,8 @@ pub fn value_level(work: &mut [u8], level: usize, table: &[u8; 7920], v: Finishe
 pub fn close_level<'a>(work: &'a [u8], level: usize, table: &'a [u8; 7920]) -> u32
     ensures { result ≡ closed (edges_in (table_in table.now)) (table_in table.now).forms (table_in table.now).ends (frame_at work.now level) }
 {
-    let a = place(work.len(), level);
-    if a < work.len() {
-        let b = a + FRAME;
-        return close::close_frame(&work[a..b], table);
+    match frame_of(work, level) {
+        Some(frame) => close::close_frame(frame, table),
+        None => 0,
     }
-    0
 }

@@ -1,19 +1,13 @@
 // Opening: REQUIREMENT.md, section 5.
-ghost use Rattle.std.specs.Prelude.{true, cond, List, ◌≡◌, ℕ, ◌+◌, ◌*◌, ◌<◌, ◌≤◌, length, get_or};
+ghost use Rattle.std.specs.Prelude.{true, List, ◌≡◌, ℕ, ◌+◌, ◌*◌, ◌<◌, ◌≤◌, get_or, length};
 ghost use Rattle.table.specs.Flat.{table_in};
 ghost use Rattle.laws.specs.Bits.{set_all};
 ghost use Rattle.frame.specs.Edges.{has_form};
+ghost use Rattle.frame.specs.Frame.{number_of};
 ghost use Rattle.frame.specs.Ops.{opened};
 
-use crate::FRAME;
-use table::{bits, bytes, flat};
-
-// 1 where a rule is of the form.
-fn one_if(on: bool) -> u8
-    ensures { result ≡ cond on 1 0 }
-{
-    if on { 1 } else { 0 }
-}
+use crate::{FRAME, Frame, Kind, edge};
+use table::{bits, flat};
 
 // Eight rules from r on have no lines.
 fn no_lines(table: &[u8; 7920], r: usize) -> bool
@@ -23,42 +17,39 @@ fn no_lines(table: &[u8; 7920], r: usize) -> bool
     bits::quiet(table, flat::FORM + r)
 }
 
-// Adds state 0 of those of eight rules that are of the form. State 0 of rule r is bit 0 of byte 2 r.
-fn add_eight(states: &mut [u8], table: &[u8; 7920], form: u8, from: usize)
+// Adds state 0 of those of eight rules that a kind's values may fit. State 0 of rule r is bit 0 of byte 2 r.
+fn add_eight(states: &mut [u8], table: &[u8; 7920], kind: Kind, from: usize)
     requires { (length states.old ≡ 64) × (from + 8 ≤ 32) }
-    ensures { (xs : List ℕ) → states.old ≡ set_all (has_form (table_in table.now).forms form) (λ r. 16 * r) from xs → states.new ≡ set_all (has_form (table_in table.now).forms form) (λ r. 16 * r) (from + 8) xs }
+    ensures { (xs : List ℕ) → states.old ≡ set_all (has_form (table_in table.now).forms (number_of kind)) (λ r. 16 * r) from xs → states.new ≡ set_all (has_form (table_in table.now).forms (number_of kind)) (λ r. 16 * r) (from + 8) xs }
 {
     for r in from..from + 8 {
-        let on = one_if(flat::form(table, r) == form);
-        states[2 * r] = states[2 * r] | on;
+        states[2 * r] |= u8::from(edge::is_of_kind(table, r, kind));
     }
 }
 
-// Adds state 0 of every rule of the form. Eight rules without lines are passed over at once.
-pub fn add_starts(states: &mut [u8], table: &[u8; 7920], form: u8)
-    requires { (length states.old ≡ 64) × (0 < form) }
-    ensures { states.new ≡ set_all (has_form (table_in table.now).forms form) (λ r. 16 * r) 32 states.old }
+// Adds state 0 of every rule that a kind's values may fit. Eight rules without lines are passed over at once.
+// Stays: a slice, and written in place, since an array that is given back costs 7 in 100 instructions on a stream of numbers.
+pub fn add_starts(states: &mut [u8], table: &[u8; 7920], kind: Kind)
+    requires { length states.old ≡ 64 }
+    ensures { states.new ≡ set_all (has_form (table_in table.now).forms (number_of kind)) (λ r. 16 * r) 32 states.old }
 {
-    let mut r = 0;
-    while r < 32 {
-        if no_lines(table, r) {} else {
-            add_eight(states, table, form, r);
+    for i in 0..4 {
+        if !no_lines(table, 8 * i) {
+            add_eight(states, table, kind, 8 * i);
         }
-        r += 8;
     }
 }
 
 // Writes all 96 bytes of a fresh frame.
-pub fn open_frame(frame: &mut [u8], object: bool, table: &[u8; 7920])
-    requires { length frame.old ≡ 96 }
+pub fn open_frame(frame: &mut Frame, object: bool, table: &[u8; 7920])
     ensures { frame.new ≡ opened (table_in table.now).forms object }
 {
-    bytes::clear(frame);
+    *frame = [0; FRAME];
     if object {
-        frame[0] = 1;
+        frame[0] = Kind::Object.number();
         frame[1] = 255;
-        return;
+    } else {
+        frame[0] = Kind::Array.number();
+        add_starts(&mut frame[32..], table, Kind::Array);
     }
-    frame[0] = 2;
-    add_starts(&mut frame[32..FRAME], table, 2);
 }

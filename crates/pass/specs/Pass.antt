@@ -1,7 +1,6 @@
 -- Bytes that only move a reader on, and what passing over them means: the run over the rest of a piece is the run over the whole of it. Derived:
 -- `pass_on` and `stay-on` of `PassLaws` and `keep-on` of `KeepLaws` join them to `step_mem` of crate progress. Assumes nothing.
-use Rattle.std.specs.Prelude.{None}
-use Rattle.std.specs.Prelude.{Bool, true, false, cond, List, ◌≡◌, ℕ, ◌+◌, ◌-◌, ◌≤◌, ◌<◌, eqb, length, get_or, drop, Option, MatchOption}
+use Rattle.std.specs.Prelude.{Bool, true, false, cond, List, ◌≡◌, ℕ, ◌+◌, ◌-◌, ◌≤◌, ◌<◌, eqb, length, get_or, drop, Option, MatchOption, None}
 use Rattle.json_text.specs.Bytes.{is_blank}
 use Rattle.json_text.specs.Numbers.{is_digit}
 use Rattle.json_text.specs.Classes.{class_of}

@@ -14,9 +14,6 @@ use Rattle.json_text.specs.Lexer.{step_of}
 use Rattle.json_text.specs.declared.lexer.Top.{Top}
 use Rattle.json_text.specs.declared.lexer.Step.{Step}
 use Rattle.table.specs.Table.{Table}
-use Rattle.table.specs.Limits.{within_limits}
-use Rattle.table.proofs.LimitLaws.{within_limits-sound}
-use Rattle.laws.proofs.TestLaws.{T-of-true}
 use Rattle.progress.specs.declared.Progress.{Progress}
 use Rattle.progress.specs.Progress.{advanced}
 use Rattle.progress.specs.Memory.{Mem, mem, top_at, step_mem, run_mem, ends_record}
@@ -93,9 +90,3 @@ module _ (s : List ℕ) (i at end : ℕ) (x y z : Progress) (top : Top) (o : Opt
     -- after the bytes passed over one goes on to place j
     pub went_on : (k : Mem) (j : ℕ) (v : Bool) → WentTo t n (mem z root kept w) s end k j v → WentTo t n (mem x root key w) s i k j v
     went_on k j v g = record { low = omega (arith, a.low, b.runs.low, g.low); high = g.high; run = sym run-passed ∙ g.run }
-
--- ---- what the test of a table tells
-
--- a table that passes the test has at most 128 keys
-pub keys_le : (t : Table) → within_limits t ≡ true → t.keys ≤ 128
-keys_le t e = (within_limits-sound t (T-of-true (within_limits t) e)).keys

@@ -1,95 +1,68 @@
 // A piece is read on: the bytes that are passed over, and one byte more.
 #![tactic(auto)]
 
-ghost use Rattle.std.specs.Prelude.{◌≡◌, true, ◌<◌, length, get_or};
+ghost use Rattle.std.specs.Prelude.{◌≡◌, true, false, ◌<◌, length, get_or};
+ghost use Rattle.std.specs.ControlFlow.{MatchControlFlow};
 ghost use Rattle.table.specs.Flat.{table_in};
-ghost use Rattle.table.specs.Limits.{within_limits};
-ghost use Rattle.progress.specs.Memory.{mem, ends_record};
+ghost use Rattle.progress.specs.Memory.{ends_record};
+ghost use Rattle.turn.specs.Turn.{memory};
 ghost use Rattle.piece.specs.Went.{StepsAs, WentTo};
 
 use chars::class::Classes;
 use json_text::lexer::Step;
 use progress::Progress;
+use std::ops::ControlFlow;
+use turn::rules::Rules;
+use turn::{Record, top_of};
 
 // An RS after at least one byte of a record.
 fn ends_record(x: Progress, b: u8) -> bool
     ensures { result ≡ ends_record x b }
 {
-    if b == 0x1E {
-        return 0 < x.pos;
-    }
-    false
-}
-
-// How far a record was read: up to the end of the piece, over a byte that ends no record, or over the RS that ended it.
-#[derive(Clone, Copy)]
-pub struct Went {
-    pub progress: Progress,
-    pub root: bool,
-    pub at: usize,
-    pub ended: bool,
+    b == 0x1E && 0 < x.pos
 }
 
 // Reads the byte at place i, with its step: an RS that ends the record, or a byte of it.
-fn read_byte<'a>(
-    table: &'a [u8; 7920],
+fn read_byte(
+    record: &mut Record,
+    key: &mut [u8; 32],
     work: &mut [u8],
-    key: &mut [u8],
-    piece: &'a [u8],
-    frames: usize,
-    x: Progress,
-    root: bool,
+    rules: Rules,
+    piece: &[u8],
     i: usize,
-    st: Step,
-) -> Went
-    requires { (within_limits (table_in table.now) ≡ true) × (length key.old ≡ 32) × (i < length piece.now) × StepsAs x frames work.old (get_or piece.now i 0) st }
-    ensures { WentTo (table_in table.now) frames (mem x root key.old work.old) piece.now i (mem result.progress result.root key.new work.new) result.at result.ended }
+    step: Step,
+) -> ControlFlow<usize, usize>
+    requires { (i < length piece.now) × StepsAs record.old.progress rules.frames work.old (get_or piece.now i 0) step }
+    ensures { MatchControlFlow result (λ at. WentTo (table_in rules.entry.table.now) rules.entry.frames (memory record.old key.old work.old) piece.now i (memory record.new key.new work.new) at false) (λ at. WentTo (table_in rules.entry.table.now) rules.entry.frames (memory record.old key.old work.old) piece.now i (memory record.new key.new work.new) at true) }
 {
     let b = piece[i];
-    if ends_record(x, b) {
-        return Went {
-            progress: x,
-            root: root,
-            at: i + 1,
-            ended: true,
-        };
+    if ends_record(record.progress, b) {
+        return ControlFlow::Break(i + 1);
     }
-    let s = turn::turn(st, x, root, key, work, frames, table, b);
-    let l = s.progress;
-    Went {
-        progress: l,
-        root: s.root,
-        at: i + 1,
-        ended: false,
-    }
+    record.turn(step, key, work, rules, b);
+    ControlFlow::Continue(i + 1)
 }
 
-// Reads on from place i: the bytes that are passed over, and one byte more.
-pub fn read_on<'a>(
-    table: &'a [u8; 7920],
-    classes: &Classes,
+// Reads on from place i: the bytes that are passed over, and one byte more. Breaks off behind an RS that ended the record, and else goes on at a
+// later place.
+pub fn read_on(
+    record: &mut Record,
+    key: &mut [u8; 32],
     work: &mut [u8],
-    key: &mut [u8],
-    piece: &'a [u8],
-    frames: usize,
-    x: Progress,
-    root: bool,
+    rules: Rules,
+    classes: &Classes,
+    piece: &[u8],
     i: usize,
-) -> Went
-    requires { (within_limits (table_in table.now) ≡ true) × (length key.old ≡ 32) × (i < length piece.now) }
-    ensures { WentTo (table_in table.now) frames (mem x root key.old work.old) piece.now i (mem result.progress result.root key.new work.new) result.at result.ended }
+) -> ControlFlow<usize, usize>
+    requires { i < length piece.now }
+    ensures { MatchControlFlow result (λ at. WentTo (table_in rules.entry.table.now) rules.entry.frames (memory record.old key.old work.old) piece.now i (memory record.new key.new work.new) at false) (λ at. WentTo (table_in rules.entry.table.now) rules.entry.frames (memory record.old key.old work.old) piece.now i (memory record.new key.new work.new) at true) }
 {
-    let k = pass::keep(classes, x, key, piece, i);
-    let named = k.progress;
-    let top = turn::top_of(work, named.level);
-    let p = pass::pass(classes, named, top, piece, k.at);
-    if let Some(st) = p.step {
-        return read_byte(table, work, key, piece, frames, p.progress, root, p.at, st);
+    let kept = pass::keep(classes, record.progress, key, piece, i);
+    let top = top_of(work, kept.progress.level);
+    let passed = pass::pass(classes, kept.progress, top, piece, kept.at);
+    record.progress = passed.progress;
+    if let Some(step) = passed.step {
+        return read_byte(record, key, work, rules, piece, passed.at, step);
     }
-    Went {
-        progress: p.progress,
-        root: root,
-        at: p.at,
-        ended: false,
-    }
+    ControlFlow::Continue(passed.at)
 }

@@ -1,7 +1,6 @@
 -- What an act of the lexer does to the open record, part by part: the first fault, the levels, the characters kept of the key, the number, the task. Derived:
 -- `acted` of `Progress` puts the parts together, and `tracks-step` of crate follows joins that to the track of crate verdict. Assumes nothing.
-use Rattle.std.specs.Prelude.{Option, Some, None}
-use Rattle.std.specs.Prelude.{Bool, true, false, cond, List, ℕ, ◌+◌, ◌-◌, ltb, set}
+use Rattle.std.specs.Prelude.{Bool, true, false, cond, List, ℕ, ◌+◌, ◌-◌, ltb, set, Option, Some, None}
 use Rattle.json_text.specs.declared.word.Word.{Word}
 use Rattle.json_text.specs.declared.word.Word.TheVariants as W
 use Rattle.json_text.specs.declared.lexer.Mode.{Mode}

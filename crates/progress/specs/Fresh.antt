@@ -1,6 +1,5 @@
 -- A record of which nothing is read, in the head or after an RS, as a fresh reader has it: REQUIREMENT.md, section 7. Stated. Assumes nothing.
-use Rattle.std.specs.Prelude.{None}
-use Rattle.std.specs.Prelude.{Bool, List, ℕ, replicate}
+use Rattle.std.specs.Prelude.{Bool, List, ℕ, replicate, None}
 use Rattle.json_text.specs.declared.lexer.Awaited.TheVariants as P
 use Rattle.json_text.specs.declared.lexer.Mode.TheVariants as M
 use Rattle.whole.specs.Fresh.{fresh}

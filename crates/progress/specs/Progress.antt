@@ -1,7 +1,6 @@
 -- What a byte does to the open record, over the reader's own types. Derived: `tracks-step` of crate follows joins it to the track of crate verdict.
 -- Assumes nothing.
-use Rattle.std.specs.Prelude.{Option, Some, None}
-use Rattle.std.specs.Prelude.{Bool, false, cond, ℕ, eqb, ltb}
+use Rattle.std.specs.Prelude.{Bool, false, cond, ℕ, eqb, ltb, Option, Some, None}
 use Rattle.json_text.specs.Lexer.{bits_after, high_after, char_of, may_end}
 use Rattle.json_text.specs.declared.number.NumberMode.{NumberMode}
 use Rattle.json_text.specs.declared.lexer.Awaited.{Awaited}

@@ -1,3 +1,4 @@
 pub mod RefusalLaws
 pub mod RunLaws
 pub mod ReaderLaws
+pub mod TallyLaws

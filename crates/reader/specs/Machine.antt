@@ -1,8 +1,7 @@
 -- What feed and close give and leave in the buffer, whole: REQUIREMENT.md, section 7. Derived: the contracts of `feed` and `close` say that the code
 -- gives exactly this; `demand-3` joins counts and answers to the stream on paper, `lent` the buffer to section 5, `tally-of-calls` the tally to the
 -- verdicts, and `unchanged-of-refused` tells of refused calls. Assumes nothing.
-use Rattle.std.specs.Prelude.{Ok, Err, Some, None}
-use Rattle.std.specs.Prelude.{Bool, true, false, cond, List, ℕ, ltb, length}
+use Rattle.std.specs.Prelude.{Bool, true, false, cond, List, ℕ, ltb, length, Ok, Err, Some, None}
 use Rattle.table.specs.Table.{Table}
 use Rattle.progress.specs.Progress.{judged}
 use Rattle.progress.specs.Memory.{Mem, mem, Ran, run_mem}

@@ -1,13 +1,11 @@
 -- Why start, feed and close are refused, and in which order the reasons count: REQUIREMENT.md, section 7. Each call has a ladder of rungs, and its
 -- first rung that does not hold refuses it. Stated. Assumes nothing.
-use Rattle.std.specs.Prelude.{Bool, true, false, cond, ◌&&◌, List, [], ◌∷◌, ℕ, ◌*◌, leb}
+use Rattle.std.specs.Prelude.{Bool, true, false, cond, ◌&&◌, List, [], ◌∷◌, ℕ, ◌*◌, leb, Result, Ok, Err}
 use Rattle.table.specs.Table.{Table}
 use Rattle.table.specs.Limits.{within_limits}
 use Rattle.reader.specs.declared.Reader.{Reader}
 use Rattle.reader.specs.declared.Refusal.{Refusal}
 use Rattle.reader.specs.declared.Refusal.TheVariants as No
-use Rattle.reader.specs.declared.Gate.{Gate}
-use Rattle.reader.specs.declared.Gate.TheVariants as Is
 
 -- the number of each refusal
 abbrev pub refusal_number : Refusal → ℕ
@@ -30,10 +28,17 @@ pub record Rung : Type 0 where
   pub holds : Bool
   pub refusal : Refusal
 
+-- whether a call is let in
+abbrev pub Gate : Type 0
+Gate = Result (Unit {0}) Refusal
+
+abbrev pub let_in : Gate
+let_in = Ok (tt {0})
+
 -- the first rung that does not hold shuts the gate
 unfoldable pub first_refusal : List Rung → Gate
-first_refusal [] = Is.Open
-first_refusal (g ∷ gs) = cond g.holds (first_refusal gs) (Is.Shut g.refusal)
+first_refusal [] = let_in
+first_refusal (g ∷ gs) = cond g.holds (first_refusal gs) (Err g.refusal)
 
 -- 23 for a table with a number above its limit; every call asks this first
 abbrev pub table_rung : Table → Rung
@@ -63,10 +68,10 @@ call_gate within frames t n = first_refusal (table_rung t ∷ reader_rung within
 
 -- what a call gives: where its gate is open what it does, else what its refusal says
 abbrev pub through : {A : Type 0} → Gate → (Refusal → A) → A → A
-through Is.Open refused done = done
-through (Is.Shut n) refused done = refused n
+through (Ok u) refused done = done
+through (Err n) refused done = refused n
 
 -- the gate of a call that is not refused
 abbrev pub is_open : Gate → Bool
-is_open Is.Open = true
-is_open (Is.Shut n) = false
+is_open (Ok u) = true
+is_open (Err n) = false

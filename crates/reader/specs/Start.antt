@@ -1,7 +1,6 @@
 -- Start: REQUIREMENT.md, section 7. It gives a fresh reader with its tally at zero, which keeps the number of frames counted here; a refused start
 -- gives a fresh reader with 0 frames. Stated. Assumes nothing.
-use Rattle.std.specs.Prelude.{Ok, Err, None}
-use Rattle.std.specs.Prelude.{Bool, true, false, List, ℕ, length}
+use Rattle.std.specs.Prelude.{Bool, true, false, List, ℕ, length, Ok, Err, None}
 use Rattle.table.specs.Table.{Table}
 use Rattle.frame.specs.Frame.{frame_count}
 use Rattle.progress.specs.Fresh.{fresh_progress, fresh_key}

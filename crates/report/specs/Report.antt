@@ -1,7 +1,6 @@
 -- What the judging program does with the bytes that arrive, on slices: REQUIREMENT.md, section 8. Derived: `text-of-stream` of the proofs joins it to
 -- the stream on paper. Assumes nothing.
-use Rattle.std.specs.Prelude.{Ok, Err, Some, None}
-use Rattle.std.specs.Prelude.{Bool, true, false, cond, List, [], ◌++◌, ◌≡◌, ℕ, zero, suc, ◌+◌, ◌/◌, eqb, length, drop}
+use Rattle.std.specs.Prelude.{Bool, true, false, cond, List, [], ◌++◌, ◌≡◌, ℕ, zero, suc, ◌+◌, ◌/◌, eqb, length, drop, Ok, Err, Some, None}
 use Rattle.std.proofs.lemmas.List.Edits.{sets}
 use Rattle.table.specs.Table.{Table}
 use Rattle.book.specs.Load.{loads}

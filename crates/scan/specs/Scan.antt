@@ -1,6 +1,5 @@
 -- What the scans of a field give. Derived: `FieldLaws` and `ScanLaws` join each to the tests and numbers of a book. Assumes nothing.
-use Rattle.std.specs.Prelude.{cond, Option, Some, None, List, ◌∷◌, ◌≡◌, ℕ, ◌<◌, ltb, length}
-use Rattle.std.specs.Prelude.{◌∷◌}
+use Rattle.std.specs.Prelude.{◌∷◌, cond, Option, Some, None, List, ◌≡◌, ℕ, ◌<◌, ltb, length}
 use Rattle.laws.specs.Lists.{same}
 use Rattle.table.specs.declared.kind.Scalar.{Scalar}
 use Rattle.table.specs.declared.kind.Scalar.TheVariants.{Null, True, False, Str, Num, Int}

@@ -17,12 +17,11 @@ use Rattle.table.specs.Limits.{within_limits}
 use Rattle.frame.specs.Frame.{frame_count}
 use Rattle.progress.specs.Memory.{Ran, run_mem}
 use Rattle.progress.specs.Fresh.{fresh_progress}
+use Rattle.std.proofs.Common.{Err, Ok}
 use Rattle.reader.specs.declared.Reader.{Reader}
 use Rattle.reader.specs.declared.Refusal.{Refusal}
 use Rattle.reader.specs.declared.Refusal.TheVariants as No
-use Rattle.reader.specs.declared.Gate.{Gate}
-use Rattle.reader.specs.declared.Gate.TheVariants as Is
-use Rattle.reader.specs.Refusals.{fit_reader, within_reader, start_gate, call_gate, through}
+use Rattle.reader.specs.Refusals.{Gate, let_in, fit_reader, within_reader, start_gate, call_gate, through}
 use Rattle.reader.specs.Start.{Start, start_of}
 use Rattle.reader.specs.Machine.{Outcome, refusing, or_refused, memory_of, outcome, feeding, feed_of, closing, close_of}
 use Rattle.stream.specs.Paper.{Call, feed, close, Judge, Paper, Said, goes, ends, refuses, says}
@@ -159,7 +158,7 @@ module _ (n : ℕ) (least : 1 ≤ n) (most : n ≤ 64) where
     run-at-gate : run r c ≡ through gate (refusing r (buffer c)) (reading r c)
     run-at-gate = run-of-reading r c ∙ rw (within_reader-of-good r g, g.frames)
 
-    accepted-of-open : gate ≡ Is.Open → Accepted n r c
+    accepted-of-open : gate ≡ let_in → Accepted n r c
     accepted-of-open o =
         record {
           run_is = run-at-gate ∙ rw o;
@@ -167,10 +166,10 @@ module _ (n : ℕ) (least : 1 ≤ n) (most : n ≤ 64) where
           long = room-of-call true n (table c) (length (buffer c)) o;
         }
 
-    run-of-shut : (k : Refusal) → gate ≡ Is.Shut k → run r c ≡ refusing r (buffer c) k
+    run-of-shut : (k : Refusal) → gate ≡ Err k → run r c ≡ refusing r (buffer c) k
     run-of-shut k o = run-at-gate ∙ rw o
 
-    refused-of-shut : (k : Refusal) → gate ≡ Is.Shut k → Refused n r c
+    refused-of-shut : (k : Refusal) → gate ≡ Err k → Refused n r c
     refused-of-shut k o =
         let x : run r c ≡ refusing r (buffer c) k = run-of-shut k o in
         let y : (J : Judge) (p : Paper) → says J n p c ≡ record { paper = p; count = 0; answer = Err k } = λ J p. says-of-saying J n p c ∙ rw o in
@@ -204,11 +203,11 @@ module _ (n : ℕ) (least : 1 ≤ n) (most : n ≤ 64) where
     limits-of-refused e = go gate refl
       where
         go : (a : Gate) → gate ≡ a → within_limits (table c) ≡ false
-        go Is.Open o = absurd (reading-not-refused r c No.AboveLimit (sym (ap (λ (x : Outcome). x.answer) (accepted-of-open o).run_is) ∙ e))
-        go (Is.Shut k) o =
+        go (Ok u) o = absurd (reading-not-refused r c No.AboveLimit (sym (ap (λ (x : Outcome). x.answer) (accepted-of-open o).run_is) ∙ e))
+        go (Err k) o =
             let q : Err k ≡ Err No.AboveLimit = sym (ap (λ (x : Outcome). x.answer) (run-of-shut k o)) ∙ e in
             let z : k ≡ No.AboveLimit = cc in
-            table-of-above-limit n (table c) (length (buffer c)) (o ∙ ap Is.Shut z)
+            table-of-above-limit n (table c) (length (buffer c)) (o ∙ ap Err z)
 
   -- a close that is not refused leaves a fresh reader
   pub fresh-of-closes : (r : Reader) (c : Call) → Good n r → closes n c ≡ true → Fresh n (run r c).reader

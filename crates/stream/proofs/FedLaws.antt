@@ -1,6 +1,5 @@
 -- A feed of one byte: it leaves the frames as they are, or the byte is sound and does its task. A piece is its bytes. Assumes nothing.
-use Rattle.std.specs.Prelude.{Ok, Some, None}
-use Rattle.std.specs.Prelude.{Option, Some, None}
+use Rattle.std.specs.Prelude.{Ok, Some, None, Option, Err}
 use mathlib.Core.Bool.{Bool, true, false, cond}
 use mathlib.Core.List.{List, [], ◌∷◌}
 use mathlib.Core.Logic.{◌⊎◌, inl, inr}
@@ -24,11 +23,10 @@ use Rattle.progress.specs.Act.{first_fault, level_after, len_after, task_of}
 use Rattle.progress.specs.Progress.{counted, faulted, char_in, moved, sound, advanced, judged}
 use Rattle.progress.specs.Memory.{Mem, top_at, perform, advanced_at, step_mem, ends_record, Ran, run_mem}
 use Rattle.progress.proofs.MemoryLaws.{length-step_mem, progress-perform, fresh-of-RS}
+use Rattle.std.proofs.Common.{Err, Ok}
 use Rattle.reader.specs.declared.Reader.{Reader}
 use Rattle.reader.specs.declared.Refusal.{Refusal}
-use Rattle.reader.specs.declared.Gate.{Gate}
-use Rattle.reader.specs.declared.Gate.TheVariants as Is
-use Rattle.reader.specs.Refusals.{within_reader, call_gate}
+use Rattle.reader.specs.Refusals.{Gate, let_in, within_reader, call_gate}
 use Rattle.reader.specs.Machine.{Outcome, refusing, memory_of, ending, going, outcome, feeding, feed_of}
 use Rattle.reader.proofs.RefusalLaws.{through-elim, reader-of-call, bounds-of-fit, fit_all}
 use Rattle.stream.specs.Lent.{level_of, mode_of, byte_fed, then_fed, in_two}
@@ -41,15 +39,15 @@ abbrev pub gate_of : Reader → Table → List ℕ → Gate
 gate_of r t w = call_gate (within_reader r) r.frames t (length w)
 
 -- what an open gate of a feed tells of the reader
-pub bounds-of-open : (r : Reader) (t : Table) (w : List ℕ) → gate_of r t w ≡ Is.Open
+pub bounds-of-open : (r : Reader) (t : Table) (w : List ℕ) → gate_of r t w ≡ let_in
     → (1 ≤ r.frames) × (r.frames ≤ 64) × (level_of r ≤ r.frames) × (r.progress.len ≤ 33)
 bounds-of-open r t w e = bounds-of-fit r.frames (level_of r) r.progress.len (reader-of-call (within_reader r) r.frames t (length w) e)
 
-pub feed_of-of-open : (r : Reader) (t : Table) (w s : List ℕ) → gate_of r t w ≡ Is.Open → feed_of r t w s ≡ feeding r t w s
+pub feed_of-of-open : (r : Reader) (t : Table) (w s : List ℕ) → gate_of r t w ≡ let_in → feed_of r t w s ≡ feeding r t w s
 unfolding feed_of
 feed_of-of-open r t w s e = rw e
 
-pub feed_of-of-shut : (r : Reader) (t : Table) (w s : List ℕ) (k : Refusal) → gate_of r t w ≡ Is.Shut k → feed_of r t w s ≡ refusing r w k
+pub feed_of-of-shut : (r : Reader) (t : Table) (w s : List ℕ) (k : Refusal) → gate_of r t w ≡ Err k → feed_of r t w s ≡ refusing r w k
 unfolding feed_of
 feed_of-of-shut r t w s k e = rw e
 
@@ -75,7 +73,7 @@ done r t w b st = going r (perform (task_by r b st) t (memory_of r w) (moved_by 
 
 -- the call is let in, the byte is no RS and brings no fault, and the record had none and is not the head
 pub record IsSound (r : Reader) (t : Table) (w : List ℕ) (b : ℕ) : Type 0 where
-  pub gate : gate_of r t w ≡ Is.Open
+  pub gate : gate_of r t w ≡ let_in
   pub byte : eqb b 0x1E ≡ false
   pub head : r.progress.head ≡ false
   pub fault : r.progress.fault ≡ None
@@ -98,12 +96,12 @@ module _ (r : Reader) (t : Table) (w : List ℕ) (b : ℕ) where
   feeding-of-end e = rw e
 
   -- an RS after at least one byte of a record gives its verdict
-  pub judged-of-RS : gate_of r t w ≡ Is.Open → eqb b 0x1E ≡ true → ltb 0 r.progress.pos ≡ true
+  pub judged-of-RS : gate_of r t w ≡ let_in → eqb b 0x1E ≡ true → ltb 0 r.progress.pos ≡ true
       → (byte_fed r t w b).answer ≡ Ok (Some (judged r.progress r.root))
   judged-of-RS g e p =
       ap (λ (x : Outcome). x.answer) (feed_of-of-open r t w (b ∷ []) g ∙ feeding-of-end (ends_record-of-RS r.progress b e ∙ p))
 
-  module _ (g : gate_of r t w ≡ Is.Open) (e : eqb b 0x1E ≡ false) where
+  module _ (g : gate_of r t w ≡ let_in) (e : eqb b 0x1E ≡ false) where
     -- another byte gives no verdict, and this is what is known of the record after it
     pub fed-of-other : byte_fed r t w b ≡ going r (step_mem t r.frames (memory_of r w) b) 1
     fed-of-other = feed_of-of-open r t w (b ∷ []) g ∙ feeding-of-byte (ends_record-of-byte r.progress b e)
@@ -141,7 +139,7 @@ module _ (r : Reader) (t : Table) (w : List ℕ) (b : ℕ) where
   abbrev pub Ways : Type 0
   Ways = Idles r w b (byte_fed r t w b) ⊎ IsSound r t w b
 
-  module _ (g : gate_of r t w ≡ Is.Open) (e : eqb b 0x1E ≡ false) where
+  module _ (g : gate_of r t w ≡ let_in) (e : eqb b 0x1E ≡ false) where
     idles-of-task : (y : Progress) → y.level ≡ level_of r → y.mode ≡ mode_of r
         → advanced_at r.frames (memory_of r w) b ≡ record { progress = y; task = To.Idle } → Idles r w b (byte_fed r t w b)
     unfolding step_mem
@@ -171,26 +169,26 @@ module _ (r : Reader) (t : Table) (w : List ℕ) (b : ℕ) where
     ways-by-head false h = ways-by-fault h r.progress.fault refl
 
   -- an RS ends a record or the head
-  idles-of-RS : gate_of r t w ≡ Is.Open → eqb b 0x1E ≡ true → (v : Bool) → ends_record r.progress b ≡ v → Idles r w b (byte_fed r t w b)
+  idles-of-RS : gate_of r t w ≡ let_in → eqb b 0x1E ≡ true → (v : Bool) → ends_record r.progress b ≡ v → Idles r w b (byte_fed r t w b)
   idles-of-RS g e true q =
       rw (feed_of-of-open r t w (b ∷ []) g ∙ feeding-of-end q) (record { work = refl; level = omega arith; stays = λ z. true-neq-false (sym e ∙ z) })
   idles-of-RS g e false q =
       rw (feed_of-of-open r t w (b ∷ []) g ∙ feeding-of-byte q, fresh-of-RS t r.frames (memory_of r w) b e)
       (record { work = refl; level = omega arith; stays = λ z. true-neq-false (sym e ∙ z) })
 
-  idles-of-shut : (k : Refusal) → gate_of r t w ≡ Is.Shut k → Idles r w b (byte_fed r t w b)
+  idles-of-shut : (k : Refusal) → gate_of r t w ≡ Err k → Idles r w b (byte_fed r t w b)
   idles-of-shut k g = rw (feed_of-of-shut r t w (b ∷ []) k g) (record { work = refl; level = omega arith; stays = λ _. (refl, refl) })
 
   pub ways-of-byte : Ways
   ways-of-byte = by-gate (gate_of r t w) refl
     where
-      by_byte : gate_of r t w ≡ Is.Open → (v : Bool) → eqb b 0x1E ≡ v → Ways
+      by_byte : gate_of r t w ≡ let_in → (v : Bool) → eqb b 0x1E ≡ v → Ways
       by_byte g true e = inl (idles-of-RS g e (ends_record r.progress b) refl)
       by_byte g false e = ways-by-head g e r.progress.head refl
 
       by-gate : (a : Gate) → gate_of r t w ≡ a → Ways
-      by-gate Is.Open g = by_byte g (eqb b 0x1E) refl
-      by-gate (Is.Shut k) g = inl (idles-of-shut k g)
+      by-gate (Ok u) g = by_byte g (eqb b 0x1E) refl
+      by-gate (Err k) g = inl (idles-of-shut k g)
 
 -- ---- a piece is its bytes
 
@@ -223,7 +221,7 @@ module _ (r : Reader) (t : Table) (w : List ℕ) where
     reached = going r (step_mem t r.frames (memory_of r w) b) 1
 
     -- the reader after a byte that ends no record is let in again
-    open-again : gate_of r t w ≡ Is.Open → gate_of reached.reader t reached.work ≡ Is.Open
+    open-again : gate_of r t w ≡ let_in → gate_of reached.reader t reached.work ≡ let_in
     open-again g =
         let f = bounds-of-open r t w g in
         let i : Within r.frames (step_mem t r.frames (memory_of r w) b).progress
@@ -242,14 +240,14 @@ module _ (r : Reader) (t : Table) (w : List ℕ) where
         go true = refl
         go false = refl
 
-    fed-of-byte : gate_of r t w ≡ Is.Open → ends_record r.progress b ≡ false → feed_of r t w (b ∷ s) ≡ in_two t (byte_fed r t w b) s
+    fed-of-byte : gate_of r t w ≡ let_in → ends_record r.progress b ≡ false → feed_of r t w (b ∷ s) ≡ in_two t (byte_fed r t w b) s
     unfolding feeding run_mem
     fed-of-byte g e =
         rw (feed_of-of-open r t w (b ∷ s) g, feed_of-of-open r t w (b ∷ []) g, e, feed_of-of-open reached.reader t reached.work s (open-again g))
         (ap (outcome r) (run_mem-later t r.frames s (step_mem t r.frames (memory_of r w) b) 1 0)
         ∙ goes_on (run_mem t r.frames (step_mem t r.frames (memory_of r w) b) 0 s))
 
-    fed-of-end : gate_of r t w ≡ Is.Open → ends_record r.progress b ≡ true → feed_of r t w (b ∷ s) ≡ in_two t (byte_fed r t w b) s
+    fed-of-end : gate_of r t w ≡ let_in → ends_record r.progress b ≡ true → feed_of r t w (b ∷ s) ≡ in_two t (byte_fed r t w b) s
     unfolding feeding run_mem
     fed-of-end g e = rw (feed_of-of-open r t w (b ∷ s) g, feed_of-of-open r t w (b ∷ []) g, e)
 
@@ -257,15 +255,15 @@ module _ (r : Reader) (t : Table) (w : List ℕ) where
     pub fed-in-two : feed_of r t w (b ∷ s) ≡ in_two t (byte_fed r t w b) s
     fed-in-two = by-gate (gate_of r t w) refl
       where
-        by_end : gate_of r t w ≡ Is.Open → (v : Bool) → ends_record r.progress b ≡ v → feed_of r t w (b ∷ s) ≡ in_two t (byte_fed r t w b) s
+        by_end : gate_of r t w ≡ let_in → (v : Bool) → ends_record r.progress b ≡ v → feed_of r t w (b ∷ s) ≡ in_two t (byte_fed r t w b) s
         by_end g true e = fed-of-end g e
         by_end g false e = fed-of-byte g e
 
         by-gate : (a : Gate) → gate_of r t w ≡ a → feed_of r t w (b ∷ s) ≡ in_two t (byte_fed r t w b) s
-        by-gate Is.Open g = by_end g (ends_record r.progress b) refl
-        by-gate (Is.Shut k) g = rw (feed_of-of-shut r t w (b ∷ s) k g, feed_of-of-shut r t w (b ∷ []) k g)
+        by-gate (Ok u) g = by_end g (ends_record r.progress b) refl
+        by-gate (Err k) g = rw (feed_of-of-shut r t w (b ∷ s) k g, feed_of-of-shut r t w (b ∷ []) k g)
 
 -- after a byte other than RS the reader is let in again
-pub open-of-other : (r : Reader) (t : Table) (w : List ℕ) (b : ℕ) → gate_of r t w ≡ Is.Open → eqb b 0x1E ≡ false
-    → gate_of (byte_fed r t w b).reader t (byte_fed r t w b).work ≡ Is.Open
+pub open-of-other : (r : Reader) (t : Table) (w : List ℕ) (b : ℕ) → gate_of r t w ≡ let_in → eqb b 0x1E ≡ false
+    → gate_of (byte_fed r t w b).reader t (byte_fed r t w b).work ≡ let_in
 open-of-other r t w b g e = rw (fed-of-other r t w b g e) (open-again r t w b [] g)

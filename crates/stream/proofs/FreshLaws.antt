@@ -14,8 +14,7 @@ use Rattle.laws.proofs.TestLaws.{cond-elim, true-neq-false}
 use Rattle.progress.specs.Memory.{Mem, fresh_mem, step_mem, ends_record, Ran, run_mem}
 use Rattle.progress.proofs.MemoryLaws.{fresh-of-RS}
 use Rattle.reader.specs.declared.Reader.{Reader}
-use Rattle.reader.specs.declared.Gate.TheVariants as Is
-use Rattle.reader.specs.Refusals.{within_reader, call_gate}
+use Rattle.reader.specs.Refusals.{let_in, within_reader, call_gate}
 use Rattle.reader.specs.Start.{fresh_reader}
 use Rattle.reader.specs.Machine.{Outcome, memory_of, ending, going, outcome, feeding, feed_of}
 use Rattle.stream.proofs.ByteLaws.{ends_record-of-RS}
@@ -61,7 +60,7 @@ module _ (t : Table) (n : ℕ) where
 
 -- ---- the reader
 
-module _ (r : Reader) (t : Table) (w : List ℕ) (admitted : call_gate (within_reader r) r.frames t (length w) ≡ Is.Open) where
+module _ (r : Reader) (t : Table) (w : List ℕ) (admitted : call_gate (within_reader r) r.frames t (length w) ≡ let_in) where
   -- an RS alone: where nothing is read of a record it gives no verdict and the fresh reader, whatever level, fault, root or key r had; else it ends
   -- the record. The buffer stays as it was
   pub feed-of-RS : feed_of r t w (0x1E ∷ [])

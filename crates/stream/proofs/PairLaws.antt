@@ -1,7 +1,6 @@
 -- A record in a string or a key goes on after a first byte from 80 up and a second byte exactly when a row of RFC 3629 lists the two:
 -- `goes-on-iff-listed`. Assumes nothing.
 use Rattle.std.specs.Prelude.{Ok, Some, None}
-use Rattle.std.specs.Prelude.{Some, None}
 use mathlib.Core.Bool.{Bool, true, false}
 use mathlib.Core.List.{List, [], ◌∷◌}
 use mathlib.Core.Logic.{◌⊎◌, inl, inr, ◌↔◌}
@@ -29,9 +28,9 @@ use Rattle.progress.specs.declared.Progress.{Progress}
 use Rattle.progress.specs.Act.{first_fault}
 use Rattle.progress.specs.Progress.{sound, advanced}
 use Rattle.pass.proofs.ByteLaws.{bump-below}
+use Rattle.reader.specs.Refusals.{let_in}
 use Rattle.reader.specs.declared.Reader.{Reader}
 use Rattle.reader.specs.Answer.{Answer}
-use Rattle.reader.specs.declared.Gate.TheVariants as Is
 use Rattle.reader.specs.Machine.{Outcome, feed_of}
 use Rattle.stream.specs.Lent.{level_of, mode_of, faulty_in, byte_fed, then_fed}
 use Rattle.stream.specs.Pairs.{AwaitsChar, of_string, of_key, GoesOn, Pairs}
@@ -66,14 +65,14 @@ module _ (x : Progress) (n b : ℕ) (st : Step) (e : eqb b 0x1E ≡ false) (h : 
 
 -- the call is let in, and the record, of which a byte is read, is not the head and is malformed
 record Malformed (r : Reader) (t : Table) (w : List ℕ) : Type 0 where
-  gate : gate_of r t w ≡ Is.Open
+  gate : gate_of r t w ≡ let_in
   head : r.progress.head ≡ false
   fault : r.progress.fault ≡ Some F.Malformed
   read : ltb 0 r.progress.pos ≡ true
 
 -- the call is let in, and the record, of p bytes so far, is not the head, has no fault and stands in mode m
 record Reads (r : Reader) (t : Table) (w : List ℕ) (m : Mode) (p : ℕ) : Type 0 where
-  gate : gate_of r t w ≡ Is.Open
+  gate : gate_of r t w ≡ let_in
   head : r.progress.head ≡ false
   fault : r.progress.fault ≡ None
   mode : mode_of r ≡ m
@@ -87,7 +86,7 @@ module _ (r : Reader) (t : Table) (w : List ℕ) (b : ℕ) (e : eqb b 0x1E ≡ f
   abbrev o : Outcome
   o = byte_fed r t w b
 
-  read-of-byte : gate_of r t w ≡ Is.Open → ltb 0 o.reader.progress.pos ≡ true
+  read-of-byte : gate_of r t w ≡ let_in → ltb 0 o.reader.progress.pos ≡ true
   read-of-byte g = rw (moves-of-other r t w b g e).pos (bump-pos r.progress.pos)
 
   malformed-again : Malformed r t w → Malformed o.reader t o.work
@@ -207,7 +206,7 @@ module _ (K : Kind) (r : Reader) (t : Table) (w : List ℕ) (p a b : ℕ) (x : R
   two-fed : feed_of r t w (a ∷ b ∷ []) ≡ then_fed (Ok None) first second
   two-fed = fed-in-two r t w a (b ∷ []) ∙ ap (λ (z : Answer). then_fed z first second) (quiet-of-other r t w a x.gate (other-of-high a h))
 
-  open-first : gate_of first.reader t first.work ≡ Is.Open
+  open-first : gate_of first.reader t first.work ≡ let_in
   open-first = open-of-other r t w a x.gate (other-of-high a h)
 
   -- an RS ends the record

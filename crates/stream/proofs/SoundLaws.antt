@@ -34,9 +34,8 @@ use Rattle.progress.specs.Memory.{top_at, value_at, perform}
 use Rattle.progress.specs.Act.{scalar_of}
 use Rattle.progress.proofs.ActLaws.{level_after-le}
 use Rattle.reader.specs.declared.Reader.{Reader}
-use Rattle.reader.specs.declared.Gate.TheVariants as Gate
 use Rattle.reader.specs.Machine.{Outcome, memory_of, closing, close_of}
-use Rattle.reader.specs.Refusals.{within_reader}
+use Rattle.reader.specs.Refusals.{let_in, within_reader}
 use Rattle.reader.proofs.RefusalLaws.{room-of-call, through-elim}
 use Rattle.stream.specs.Lent.{Outside, Spares, with_value, with_key, rules_of, level_of, mode_of, is_in_token, word_kind, is_faulty, says_faulty, faulty_in, byte_fed}
 use Rattle.stream.proofs.LexerLaws.{Tells, tells-step_of, placed-step_of, key_ended, text-ended, word-ended}
@@ -77,7 +76,7 @@ not-faulty r t w h f =
     (λ _. judged-not-faulty r.progress r.root h f) (λ _. refl))
 
 -- a close tells of the fault of a malformed record of which a byte is read
-pub faulty-of-malformed : (r : Reader) (t : Table) (w : List ℕ) → gate_of r t w ≡ Gate.Open → ltb 0 r.progress.pos ≡ true → r.progress.head ≡ false
+pub faulty-of-malformed : (r : Reader) (t : Table) (w : List ℕ) → gate_of r t w ≡ let_in → ltb 0 r.progress.pos ≡ true → r.progress.head ≡ false
     → r.progress.fault ≡ Some F.Malformed → faulty_in r t w ≡ true
 unfolding close_of closing judged
 faulty-of-malformed r t w g p h f = rw (g, p, h, f)

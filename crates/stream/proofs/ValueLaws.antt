@@ -1,6 +1,5 @@
 -- Of a number that is fed where a value is awaited the reader finds `int` exactly where the value is whole: `kind-of-number`. Assumes nothing.
 use Rattle.std.specs.Prelude.{Ok, Err, None}
-use Rattle.std.specs.Prelude.{None}
 use mathlib.Core.Bool.{Bool, true, false, cond}
 use mathlib.Core.List.{List, [], ◌∷◌}
 use mathlib.Core.Logic.{◌↔◌}
@@ -39,17 +38,17 @@ use Rattle.verdict.specs.Verdict.{longest}
 use Rattle.progress.specs.Act.{first_fault, number_in, number_kind}
 use Rattle.pass.proofs.ByteLaws.{bump-below}
 use Rattle.pass.proofs.NumberLaws.{go-other}
+use Rattle.std.proofs.Common.{Err, Ok}
+use Rattle.reader.specs.Refusals.{let_in, Gate}
 use Rattle.reader.specs.declared.Reader.{Reader}
 use Rattle.reader.specs.Answer.{Answer}
-use Rattle.reader.specs.declared.Gate.{Gate}
-use Rattle.reader.specs.declared.Gate.TheVariants as Is
 use Rattle.reader.specs.Machine.{Outcome, feed_of}
 use Rattle.stream.specs.Lent.{level_of, mode_of, byte_fed, then_fed, AwaitsValue}
 use Rattle.stream.proofs.FedLaws.{gate_of, feed_of-of-shut, step_at, done, IsSound, fed-of-sound, fed-none, fed-in-two}
 
 -- a call is let in, and the record reads on in mode m after p bytes, with what is counted of a number
 record ReadsOn (t : Table) (r : Reader) (w : List ℕ) (m : Mode) (d : Decimal) (p : ℕ) : Type 0 where
-  gate : gate_of r t w ≡ Is.Open
+  gate : gate_of r t w ≡ let_in
   head : r.progress.head ≡ false
   fault : r.progress.fault ≡ None
   mode : mode_of r ≡ m
@@ -163,12 +162,12 @@ kind-iff-read : {x : Decimal} {q : Read} → CountsOf x q → (number_kind x ≡
 kind-iff-read {x} (counts_of {k} h) = rw (true-of-T (may_end k) h) (kind-iff x)
 
 -- a call that says nothing of an empty piece is let in
-pub open-of-quiet : (r : Reader) (t : Table) (w : List ℕ) → (feed_of r t w []).answer ≡ Ok None → gate_of r t w ≡ Is.Open
+pub open-of-quiet : (r : Reader) (t : Table) (w : List ℕ) → (feed_of r t w []).answer ≡ Ok None → gate_of r t w ≡ let_in
 open-of-quiet r t w e = go (gate_of r t w) refl
   where
-    go : (g : Gate) → gate_of r t w ≡ g → gate_of r t w ≡ Is.Open
-    go Is.Open q = q
-    go (Is.Shut k) q =
+    go : (g : Gate) → gate_of r t w ≡ g → gate_of r t w ≡ let_in
+    go (Ok u) q = q
+    go (Err k) q =
         let f : (feed_of r t w []).answer ≡ Err k = ap (λ (o : Outcome). o.answer) (feed_of-of-shut r t w [] k q) in
         let z : ◌≡◌ {A = ℕ} 0 1 = cc in
         absurd (omega arith)

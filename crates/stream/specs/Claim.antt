@@ -1,7 +1,6 @@
 -- Demand 3: REQUIREMENT.md, sections 1 and 7. After an accepted start, any list of feeds and closes, refused ones included, each handed the reader
 -- that the one before returned and otherwise any table, buffer and piece. Stated. Assumes nothing.
-use Rattle.std.specs.Prelude.{Ok, None}
-use Rattle.std.specs.Prelude.{Bool, true, false, cond, List, [], ◌∷◌, ◌≡◌, ℕ, T, length}
+use Rattle.std.specs.Prelude.{Bool, true, false, cond, List, [], ◌∷◌, ◌≡◌, ℕ, T, length, Ok, None}
 use Rattle.table.specs.Table.{Table}
 use Rattle.book.specs.Entry.{Entry}
 use Rattle.frame.specs.Frame.{frame_count}

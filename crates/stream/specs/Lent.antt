@@ -2,9 +2,7 @@
 -- bytes, RS and close; and that nothing is written past the frames or in the frame of a level that is not open. Each sentence is about `feed_of` and
 -- `close_of`, for every reader, table, buffer and byte, made-up readers and refused calls too. Stated; `lent` of `LentLaws` proves all of `Lent`.
 -- Assumes nothing.
-use Rattle.std.specs.Prelude.{Ok, Err, Some, None}
-use Rattle.std.specs.Prelude.{None}
-use Rattle.std.specs.Prelude.{Bool, true, false, List, [], ◌∷◌, ◌++◌, ◌⊎◌, ◌↔◌, ◌≡◌, ℕ, ◌+◌, ◌*◌, ◌-◌, ◌<◌, ◌≤◌, eqb, length, get_or}
+use Rattle.std.specs.Prelude.{None, Bool, true, false, List, [], ◌∷◌, ◌++◌, ◌⊎◌, ◌↔◌, ◌≡◌, ℕ, ◌+◌, ◌*◌, ◌-◌, ◌<◌, ◌≤◌, eqb, length, get_or, Ok, Err, Some}
 use Rattle.json_text.specs.Numbers.{Number}
 use Rattle.json_text.specs.declared.string.StringMode.{StringMode}
 use Rattle.json_text.specs.declared.number.NumberMode.{NumberMode}

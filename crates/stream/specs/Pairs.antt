@@ -1,8 +1,6 @@
 -- The first two bytes of a UTF-8 sequence, fed to a reader: RFC 3629, section 4, and REQUIREMENT.md, section 2. Each sentence is about `feed_of` and
 -- `close_of`, for every reader, table and buffer, made-up readers too. Stated; `goes-on-iff-listed` of `PairLaws` proves `Pairs`. Assumes nothing.
-use Rattle.std.specs.Prelude.{Ok, None}
-use Rattle.std.specs.Prelude.{None}
-use Rattle.std.specs.Prelude.{false, List, [], ◌∷◌, ◌↔◌, ◌≡◌, ℕ, ◌+◌, ◌≤◌}
+use Rattle.std.specs.Prelude.{None, false, List, [], ◌∷◌, ◌↔◌, ◌≡◌, ℕ, ◌+◌, ◌≤◌, Ok}
 use Rattle.json_text.specs.Rows.{Listed}
 use Rattle.json_text.specs.declared.string.StringMode.TheVariants as S
 use Rattle.json_text.specs.declared.lexer.Mode.{Mode}

@@ -1,7 +1,6 @@
 -- A stream by its bytes: RS splits it into parts, each nonempty one a record with one verdict, and calls hand its bytes over piece by piece:
 -- REQUIREMENT.md, sections 6 and 7. Stated. Assumes nothing.
-use Rattle.std.specs.Prelude.{Ok, Err, Some, None}
-use Rattle.std.specs.Prelude.{Bool, true, false, cond, not, List, [], ◌∷◌, ◌++◌, ◌≡◌, ℕ, eqb, drop, replicate}
+use Rattle.std.specs.Prelude.{Bool, true, false, cond, not, List, [], ◌∷◌, ◌++◌, ◌≡◌, ℕ, eqb, drop, replicate, Ok, Err, Some, None}
 use Rattle.laws.specs.Lists.{all}
 use Rattle.table.specs.Table.{Table}
 use Rattle.book.specs.Entry.{Entry}

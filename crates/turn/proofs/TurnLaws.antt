@@ -1,30 +1,33 @@
 -- What the parts of a turn tell is what the definitions say: laws in the form of the code's needs, and `turned-step_mem`. Assumes nothing.
-use mathlib.Core.Bool.{Bool, true, false, cond}
+use mathlib.Core.Bool.{Bool, true}
 use mathlib.Core.List.{List}
-use mathlib.Core.Path.{◌≡◌, refl, sym, ap, ◌∙◌}
-use Prim.Native.Nat.{ℕ, ◌-◌}
-use native.Mathlib.Omega.{arith}
-use lib.ListN.{length, replicate}
+use mathlib.Core.Path.{◌≡◌, ap, ◌∙◌}
+use Prim.Native.Nat.{ℕ, ◌-◌, ◌≤◌}
 use borrow.Author.Tests.{eq-eqb, ne_eqb}
 use Rattle.json_text.specs.Lexer.{step_of}
 use Rattle.json_text.specs.declared.lexer.Top.TheVariants as Is
 use Rattle.json_text.specs.declared.lexer.Step.{Step}
 use Rattle.table.specs.Table.{Table}
-use Rattle.table.specs.declared.kind.Scalar.{Scalar}
+use Rattle.table.specs.Limits.{within_limits}
+use Rattle.table.proofs.LimitLaws.{within_limits-sound}
+use Rattle.laws.proofs.TestLaws.{T-of-true}
 use Rattle.table.specs.declared.kind.Finished.TheVariants as Done
 use Rattle.table.specs.Kind.{rule_fits}
-use Rattle.table.specs.Keys.{key_found}
-use Rattle.frame.specs.Frame.{frame_at, put_frame, is_object, kind_number}
+use Rattle.frame.specs.declared.Kind.TheVariants.{Object, Array}
+use Rattle.frame.specs.Frame.{frame_at, put_frame, kind_in}
+use Rattle.frame.proofs.KindLaws.{object-of-kind, array-of-kind}
 use Rattle.frame.specs.Edges.{edges_of}
-use Rattle.frame.specs.Ops.{opened, keyed, valued, closed}
-use Rattle.progress.specs.declared.Progress.{Progress}
-use Rattle.progress.specs.declared.Task.{Task}
-use Rattle.progress.specs.declared.Task.TheVariants as To
+use Rattle.frame.specs.Ops.{valued, closed}
 use Rattle.progress.specs.declared.Advanced.{Advanced}
-use Rattle.progress.specs.Act.{kept_in}
 use Rattle.progress.specs.Progress.{advanced}
-use Rattle.progress.specs.Memory.{Mem, mem, top_at, value_at, rules_at, close_at, perform, step_mem}
-use Rattle.turn.specs.Turn.{ClosedTo, named_at, PerformedTo, turned}
+use Rattle.progress.specs.Memory.{Mem, top_at, value_at, rules_at, perform, step_mem}
+use Rattle.turn.specs.Turn.{ClosedTo, turned}
+
+-- ---- what the test of a table tells
+
+-- a table that passes the test has at most 128 keys
+pub keys_le : (t : Table) → within_limits t ≡ true → t.keys ≤ 128
+keys_le t e = (within_limits-sound t (T-of-true (within_limits t) e)).keys
 
 -- ---- the innermost open value
 
@@ -32,27 +35,13 @@ pub top-bare : (w : List ℕ) (l : ℕ) → l ≡ 0 → Is.Bare ≡ top_at w l
 unfolding top_at
 top-bare w l e = rw (eq-eqb l 0 e)
 
-object-of-kind : (b : Bool) → ◌≡◌ {A = ℕ} (cond b 1 2) 1 → b ≡ true
-object-of-kind true e = refl
-object-of-kind false e = absurd (omega arith)
+pub top-object : (w : List ℕ) (l : ℕ) → (l ≡ 0 → ⊥) → Object ≡ kind_in (frame_at w l) → Is.Object ≡ top_at w l
+unfolding top_at
+top-object w l n e = simp (ne_eqb l 0 n, object-of-kind (frame_at w l) e)
 
-array-of-kind : (b : Bool) → (◌≡◌ {A = ℕ} (cond b 1 2) 1 → ⊥) → b ≡ false
-array-of-kind true e = absurd (e refl)
-array-of-kind false e = refl
-
-pub top-object : (w : List ℕ) (l k : ℕ) → (l ≡ 0 → ⊥) → k ≡ kind_number (frame_at w l) → k ≡ 1 → Is.Object ≡ top_at w l
-unfolding top_at kind_number
-top-object w l k n e f = simp (ne_eqb l 0 n, object-of-kind (is_object (frame_at w l)) (sym e ∙ f))
-
-pub top-array : (w : List ℕ) (l k : ℕ) → (l ≡ 0 → ⊥) → k ≡ kind_number (frame_at w l) → (k ≡ 1 → ⊥) → Is.Array ≡ top_at w l
-unfolding top_at kind_number
-top-array w l k n e f = simp (ne_eqb l 0 n, array-of-kind (is_object (frame_at w l)) (λ q. f (e ∙ q)))
-
--- ---- the key
-
--- the number found goes into the frame
-pub named-of-found : (t : Table) (key : List ℕ) (len k l : ℕ) (w v : List ℕ) → k ≡ key_found t key len → v ≡ put_frame w l (keyed k (frame_at w l)) → v ≡ named_at t key len w l
-named-of-found t key len k l w v e f = rw (← e) f
+pub top-array : (w : List ℕ) (l : ℕ) → (l ≡ 0 → ⊥) → Array ≡ kind_in (frame_at w l) → Is.Array ≡ top_at w l
+unfolding top_at
+top-array w l n e = simp (ne_eqb l 0 n, array-of-kind (frame_at w l) e)
 
 -- ---- closing
 
@@ -72,47 +61,6 @@ module _ (t : Table) (w : List ℕ) (l s d : ℕ) (v : List ℕ) (root : Bool)
   -- any value but the root is closed
   pub closed-inner : (l ≡ 1 → ⊥) → ClosedTo t w l root root v
   closed-inner h = record { root = rw (ne_eqb l 1 h); work = work_closed }
-
--- ---- the tasks
-
-module _ (t : Table) (k : Task) (level len up : ℕ) (root : Bool) (key w : List ℕ) where
-  pub idle-done : k ≡ To.Idle → PerformedTo k t level len up root key w root key w
-  idle-done h = record { same = λ old x p q u. rw h }
-
-  pub begin-done : (r : Bool) (next : List ℕ) → k ≡ To.Begin → length key ≡ 32 → next ≡ replicate (length key) 0 → r ≡ false
-      → PerformedTo k t level len up root key w r next w
-  begin-done r next h l e none = record { same = λ old x p q u. rw (h, e, l, none) }
-
-  pub put-done : (c : ℕ) (next : List ℕ) → k ≡ To.Put c → next ≡ kept_in key len c → PerformedTo k t level len up root key w root next w
-  put-done c next h e = record { same = λ old x p q u. rw (h, q, e) }
-
-  pub named-done : (v : List ℕ) → k ≡ To.Named → v ≡ named_at t key len w level → PerformedTo k t level len up root key w root key v
-  named-done v h e = record { same = λ old x p q u. rw (h, q, p, e) }
-
-  pub opened-done : (o : Bool) (v : List ℕ) → k ≡ To.Open o → v ≡ put_frame w up (opened t.forms o) → PerformedTo k t level len up root key w root key v
-  opened-done o v h e = record { same = λ old x p q u. rw (h, u, e) }
-
-  pub finish-done : (s : Scalar) (v : List ℕ) → k ≡ To.Finish s
-      → v ≡ put_frame w level (valued (edges_of t.edges t.edge_rule t.edge_state t.edge_key t.edge_next) t.edge_kind t.forms (Done.Scalar s) (frame_at w level))
-      → PerformedTo k t level len up root key w root key v
-  unfolding value_at
-  finish-done s v h e = record { same = λ old x p q u. rw (h, p, e) }
-
-  pub close-done : (r : Bool) (v : List ℕ) → k ≡ To.Close → ClosedTo t w level root r v → PerformedTo k t level len up root key w r key v
-  unfolding close_at
-  close-done r v h e = record { same = λ old x p q u. rw (h, p, e.root, e.work) }
-
-  pub finish-close-done : (s : Scalar) (o : List ℕ) (r : Bool) (v : List ℕ) → k ≡ To.FinishClose s
-      → o ≡ put_frame w level (valued (edges_of t.edges t.edge_rule t.edge_state t.edge_key t.edge_next) t.edge_kind t.forms (Done.Scalar s) (frame_at w level))
-      → ClosedTo t o level root r v → PerformedTo k t level len up root key w r key v
-  unfolding close_at value_at
-  finish-close-done s o r v h g e = record { same = λ old x p q u. rw (h, p, e.root, e.work, g) }
-
--- where the task and the record after the byte are what the limits make of the step, a turn has done the task
-pub turned-of-performed : (t : Table) (n : ℕ) (old : Progress) (root : Bool) (key w : List ℕ) (b : ℕ) (st : Step) (a : Advanced) (r : Bool) (kept v : List ℕ) → a ≡ advanced old n b st
-    → PerformedTo a.task t old.level old.len a.progress.level root key w r kept v → mem a.progress r kept v ≡ turned t n (mem old root key w) b st
-turned-of-performed t n old root key w b st a r kept v f h =
-    h.same old a.progress refl refl refl ∙ ap (λ (x : Advanced). perform x.task t (mem old root key w) x.progress) f
 
 -- where the limits make of the step st what they make of the byte's own, a turn is the step of the memory
 pub turned-step_mem : (t : Table) (n : ℕ) (m : Mem) (b : ℕ) (st : Step)

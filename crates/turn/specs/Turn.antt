@@ -5,26 +5,18 @@ use Rattle.table.specs.Kind.{rule_fits}
 use Rattle.table.specs.declared.kind.Finished.TheVariants as Done
 use Rattle.json_text.specs.declared.lexer.Step.{Step}
 use Rattle.table.specs.Table.{Table}
-use Rattle.table.specs.Keys.{key_found}
-use Rattle.frame.specs.Frame.{frame_at, put_frame}
-use Rattle.frame.specs.Ops.{keyed}
-use Rattle.progress.specs.declared.Progress.{Progress}
-use Rattle.progress.specs.declared.Task.{Task}
 use Rattle.progress.specs.Progress.{advanced}
 use Rattle.progress.specs.Memory.{Mem, mem, rules_at, value_at, perform}
+use Rattle.turn.specs.declared.Record.{Record}
+
+-- the memory of an open record with its key, whose frames are in the buffer w
+abbrev pub memory : Record → List ℕ → List ℕ → Mem
+memory r key w = mem r.progress r.root key w
 
 -- the value of level l is closed: what becomes of the root and of the buffer
 pub record ClosedTo (t : Table) (w : List ℕ) (l : ℕ) (old new : Bool) (v : List ℕ) : Type 0 where
   pub root : new ≡ cond (eqb l 1) (rule_fits (rules_at t w l) 0) old
   pub work : v ≡ value_at t w (l - 1) (Done.Rules (rules_at t w l))
-
--- the buffer where the key of level l is finished, of which len characters are kept
-abbrev pub named_at : Table → List ℕ → ℕ → List ℕ → ℕ → List ℕ
-named_at t key len w l = put_frame w l (keyed (key_found t key len) (frame_at w l))
-
--- a task done, where level and len are of the record before the byte and up is its level after it: what becomes of root, key and buffer
-pub record PerformedTo (k : Task) (t : Table) (level len up : ℕ) (root : Bool) (key w : List ℕ) (r : Bool) (kept v : List ℕ) : Type 0 where
-  pub same : (old x : Progress) → old.level ≡ level → old.len ≡ len → x.level ≡ up → mem x r kept v ≡ perform k t (mem old root key w) x
 
 -- the memory after byte b, of which the lexer makes the step st, with n frames
 abbrev pub turned : Table → ℕ → Mem → ℕ → Step → Mem

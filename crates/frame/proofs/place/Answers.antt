@@ -1,19 +1,17 @@
--- `place` meets its contract: the tests are those of the definition. Assumes nothing.
-use Rattle.frame.specs.Frame.{frame_count, has_frame}
-use Rattle.frame.specs.Place.{frame_place}
-use Rattle.laws.proofs.Tests.{tests}
-use borrow.Author.Tests.{lt-ltb, le-leb, lt-leb}
+-- `place` meets its contract: the levels counted are those that have a frame. Assumes nothing.
+use Rattle.frame.proofs.LevelLaws.{has_frame-counted, no_frame-below, no_frame-above, fits-of-has_frame}
 use native.Mathlib.Omega.{arith}
+use mathlib.Core.Path.{refl}
 use Rattle.frame.proofs.place.Goals as goal
+use Rattle.frame.proofs.place.Goals.{else-level-gt0-via-then-level-gt0+else-level-frames, else-level-gt0-via-else-level-gt0}
 
 pub returns-then-level-frames : goal.returns-then-level-frames
-unfolding frame_place has_frame
-returns-then-level-frames c = let a = c.args in rw (lt-ltb 0 _ c.if-level-gt0.true, le-leb a.level (frame_count a.n) (omega arith))
-
-pub returns-then-level-gt0 : goal.returns-then-level-gt0
-unfolding frame_place has_frame
-returns-then-level-gt0 c = let a = c.args in rw (lt-ltb 0 _ c.if-level-gt0.true, lt-leb a.level (frame_count a.n) (omega arith))
+returns-then-level-frames c =
+    let h = has_frame-counted c.args.n c.args.level c.if-level-gt0.true (omega arith) in (h, refl, omega (arith, fits-of-has_frame _ _ h))
 
 pub returns : goal.returns
-unfolding frame_place has_frame
-returns c = search tests
+returns c =
+    elim c.else-level-gt0.branch [
+      | else-level-gt0-via-then-level-gt0+else-level-frames w ↦ no_frame-above _ _ (omega arith)
+      | else-level-gt0-via-else-level-gt0 w ↦ no_frame-below _ _ (omega arith)
+    ]

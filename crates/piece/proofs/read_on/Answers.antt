@@ -1,13 +1,7 @@
 -- `read_on` meets its contract: what is after the bytes passed over gives what the whole gives. Assumes nothing.
-use Rattle.piece.proofs.PieceLaws.{byte-passed, step-passed, went-all, went_on}
+use Rattle.piece.proofs.PieceLaws.{byte-passed, step-passed}
 use borrow.Author.Rules.{rules}
 use Rattle.piece.proofs.read_on.Goals as goal
 
 pub read_byte-requires : goal.read_byte-requires
-read_byte-requires c = (search rules, search rules, search (rules, byte-passed), search (rules, step-passed))
-
-pub returns-in-Some : goal.returns-in-Some
-returns-in-Some c = search (rules, went_on)
-
-pub returns : goal.returns
-returns c = search (rules, went-all)
+read_byte-requires c = (search (rules, byte-passed), search (rules, step-passed))

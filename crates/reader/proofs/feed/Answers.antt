@@ -1,14 +1,9 @@
 -- `feed` meets its contract: what its gate lets in is read. Assumes nothing.
-use Rattle.reader.proofs.RefusalLaws.{table-let-in}
-use Rattle.reader.proofs.ReaderLaws.{feed-shut, feed-open}
-use borrow.Author.Rules.{rules}
+use Rattle.reader.proofs.ReaderLaws.{feed-refused, feed-let_in}
 use Rattle.reader.proofs.feed.Goals as goal
 
-pub returns-in-Shut : goal.returns-in-Shut
-returns-in-Shut c = search (rules, feed-shut)
+pub returns-in-Ok : goal.returns-in-Ok
+returns-in-Ok c = let h = c.in-Ok.ensures in feed-let_in _ _ _ _ _ h.0 (rw h.1 at c.read_piece-count.ensures)
 
-pub read_piece-requires : goal.read_piece-requires
-read_piece-requires c = search (rules, table-let-in)
-
-pub returns : goal.returns
-returns c = search (rules, feed-open)
+pub returns-in-Err : goal.returns-in-Err
+returns-in-Err c = feed-refused _ _ _ _ _ c.in-Err.ensures

@@ -6,8 +6,8 @@ use Rattle.turn.proofs.top_of.Goals as goal
 pub returns-then-level-eq0 : goal.returns-then-level-eq0
 returns-then-level-eq0 c = search (rules, top-bare)
 
-pub returns-then-kind_at-eq1 : goal.returns-then-kind_at-eq1
-returns-then-kind_at-eq1 c = search (rules, top-object)
+pub returns-in-Object : goal.returns-in-Object
+returns-in-Object c = top-object _ _ c.if-level-eq0.false c.in-Object.ensures
 
-pub returns : goal.returns
-returns c = search (rules, top-array)
+pub returns-in-Array : goal.returns-in-Array
+returns-in-Array c = top-array _ _ c.if-level-eq0.false c.in-Array.ensures

@@ -1,13 +1,14 @@
 -- `close::close_frame` meets its contract: a law for each of the three cases. Assumes nothing.
+use Rattle.std.proofs.Common.{ℕ, ◌-◌, ◌∙◌, ap, drop}
 use Rattle.frame.proofs.CloseLaws.{closed-marked, closed-object, closed-array}
-use borrow.Author.Rules.{rules}
+use Rattle.frame.proofs.KindLaws.{object-of-kind, array-of-kind}
 use Rattle.frame.proofs.close.close_frame.Goals as goal
 
-pub returns-then-frame-gt0 : goal.returns-then-frame-gt0
-returns-then-frame-gt0 c = closed-marked _ _ _ _ c.if-frame-eq1.true c.if-frame-gt0.true
+pub returns-in-Object : goal.returns-in-Object
+returns-in-Object c = closed-marked _ _ _ _ (object-of-kind _ c.in-Object.ensures) c.if-frame-gt0.true
 
-pub returns-then-frame-eq1 : goal.returns-then-frame-eq1
-returns-then-frame-eq1 c = closed-object _ _ _ _ _ _ c.if-frame-eq1.true c.if-frame-gt0.false c.walk-reached.ensures c.rule_set.ensures
+pub returns-in-Object-2 : goal.returns-in-Object-2
+returns-in-Object-2 c = closed-object _ _ _ _ _ _ (object-of-kind _ c.in-Object.ensures) c.if-frame-gt0.false c.walk.ensures c.rule_set.ensures
 
-pub returns : goal.returns
-returns c = closed-array _ _ _ _ _ (search rules) c.if-frame-eq1.false c.rule_set-2.ensures
+pub returns-in-Array : goal.returns-in-Array
+returns-in-Array c = closed-array _ _ _ _ c.unwrap.result.now _ (array-of-kind _ c.in-Array.ensures) ((rw c.unwrap.ensures at c.last_chunk.ensures.cases).1.same ∙ ap (λ (n : ℕ). drop (n - 64) c.args.frame.now) c.told-frame) c.rule_set-in-Array.ensures

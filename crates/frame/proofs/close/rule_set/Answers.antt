@@ -1,28 +1,24 @@
--- `close::rule_set` meets its contract. The loop has the set of the rules below r. Assumes nothing.
-use Rattle.frame.proofs.QuietLaws.{rule_set-quiet}
-use Rattle.frame.specs.Ops.{rule_set}
+-- `close::rule_set` meets its contract. Assumes nothing.
+use Rattle.std.proofs.Common.{◌≡◌, ◌+◌, ◌*◌, ◌∙◌, sym, arith, refl}
 use Rattle.table.specs.Flat.{table_in}
-use borrow.Author.Rules.{rules}
-use mathlib.Core.Path.{◌≡◌, sym, ◌∙◌}
-use native.Mathlib.Omega.{arith}
+use Rattle.frame.specs.Frame.{number_of}
+use Rattle.frame.specs.Ops.{rule_set}
+use Rattle.frame.proofs.QuietLaws.{rule_set-quiet}
 use Rattle.frame.proofs.close.rule_set.Goals as goal
-use Rattle.frame.proofs.close.rule_set.Goals.{then-quiet, else-quiet}
+use Rattle.frame.proofs.close.rule_set.Goals.{then-not-quiet, else-not-quiet}
 
-pub loop-r-init : goal.loop-r-init
+pub loop-i-init : goal.loop-i-init
 unfolding rule_set
-loop-r-init c = search rules
+loop-i-init c = refl
 
-pub loop-r-preserved : goal.loop-r-preserved
-loop-r-preserved c =
-    let g = c.args in
-    let l = c.loop-r in (
-      search rules,
-      search rules,
-      elim c.if-quiet.branch [
-        | then-quiet w ↦ w.set-is ∙ l.invariant.2 ∙ sym (rule_set-quiet (table_in g.table.now).forms (table_in g.table.now).ends g.form g.states.now l.r (c.quiet.ensures w.if-quiet.true))
-        | else-quiet w ↦ w.set-is ∙ w.with_four-t.ensures
-      ],
-    )
-
-pub returns : goal.returns
-returns c = let e : c.loop-r.r ≡ 32 = omega arith in cc
+pub loop-i-preserved : goal.loop-i-preserved
+loop-i-preserved c =
+    let a = c.args in
+    let t = table_in a.table.now in
+    let i = c.loop-i.i in
+    let e : 4 * (i + 1) ≡ 4 * i + 4 = omega arith in
+    rw e (elim c.if-not-quiet.branch [
+      | then-not-quiet w ↦ w.set-is ∙ w.with_four-set.ensures
+      | else-not-quiet w ↦ w.set-is ∙ c.loop-i.invariant
+          ∙ sym (rule_set-quiet t.forms t.ends (number_of a.kind) a.states.now (4 * i) (λ k l. let q : 2 * (4 * i) + k ≡ 8 * i + k = omega arith in rw q (c.quiet.ensures w.if-not-quiet.false k l)))
+    ])

@@ -1,19 +1,22 @@
--- `close::with_four` meets its contract. The loop has the set of the rules below r. Assumes nothing.
-use Prim.Native.Nat.{◌+◌}
-use Rattle.frame.proofs.RuleLaws.{rule_set-lt}
+-- `close::with_four` meets its contract: the new bit lies above the set. Assumes nothing.
+use Rattle.std.proofs.Common.{◌∙◌, arith, add-one}
+use Rattle.laws.proofs.BitLaws.{one_shl}
 use Rattle.frame.specs.Ops.{rule_set}
-use borrow.Author.Rules.{rules}
-use mathlib.Core.Path.{◌≡◌}
-use native.Mathlib.Numerals.{add-one}
-use native.Mathlib.Omega.{arith}
+use Rattle.frame.proofs.RuleLaws.{rule_set-lt, with-bit-lt}
 use Rattle.frame.proofs.close.with_four.Goals as goal
+use Rattle.frame.proofs.close.with_four.Goals.{then-accepts, else-accepts}
 
-pub with_rule-t-requires : goal.with_rule-t-requires
-with_rule-t-requires c = (search rules, search rules, rw c.loop-r.invariant.2 (rule_set-lt _ _))
+pub overflow_add-all : goal.overflow_add-all
+overflow_add-all c =
+    let l = c.loop-r in
+    let b = with-bit-lt l.r l.all (omega arith) (rw l.invariant (rule_set-lt _ _)) in
+    record { fits = rw (one_shl 32 l.r (omega arith)) (omega (arith, b)) }
 
 pub loop-r-preserved : goal.loop-r-preserved
 unfolding rule_set
-loop-r-preserved c = (search rules, search rules, rw (add-one, ← c.loop-r.invariant.2) c.with_rule-t.ensures)
-
-pub returns : goal.returns
-returns c = let e : c.loop-r.r ≡ c.args.from + 4 = omega arith in cc
+loop-r-preserved c =
+    rw (add-one, ← c.loop-r.invariant, ← c.accepts.ensures)
+    (elim c.if-accepts.branch [
+      | then-accepts w ↦ rw w.if-accepts.true (w.all-is ∙ rw (one_shl 32 c.loop-r.r (omega arith)) (omega arith))
+      | else-accepts w ↦ rw w.if-accepts.false w.all-is
+    ])

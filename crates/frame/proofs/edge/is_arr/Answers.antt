@@ -1,13 +1,11 @@
 -- `edge::is_arr` meets its contract. Assumes nothing.
-use Rattle.frame.proofs.ReadLaws.{has_form-read}
 use Rattle.frame.specs.Edges.{has_form}
 use Rattle.laws.proofs.Tests.{tests}
-use borrow.Author.Rules.{rules}
 use Rattle.frame.proofs.edge.is_arr.Goals as goal
 
-pub returns-then-i-lt32 : goal.returns-then-i-lt32
-returns-then-i-lt32 c = search (rules, has_form-read)
+pub returns-then-rule-lt32 : goal.returns-then-rule-lt32
+returns-then-rule-lt32 c = rw (← c.from.ensures) c.is_of_kind.ensures
 
-pub returns : goal.returns
+pub returns-else-rule-lt32 : goal.returns-else-rule-lt32
 unfolding has_form
-returns c = search tests
+returns-else-rule-lt32 c = search tests

@@ -1,12 +1,11 @@
--- `mask::mask_has` meets its contract: below 64 it is the shifted bit. Assumes nothing.
-use Rattle.frame.specs.Mask.{mask_has}
-use Rattle.laws.proofs.Tests.{tests}
+-- `mask::mask_has` meets its contract. Assumes nothing.
+use mathlib.Core.Path.{◌∙◌}
+use borrow.Author.Tests.{ne_eqb}
+use Rattle.frame.proofs.MaskLaws.{mask_has-low, mask_has-none}
 use Rattle.frame.proofs.mask.mask_has.Goals as goal
 
-pub returns-then-code-lt64 : goal.returns-then-code-lt64
-unfolding mask_has
-returns-then-code-lt64 c = search tests
+pub returns-then-mask-code-eq1 : goal.returns-then-mask-code-eq1
+returns-then-mask-code-eq1 c = mask_has-low c.args.mask c.args.code c.if-mask-code-eq1.true
 
-pub returns : goal.returns
-unfolding mask_has
-returns c = search tests
+pub returns-else-mask-code-eq1 : goal.returns-else-mask-code-eq1
+returns-else-mask-code-eq1 c = ne_eqb _ 1 c.if-mask-code-eq1.false ∙ mask_has-none c.args.mask c.args.code c.if-mask-code-eq1.false

@@ -13,4 +13,4 @@ pub returns-in-Scalar : goal.returns-in-Scalar
 returns-in-Scalar c = λ code. rw (c.scalar_mask.ensures, c.in-Scalar.is) (mask_has-scalar_mask _ code)
 
 pub returns-in-Rules : goal.returns-in-Rules
-returns-in-Rules c = λ code. rw c.in-Rules.is (mask_has-rules-shl _ _ (search rules) c.code.ensures code)
+returns-in-Rules c = λ code. rw (c.in-Rules.is, c.from.ensures) (mask_has-rules-shl _ _ (search rules) c.code.ensures code)

@@ -1,32 +1,30 @@
--- `open::add_starts` meets its contract. The loop has set the bits of the rules below r. Assumes nothing.
-use Prim.Native.Nat.{◌+◌, ◌*◌}
-use Rattle.frame.proofs.QuietLaws.{set_all-quiet}
-use Rattle.frame.specs.Edges.{has_form}
-use Rattle.laws.proofs.BitLaws.{length-set_all}
+-- `open::add_starts` meets its contract. Assumes nothing.
 use Rattle.laws.specs.Bits.{set_all}
+use Rattle.frame.specs.Edges.{has_form}
+use Rattle.frame.specs.Frame.{number_of}
 use Rattle.table.specs.Flat.{table_in}
-use borrow.Author.Rules.{rules}
-use lib.ListN.{length}
-use mathlib.Core.Path.{◌≡◌, sym, ap, ◌∙◌}
-use native.Mathlib.Omega.{arith}
+use Rattle.frame.proofs.QuietLaws.{set_all-quiet}
+use Rattle.frame.proofs.KindLaws.{number_of-nonzero}
+use Rattle.std.proofs.Common.{◌≡◌, ◌*◌, ◌+◌, sym, ap, ◌∙◌, arith, refl}
 use Rattle.frame.proofs.open.add_starts.Goals as goal
-use Rattle.frame.proofs.open.add_starts.Goals.{then-no_lines, else-no_lines}
+use Rattle.frame.proofs.open.add_starts.Goals.{then-not-no_lines, else-not-no_lines}
 
-pub loop-r-init : goal.loop-r-init
+pub loop-i-init : goal.loop-i-init
 unfolding set_all
-loop-r-init c = search rules
+loop-i-init c = refl
 
-pub loop-r-preserved : goal.loop-r-preserved
-loop-r-preserved c =
-    let g = c.args in
-    let l = c.loop-r in
-    let f = (table_in g.table.now).forms in
-    let e : c.if-no_lines.states ≡ set_all (has_form f g.form) (λ i. 16 * i) (l.r + 8) g.states.now =
-    elim c.if-no_lines.branch [
-      | then-no_lines w ↦ w.states-is ∙ l.invariant.3 ∙ sym (set_all-quiet f g.form l.r g.states.now c.requires.1 (c.no_lines.ensures w.if-no_lines.true))
-      | else-no_lines w ↦ w.states-is ∙ w.add_eight.ensures g.states.now l.invariant.3
-    ] in
-    (search rules, search rules, ap length e ∙ length-set_all _ _ _ _ ∙ c.requires.0, e)
+pub loop-i-preserved : goal.loop-i-preserved
+loop-i-preserved c =
+    let a = c.args in
+    let f = (table_in a.table.now).forms in
+    let n = number_of a.kind in
+    let e : 8 * (c.loop-i.i + 1) ≡ 8 * c.loop-i.i + 8 = omega arith in
+    rw e (elim c.if-not-no_lines.branch [
+      | then-not-no_lines w ↦ w.states-is ∙ w.add_eight.ensures a.states.now c.loop-i.invariant
+      | else-not-no_lines w ↦ w.states-is ∙ c.loop-i.invariant ∙ sym (set_all-quiet f n (8 * c.loop-i.i) a.states.now (number_of-nonzero a.kind) (c.no_lines.ensures w.if-not-no_lines.false))
+    ])
 
 pub returns : goal.returns
-returns c = let e : c.loop-r.r ≡ 32 = omega arith in cc
+returns c =
+    let e : 8 * c.loop-i.i ≡ 32 = omega arith in
+    c.loop-i.invariant ∙ ap (λ n. set_all (has_form (table_in c.args.table.now).forms (number_of c.args.kind)) (λ r. 16 * r) n c.args.states.now) e

@@ -1,14 +1,10 @@
--- `open::add_starts` meets its contract. The loop has set the bits of the rules below r. Assumes nothing.
-use Prim.Native.Nat.{◌-◌, ◌*◌, ◌%◌, ◌≤◌}
-use Rattle.frame.specs.Edges.{has_form}
+-- `open::add_starts` meets its contract. The loop has set the bits of the rules below 8 i. Assumes nothing.
+use Rattle.std.proofs.Common.{◌≡◌, ◌*◌}
 use Rattle.laws.specs.Bits.{set_all}
 use Rattle.table.specs.Flat.{table_in}
-use lib.ListN.{length}
-use mathlib.Core.Path.{◌≡◌}
+use Rattle.frame.specs.Edges.{has_form}
+use Rattle.frame.specs.Frame.{number_of}
 use Rattle.frame.proofs.open.add_starts.Given as goal
 
-abbrev pub invariant-loop-r : goal.invariant-loop-r
-invariant-loop-r l = (l.r ≤ 32) × (l.r % 8 ≡ 0) × (length l.states ≡ 64) × (l.states ≡ set_all (has_form (table_in l.table).forms l.form) (λ i. 16 * i) l.r l.initial.states)
-
-abbrev pub decreases-loop-r : goal.decreases-loop-r
-decreases-loop-r l = 32 - l.r
+abbrev pub invariant-loop-i : goal.invariant-loop-i
+invariant-loop-i l = l.states ≡ set_all (has_form (table_in l.table).forms (number_of l.kind)) (λ r. 16 * r) (8 * l.i) l.initial.states

@@ -1,7 +1,7 @@
 -- What the calls of this crate give and leave in lent memory. Derived: `Exact` says what is computed, and the laws in proofs/ join that to
 -- `Boundary`. Assumes nothing.
 use Rattle.std.specs.Prelude.{cond, ◌||◌, List, ◌≡◌, ℕ, ◌/◌, ltb, ℤ, Option, Some, None, Result, Ok, Err}
-use Rattle.table.specs.Flat.{table_in}
+use Rattle.table.specs.Table.{Table}
 use Rattle.book.specs.Examples.{book_b}
 use Rattle.load.specs.Loads.{book_table, Blank}
 use Rattle.geometry.specs.declared.Point.{Point}
@@ -11,10 +11,10 @@ use Rattle.boundary.specs.declared.Refusal.TheVariants as No
 use Rattle.boundary.specs.declared.walk.Numbers.{Numbers}
 use Rattle.boundary.specs.Exact.{boundary_of, left_corners, HeldBy, query_of}
 
--- the bytes of a table are that of book B
-pub record LoadsB (l : List ℕ) : Type 0 where
-  pub table : table_in l ≡ book_table book_b
-  pub blank : Blank book_b l
+-- a table is that of book B, and its bytes that mean nothing are 0
+pub record LoadsB (t : Table) : Type 0 where
+  pub table : t ≡ book_table book_b
+  pub blank : Blank book_b t
 
 -- the boundary of a text with these numbers, or of one that is not valid
 abbrev pub bound_by : Option Numbers → Result ℕ Refusal

@@ -9,6 +9,7 @@ ghost use Rattle.boundary.specs.Calls.{LoadsB, bound_by, ReadOf, QueryOf};
 
 use geometry::{Located, Point};
 use plane::Corners;
+use table::flat::Table;
 
 mod walk; // walk.rt: the text judged and its numbers taken, in one walk
 
@@ -37,10 +38,10 @@ const BOOK: [u8; 166] =
     *b"rule form state key value next\n0 obj 0 corners r1 1\n0 obj 1 name str 2\n0 obj 2 - end -\n1 arr 0 - r2 0\n1 arr 0 - end -\n2 arr 0 - int 1\n2 arr 1 - int 2\n2 arr 2 - end -\n";
 
 // Fills the lent table with that of book B.
-fn load_b(table: &mut [u8; 7920])
+fn load_b(table: &mut Table)
     ensures { LoadsB table.new }
 {
-    load::load(&BOOK, table);
+    let _ = load::load(&BOOK, table);
 }
 
 fn clear(corners: &mut [i32; 2048])
@@ -69,7 +70,7 @@ fn bound(numbers: Option<walk::Numbers>) -> Result<usize, Refusal>
 // Stays: the C interface lends the memory and takes the count, so they stand side by side until `Corners::new` joins them.
 pub fn read(
     text: &[u8],
-    table: &mut [u8; 7920],
+    table: &mut Table,
     corners: &mut [i32; 2048],
 ) -> Result<usize, Refusal>
     ensures { ReadOf text.now result corners.new table.new }
@@ -112,7 +113,7 @@ pub fn answer_at(corners: &Corners, p: Point) -> Result<Located, Refusal>
 pub fn query(
     text: &[u8],
     p: Point,
-    table: &mut [u8; 7920],
+    table: &mut Table,
     corners: &mut [i32; 2048],
 ) -> Result<Located, Refusal>
     ensures { QueryOf text.now p result corners.new table.new }

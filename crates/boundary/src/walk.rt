@@ -1,7 +1,6 @@
 // A text fed to the reader piece by piece, and the numbers at level 3 taken from it, in one walk.
 ghost use Rattle.std.specs.Prelude.{Bool, true, false, ◌||◌, ◌≡◌, ◌≤◌, ◌<◌, ◌+◌, ℕ, length, replicate, pos};
 ghost use Rattle.std.specs.Bool.{then_some};
-ghost use Rattle.table.specs.Flat.{table_in};
 ghost use Rattle.book.specs.Examples.{book_b};
 ghost use Rattle.load.specs.Loads.{book_table};
 ghost use Rattle.coordinate.specs.Exact.{coordinate_of};
@@ -16,6 +15,7 @@ ghost use Rattle.reader.specs.Tally.{zero_tally};
 use json_text::lexer::Mode;
 use progress::Progress;
 use reader::{Answer, Reader};
+use table::flat::Table;
 use verdict::Verdict;
 
 // A byte that numbers are written in.
@@ -74,8 +74,8 @@ fn put(corners: &mut [i32; 2048], n: usize, number: Option<i32>)
 #[derive(Clone, Copy)]
 struct Source<'a> {
     text: &'a [u8],
-    table: &'a [u8; 7920],
-    ghost book: { table_in table.now ≡ book_table book_b },
+    table: &'a Table,
+    ghost book: { table.now ≡ book_table book_b },
 }
 
 // Where the walk stands: the reader, the place in the text, how many numbers are taken, and whether one of them is unfit.
@@ -113,8 +113,8 @@ impl Walk {
         from: usize,
         end: usize,
     ) -> Walk
-        requires { Piece (table_in source.now.table.now) source.now.text.now self.at self.reader work.old self.taken self.unfit corners.old from end }
-        ensures { WentOn (table_in source.now.table.now) source.now.text.now self.at result work.new corners.new }
+        requires { Piece source.now.table.now source.now.text.now self.at self.reader work.old self.taken self.unfit corners.old from end }
+        ensures { WentOn source.now.table.now source.now.text.now self.at result work.new corners.new }
     {
         let text = source.text;
         let f = reader::feed(self.reader, source.table, work, &text[self.at..end]);
@@ -131,8 +131,8 @@ impl Walk {
 
     // Feeds the bytes up to the end of the next bytes of numbers. The walk ends at an RS.
     fn on(self, source: &Source, work: &mut [u8], corners: &mut [i32; 2048]) -> Option<Walk>
-        requires { Walked (table_in source.now.table.now) source.now.text.now self.at self.reader work.old self.taken self.unfit corners.old × (self.at < length source.now.text.now) }
-        ensures { WalkedOn (table_in source.now.table.now) source.now.text.now self.at result work.new corners.new }
+        requires { Walked source.now.table.now source.now.text.now self.at self.reader work.old self.taken self.unfit corners.old × (self.at < length source.now.text.now) }
+        ensures { WalkedOn source.now.table.now source.now.text.now self.at result work.new corners.new }
     {
         let from = run_end(source.text, self.at, is_gap_byte);
         let end = run_end(source.text, from, is_number_byte);
@@ -145,8 +145,8 @@ impl Walk {
 
 // Feeds the whole text to a reader behind an RS; none where it has an RS itself.
 fn walk_all(r: Reader, source: &Source, work: &mut [u8], corners: &mut [i32; 2048]) -> Option<Walk>
-    requires { Walked (table_in source.now.table.now) source.now.text.now 0 r work.old 0 false corners.old }
-    ensures { WalkedAll (table_in source.now.table.now) source.now.text.now result work.new corners.new }
+    requires { Walked source.now.table.now source.now.text.now 0 r work.old 0 false corners.old }
+    ensures { WalkedAll source.now.table.now source.now.text.now result work.new corners.new }
 {
     let mut w = Walk {
         reader: r,
@@ -197,7 +197,7 @@ pub struct Numbers {
 
 // Ends the record that a text is: its numbers, where it is valid.
 fn close_text(w: Walk, source: &Source, work: &[u8]) -> Option<Numbers>
-    ensures { result ≡ then_some (says_valid (close_of w.reader (table_in source.now.table.now) work.now).answer) (record { taken = w.taken; unfit = w.unfit }) }
+    ensures { result ≡ then_some (says_valid (close_of w.reader source.now.table.now work.now).answer) (record { taken = w.taken; unfit = w.unfit }) }
 {
     let c = reader::close(w.reader, source.table, work);
     says_valid(c.answer).then_some(Numbers {
@@ -216,10 +216,10 @@ fn work_space() -> [u8; 288]
 // Judges a text by book B and takes its numbers at level 3, in one walk over its bytes; none where the text is not valid.
 pub fn read_text<'a>(
     text: &'a [u8],
-    table: &'a [u8; 7920],
+    table: &'a Table,
     corners: &mut [i32; 2048],
 ) -> Option<Numbers>
-    requires { (table_in table.now ≡ book_table book_b) × (corners.old ≡ replicate 2048 (pos 0)) }
+    requires { (table.now ≡ book_table book_b) × (corners.old ≡ replicate 2048 (pos 0)) }
     ensures { ReadsAs text.now result corners.new }
 {
     let source = Source { text, table };

@@ -87,7 +87,7 @@ pub fn put_answer(out: &mut [u8], i: usize, a: Answer, read: usize) -> usize
         Ok(Some(v)) => Entry::of(v, read),
         Err(n) => Entry {
             word: Word::Refused,
-            number: reader::refusal_number(n),
+            number: n.number(),
             place: 0,
             read,
         },

@@ -1,11 +1,11 @@
 // A stream from the start on: fed piece by piece, and closed.
 ghost use Rattle.std.specs.Prelude.{◌≡◌, ◌+◌, ◌≤◌, ◌<◌, length};
-ghost use Rattle.table.specs.Flat.{table_in};
 ghost use Rattle.entries.specs.Feeds.{is_quiet, is_refused, feeds as Feeds·feeds, streamed, piece_end, in_out, Feeds, judge_table_of};
 ghost use Rattle.entries.specs.Turn.{feed_next, turn_of};
 
 use crate::entry;
 use reader::{Answer, Reader};
+use table::flat::Table;
 
 // What the feeds of a stream give: the reader, the bytes read, how many entries, and whether the last feed was refused.
 #[derive(Clone, Copy)]
@@ -47,14 +47,14 @@ fn piece_end(read: usize, size: usize, len: usize) -> usize
 // Feeds the unread bytes up to the next cut.
 fn feed_piece<'a>(
     r: Reader,
-    table: &'a [u8; 7920],
+    table: &'a Table,
     stream: &'a [u8],
     size: usize,
     work: &mut [u8],
     read: usize,
 ) -> reader::Fed
     requires { read ≤ length stream.now }
-    ensures work_after { record { reader = result.reader; count = result.count; answer = result.answer; work = work.new } ≡ feed_next (table_in table.now) size stream.now r work.old read }
+    ensures work_after { record { reader = result.reader; count = result.count; answer = result.answer; work = work.new } ≡ feed_next table.now size stream.now r work.old read }
     ensures count_in_bounds { (read + result.count ≤ length stream.now) × (read + result.count < 18446744073709551616) }
 {
     let end = piece_end(read, size, stream.len());
@@ -64,14 +64,14 @@ fn feed_piece<'a>(
 // Feeds the unread bytes up to the next cut, and puts the entry of the answer; a refused feed has none.
 fn feed_next<'a>(
     f: Fed,
-    table: &'a [u8; 7920],
+    table: &'a Table,
     stream: &'a [u8],
     size: usize,
     work: &mut [u8],
     out: &mut [u8],
 ) -> Fed
     requires { (f.read < length stream.now) × (f.made < 18446744073709551615) }
-    ensures { record { reader = result.reader; work = work.new; read = result.read; out = out.new; made = result.made; refused = result.refused } ≡ turn_of (table_in table.now) size stream.now f.reader work.old f.read out.old f.made }
+    ensures { record { reader = result.reader; work = work.new; read = result.read; out = out.new; made = result.made; refused = result.refused } ≡ turn_of table.now size stream.now f.reader work.old f.read out.old f.made }
 {
     let x = feed_piece(f.reader, table, stream, size, work, f.read);
     let read = f.read + x.count;
@@ -92,14 +92,14 @@ fn feed_next<'a>(
 // Feeds piece after piece from a reader that has read nothing of a record, until all is read or a feed is refused.
 fn feed_all<'a>(
     r: Reader,
-    table: &'a [u8; 7920],
+    table: &'a Table,
     stream: &'a [u8],
     size: usize,
     work: &mut [u8],
     out: &mut [u8],
 ) -> Fed
     requires { r.progress.pos ≡ 0 }
-    ensures feeds { Feeds (Feeds·feeds (length stream.now) (table_in table.now) size r work.old 0 stream.now) out.old result.reader work.new result.read out.new result.made }
+    ensures feeds { Feeds (Feeds·feeds (length stream.now) table.now size r work.old 0 stream.now) out.old result.reader work.new result.read out.new result.made }
     ensures made_bound { result.made < 18446744073709551615 }
 {
     let mut f = Fed {
@@ -120,14 +120,14 @@ fn feed_all<'a>(
 // The feeds of a stream, then the close.
 fn feed_close<'a>(
     r: Reader,
-    table: &'a [u8; 7920],
+    table: &'a Table,
     stream: &'a [u8],
     size: usize,
     work: &mut [u8],
     out: &mut [u8],
 ) -> usize
     requires { r.progress.pos ≡ 0 }
-    ensures { record { work = work.new; out = out.new; made = result } ≡ in_out out.old (streamed (table_in table.now) size r work.old stream.now) }
+    ensures { record { work = work.new; out = out.new; made = result } ≡ in_out out.old (streamed table.now size r work.old stream.now) }
 {
     let f = feed_all(r, table, stream, size, work, out);
     let c = reader::close(f.reader, table, work);
@@ -138,13 +138,13 @@ fn feed_close<'a>(
 // the output where that has its place. A table that start refuses is one entry, with 23. Ruled out: a program that judges after a refused start, and
 // one that says nothing of it.
 pub fn judge<'a>(
-    table: &'a [u8; 7920],
+    table: &'a Table,
     stream: &'a [u8],
     size: usize,
     work: &mut [u8],
     out: &mut [u8],
 ) -> usize
-    ensures { record { work = work.new; out = out.new; made = result } ≡ judge_table_of (table_in table.now) stream.now size work.old out.old }
+    ensures { record { work = work.new; out = out.new; made = result } ≡ judge_table_of table.now stream.now size work.old out.old }
 {
     let b = Reader::start(table, work);
     if is_quiet(b.answer) {

@@ -18,6 +18,7 @@ use std::fs::File;
 use std::io::Read;
 use std::rt::Files;
 use std::{fmt, io};
+use table::flat::Table;
 
 // The bytes of one read, and of the answers that are printed at once.
 const BLOCK: usize = 65536;
@@ -237,7 +238,7 @@ fn answer_points<'a>(rt: &'a (impl Input + Print), err: &'a impl Print, corners:
 
 // Judges a text, and answers the points or the refusal.
 fn answer_text(rt: &(impl Input + Print), err: &impl Print, text: &[u8]) {
-    let mut table = [0u8; 7920];
+    let mut table = Table::empty();
     let mut memory = [0i32; 2048];
     match boundary::read(text, &mut table, &mut memory) {
         Ok(n) => answer_points(rt, err, Corners::new(&memory, n)),

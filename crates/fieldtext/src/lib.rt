@@ -2,7 +2,6 @@
 #![tactic(auto)]
 
 ghost use Rattle.std.specs.Prelude.{◌≡◌};
-ghost use Rattle.table.specs.Flat.{table_in};
 ghost use Rattle.book.specs.Load.{loads};
 ghost use Rattle.load.specs.Loads.{book_table, Blank};
 ghost use Rattle.entries.specs.Feeds.{judge_table_of};
@@ -11,20 +10,22 @@ ghost use Rattle.fieldtext.specs.Field.{text_refusal};
 ghost use Rattle.fieldtext.specs.Said.{CornersSaid, PointSaid, TrackSaid};
 
 use boundary::Refusal;
-use entries::{entry, feeds};
+use entries::entry::Entry;
+use entries::feeds;
 use geometry::Point;
 use replot::{TrackPoint, answer_number, nearest_in};
+use table::flat::Table;
+use verdict::Word;
 
 // Fills the table that is lent with what a book says, and answers the number of its refusal; 0 where it is accepted. After a refusal every byte of
 // the table is 0. Ruled out: a library that accepts every book, and one that leaves the lent table as it was.
 #[unsafe(no_mangle)]
-pub extern "C" fn fieldtext_load(book: &[u8], table: &mut [u8; 7920]) -> u8
+pub extern "C" fn fieldtext_load(book: &[u8], table: &mut Table) -> u8
     ensures number { result ≡ (loads book.now).number }
-    ensures table { table_in table.new ≡ book_table book.now }
+    ensures table { table.new ≡ book_table book.now }
     ensures blank { Blank book.now table.new }
 {
-    let a = load::load(book, table);
-    load::number_of(a)
+    load::number_of(load::load(book, table))
 }
 
 // The number of a book's refusal; 0 where it is accepted. Ruled out: a library that answers 0 for every book, and one that answers the line.
@@ -32,7 +33,7 @@ pub extern "C" fn fieldtext_load(book: &[u8], table: &mut [u8; 7920]) -> u8
 pub extern "C" fn fieldtext_book_number(book: &[u8]) -> u8
     ensures { result ≡ (loads book.now).number }
 {
-    let mut table = [0u8; 7920];
+    let mut table = Table::empty();
     fieldtext_load(book, &mut table)
 }
 
@@ -41,9 +42,8 @@ pub extern "C" fn fieldtext_book_number(book: &[u8]) -> u8
 pub extern "C" fn fieldtext_book_line(book: &[u8]) -> usize
     ensures { result ≡ (loads book.now).line }
 {
-    let mut table = [0u8; 7920];
-    let a = load::load(book, &mut table);
-    load::line_of(a)
+    let mut table = Table::empty();
+    load::line_of(load::load(book, &mut table))
 }
 
 // Starts with a table that is lent, feeds a stream cut at the multiples of a size, and closes. Answers how many entries that gives; each stands in
@@ -51,13 +51,13 @@ pub extern "C" fn fieldtext_book_line(book: &[u8]) -> usize
 // one that says nothing of it.
 #[unsafe(no_mangle)]
 pub extern "C" fn fieldtext_judge_table<'a>(
-    table: &'a [u8; 7920],
+    table: &'a Table,
     stream: &'a [u8],
     size: usize,
     work: &mut [u8],
     out: &mut [u8],
 ) -> usize
-    ensures { record { work = work.exit.now; out = out.new; made = result } ≡ judge_table_of (table_in table.now) stream.now size work.entry.now out.old }
+    ensures { record { work = work.exit.now; out = out.new; made = result } ≡ judge_table_of table.now stream.now size work.entry.now out.old }
 {
     feeds::judge(table, stream, size, work, out)
 }
@@ -74,11 +74,15 @@ pub extern "C" fn fieldtext_judge(
 ) -> usize
     ensures { record { work = work.exit.now; out = out.new; made = result } ≡ judge_of book.now stream.now size work.entry.now out.old }
 {
-    let mut table = [0u8; 7920];
-    let a = load::load(book, &mut table);
-    let number = load::number_of(a);
-    if number != 0 {
-        entry::put_entry(out, 0, 2, number, load::line_of(a), 0);
+    let mut table = Table::empty();
+    if let Err(refusal) = load::load(book, &mut table) {
+        let entry = Entry {
+            word: Word::Refused,
+            number: refusal.number(),
+            place: refusal.line(),
+            read: 0,
+        };
+        entry.put(out, 0);
         return 1;
     }
     fieldtext_judge_table(&table, stream, size, work, out)
@@ -101,7 +105,7 @@ fn text_refusal(b: Result<usize, Refusal>) -> u8
 #[unsafe(no_mangle)]
 pub extern "C" fn fieldtext_corners(
     text: &[u8],
-    table: &mut [u8; 7920],
+    table: &mut Table,
     corners: &mut [i32; 2048],
     refusal: &mut u8,
 ) -> usize
@@ -121,7 +125,7 @@ pub extern "C" fn fieldtext_locate(
     text: &[u8],
     x: i32,
     y: i32,
-    table: &mut [u8; 7920],
+    table: &mut Table,
     corners: &mut [i32; 2048],
     nearest: &mut usize,
 ) -> u8
@@ -139,7 +143,7 @@ pub extern "C" fn fieldtext_locate(
 pub extern "C" fn fieldtext_track(
     text: &[u8],
     track: &mut [TrackPoint],
-    table: &mut [u8; 7920],
+    table: &mut Table,
     corners: &mut [i32; 2048],
 ) -> u8
     ensures { TrackSaid text.now track.old result table.new corners.new track.new }

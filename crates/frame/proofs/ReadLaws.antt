@@ -9,8 +9,6 @@ use lib.Dec.{eqb}
 use lib.ListN.{get_or}
 use borrow.Author.Tests.{eq-eqb, ne_eqb, lt-ltb}
 use Rattle.laws.specs.Bits.{bit_at}
-use Rattle.table.specs.Flat.{table_in}
-use Rattle.table.proofs.FlatLaws.{get_d_part}
 use Rattle.frame.specs.Edges.{has_form, state_number, fitting, stepping, walking}
 use Rattle.frame.specs.Frame.{held_in}
 use Rattle.frame.specs.Ops.{has_end, accepting}
@@ -21,14 +19,6 @@ use Rattle.frame.proofs.RuleLaws.{has_end-of-bytes}
 pub has_form-read : (forms : List ℕ) (form r x : ℕ) → r < 32 → x ≡ get_or forms r 0 → eqb x form ≡ has_form forms form r
 unfolding has_form
 has_form-read forms form r x h e = rw (lt-ltb r 32 h, e)
-
--- eight rules without lines, as bytes of the table
-pub no_lines : (l : List ℕ) (r : ℕ) (q : Bool) → r + 8 ≤ 32 → (q ≡ true → (k : ℕ) → k < 8 → get_or l (7888 + r + k) 0 ≡ 0)
-    → q ≡ true → (k : ℕ) → k < 8 → get_or (table_in l).forms (r + k) 0 ≡ 0
-unfolding table_in
-no_lines l r q h f e k u =
-    let a : 7888 + r + k ≡ 7888 + (r + k) = omega arith in
-    sym (get_d_part l 7888 32 (r + k) (omega arith)) ∙ ap (λ (i : ℕ). get_or l i 0) (sym a) ∙ f e k u
 
 -- the number of a state of edge e
 pub state_number-read : (rules states : List ℕ) (e r q n : ℕ) → r ≡ get_or rules e 0 → q ≡ get_or states e 0 → n ≡ 16 * r + q → n ≡ state_number rules states e

@@ -1,25 +1,25 @@
 // Closing: REQUIREMENT.md, section 5.
 ghost use Rattle.std.specs.Prelude.{◌≡◌, ◌+◌, ◌*◌, ◌^◌, ◌<◌, ◌≤◌};
-ghost use Rattle.table.specs.Flat.{table_in};
 ghost use Rattle.frame.specs.Edges.{edges_in};
 ghost use Rattle.frame.specs.Frame.{number_of};
 ghost use Rattle.frame.specs.Ops.{key_states, walked, start_states, has_end, rule_set, closed};
 ghost use Rattle.frame.specs.InTable.{accepting_in};
 
 use crate::{Frame, Kind, States, edge, kind_of, open};
-use table::{bits, flat};
+use table::bits;
+use table::flat::Table;
 
 // The states that the object's fitting edges of the key lead to.
-fn key_states<'a>(frame: &'a Frame, from: &'a States, table: &'a [u8; 7920], key: u8) -> States
-    ensures { result ≡ key_states (edges_in (table_in table.now)) frame.now from.now key }
+fn key_states<'a>(frame: &'a Frame, from: &'a States, table: &'a Table, key: u8) -> States
+    ensures { result ≡ key_states (edges_in table.now) frame.now from.now key }
 {
     edge::led_to(table, |e| edge::walking(table, frame, from, e, key))
 }
 
 // Goes on from some states over the seen keys of byte 16 + i, ascending; a key that was not seen changes nothing.
-fn walk_byte<'a>(states: &mut States, frame: &'a Frame, table: &'a [u8; 7920], i: u8)
+fn walk_byte<'a>(states: &mut States, frame: &'a Frame, table: &'a Table, i: u8)
     requires { i < 16 }
-    ensures { states.new ≡ walked (edges_in (table_in table.now)) frame.now (8 * i) states.old 8 }
+    ensures { states.new ≡ walked (edges_in table.now) frame.now (8 * i) states.old 8 }
 {
     if frame[16 + i as usize] == 0 {
         return;
@@ -33,8 +33,8 @@ fn walk_byte<'a>(states: &mut States, frame: &'a Frame, table: &'a [u8; 7920], i
 }
 
 // The states after all seen keys, ascending, from state 0 of every obj rule.
-fn walk<'a>(frame: &'a Frame, table: &'a [u8; 7920]) -> States
-    ensures { result ≡ walked (edges_in (table_in table.now)) frame.now 0 (start_states (table_in table.now).forms 1) 128 }
+fn walk<'a>(frame: &'a Frame, table: &'a Table) -> States
+    ensures { result ≡ walked (edges_in table.now) frame.now 0 (start_states table.now.forms 1) 128 }
 {
     let mut states = [0; 64];
     open::add_starts(&mut states, table, Kind::Object);
@@ -45,18 +45,18 @@ fn walk<'a>(frame: &'a Frame, table: &'a [u8; 7920]) -> States
 }
 
 // Rule r has an end state among the states: its 16 states are two bytes.
-fn has_end<'a>(states: &'a States, table: &'a [u8; 7920], r: usize) -> bool
+fn has_end<'a>(states: &'a States, table: &'a Table, r: usize) -> bool
     requires { r < 32 }
-    ensures { result ≡ has_end (table_in table.now).ends states.now r }
+    ensures { result ≡ has_end table.now.ends states.now r }
 {
-    states[2 * r] & flat::end(table, 2 * r) != 0
-        || states[2 * r + 1] & flat::end(table, 2 * r + 1) != 0
+    states[2 * r] & table.end(2 * r) != 0
+        || states[2 * r + 1] & table.end(2 * r + 1) != 0
 }
 
 // The values of a kind may fit rule r, and it has an end state among the states.
-fn accepts<'a>(states: &'a States, table: &'a [u8; 7920], kind: Kind, r: usize) -> bool
+fn accepts<'a>(states: &'a States, table: &'a Table, kind: Kind, r: usize) -> bool
     requires { r < 32 }
-    ensures { result ≡ accepting_in (table_in table.now) (number_of kind) states.now r }
+    ensures { result ≡ accepting_in table.now (number_of kind) states.now r }
 {
     edge::is_of_kind(table, r, kind) && has_end(states, table, r)
 }
@@ -65,12 +65,12 @@ fn accepts<'a>(states: &'a States, table: &'a [u8; 7920], kind: Kind, r: usize) 
 fn with_four<'a>(
     set: u32,
     states: &'a States,
-    table: &'a [u8; 7920],
+    table: &'a Table,
     kind: Kind,
     from: usize,
 ) -> u32
-    requires { (from + 4 ≤ 32) × (set ≡ rule_set (accepting_in (table_in table.now) (number_of kind) states.now) from) }
-    ensures { result ≡ rule_set (accepting_in (table_in table.now) (number_of kind) states.now) (from + 4) }
+    requires { (from + 4 ≤ 32) × (set ≡ rule_set (accepting_in table.now (number_of kind) states.now) from) }
+    ensures { result ≡ rule_set (accepting_in table.now (number_of kind) states.now) (from + 4) }
 {
     let mut all = set;
     for r in from..from + 4 {
@@ -82,8 +82,8 @@ fn with_four<'a>(
 }
 
 // The rules that accept the states. Four rules without states are passed over at once.
-fn rule_set<'a>(states: &'a States, table: &'a [u8; 7920], kind: Kind) -> u32
-    ensures { result ≡ rule_set (accepting_in (table_in table.now) (number_of kind) states.now) 32 }
+fn rule_set<'a>(states: &'a States, table: &'a Table, kind: Kind) -> u32
+    ensures { result ≡ rule_set (accepting_in table.now (number_of kind) states.now) 32 }
 {
     let mut set = 0;
     for i in 0..8 {
@@ -95,8 +95,8 @@ fn rule_set<'a>(states: &'a States, table: &'a [u8; 7920], kind: Kind) -> u32
 }
 
 // The rules that the value of a frame fits.
-pub fn close_frame<'a>(frame: &'a Frame, table: &'a [u8; 7920]) -> u32
-    ensures { result ≡ closed (edges_in (table_in table.now)) (table_in table.now).forms (table_in table.now).ends frame.now }
+pub fn close_frame<'a>(frame: &'a Frame, table: &'a Table) -> u32
+    ensures { result ≡ closed (edges_in table.now) table.now.forms table.now.ends frame.now }
 {
     match kind_of(frame) {
         Kind::Object if 0 < frame[2] => 0,

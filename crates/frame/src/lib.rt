@@ -11,11 +11,11 @@ mod value; // value.rt: a finished value
 
 ghost use Rattle.std.specs.Prelude.{List, [], true, false, ◌≡◌, ℕ, ◌+◌, ◌≤◌, ◌++◌, length, take, drop, MatchOption};
 ghost use Rattle.std.specs.Fn.{FnOnceReturnsAtMut};
-ghost use Rattle.table.specs.Flat.{table_in};
 ghost use Rattle.frame.specs.Edges.{edges_in};
 ghost use Rattle.frame.specs.Frame.{frame_count, has_frame, frame_start, frame_at, put_frame, kind_in, number_of};
 ghost use Rattle.frame.specs.Ops.{opened, keyed, valued, closed};
 
+use table::flat::Table;
 use table::kind::Finished;
 
 // The bytes of a frame.
@@ -117,8 +117,8 @@ pub fn kind_at(work: &[u8], level: usize) -> Kind
 
 // Opens an object or an array at a level: all 96 bytes of its frame are written, and no other byte.
 // Ruled out: a program that leaves edges or states of an earlier value; one that gives an array the states of `obj` rules.
-pub fn open_level(work: &mut [u8], level: usize, object: bool, table: &[u8; 7920])
-    ensures { work.new ≡ put_frame work.old level (opened (table_in table.now).forms object) }
+pub fn open_level(work: &mut [u8], level: usize, object: bool, table: &Table)
+    ensures { work.new ≡ put_frame work.old level (opened table.now.forms object) }
 {
     change_frame(work, level, |frame| open::open_frame(frame, object, table));
 }
@@ -133,16 +133,16 @@ pub fn key_level(work: &mut [u8], level: usize, key: u8)
 
 // A finished value in the frame of the level that it stands in: adds an object's fitting edges, replaces an array's states.
 // Ruled out: a program that lets an unknown key match the edges without a key; one that adds an array's new states to the old.
-pub fn value_level(work: &mut [u8], level: usize, table: &[u8; 7920], v: Finished)
-    ensures { work.new ≡ put_frame work.old level (valued (edges_in (table_in table.now)) (table_in table.now).edge_kind (table_in table.now).forms v (frame_at work.old level)) }
+pub fn value_level(work: &mut [u8], level: usize, table: &Table, v: Finished)
+    ensures { work.new ≡ put_frame work.old level (valued (edges_in table.now) table.now.edge_kind table.now.forms v (frame_at work.old level)) }
 {
     change_frame(work, level, |frame| value::value_frame(frame, table, v));
 }
 
 // Closes the value of a level: gives the rules that it fits, rule N at bit N, and writes nothing.
 // Ruled out: a program that passes over a seen key without an edge; one that lets an `obj` rule fit an array.
-pub fn close_level<'a>(work: &'a [u8], level: usize, table: &'a [u8; 7920]) -> u32
-    ensures { result ≡ closed (edges_in (table_in table.now)) (table_in table.now).forms (table_in table.now).ends (frame_at work.now level) }
+pub fn close_level<'a>(work: &'a [u8], level: usize, table: &'a Table) -> u32
+    ensures { result ≡ closed (edges_in table.now) table.now.forms table.now.ends (frame_at work.now level) }
 {
     match frame_of(work, level) {
         Some(frame) => close::close_frame(frame, table),

@@ -3,15 +3,14 @@ ghost use Rattle.std.specs.Prelude.{◌≡◌, ℕ, ◌≤◌};
 ghost use Rattle.frame.specs.Edges.{fits_code};
 ghost use Rattle.frame.specs.Mask.{mask_has, bit_if_fits, scalar_mask};
 
-use table::kind;
 use table::kind::{Finished, Scalar, ValueKind};
 
 // The bit of a plain kind's code, where the scalar fits the kind; else 0.
 fn bit_if_fits(k: Scalar, s: Scalar) -> u64
     ensures { (result ≡ bit_if_fits k s) × (result ≤ 32) }
 {
-    if kind::fits(ValueKind::Plain(k), Finished::Scalar(s)) {
-        return 1 << kind::code(ValueKind::Plain(k));
+    if ValueKind::Plain(k).fits(Finished::Scalar(s)) {
+        return 1 << ValueKind::Plain(k).code();
     }
     0
 }
@@ -35,7 +34,7 @@ pub fn mask_of(v: Finished) -> u64
 {
     match v {
         Finished::Scalar(s) => scalar_mask(s),
-        Finished::Rules(rules) => u64::from(rules) << kind::code(ValueKind::Rule(0)),
+        Finished::Rules(rules) => u64::from(rules) << ValueKind::Rule(0).code(),
     }
 }
 

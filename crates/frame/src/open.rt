@@ -1,26 +1,25 @@
 // Opening: REQUIREMENT.md, section 5.
 ghost use Rattle.std.specs.Prelude.{true, List, ◌≡◌, ℕ, ◌+◌, ◌*◌, ◌<◌, ◌≤◌, get_or, length};
-ghost use Rattle.table.specs.Flat.{table_in};
 ghost use Rattle.laws.specs.Bits.{set_all};
 ghost use Rattle.frame.specs.Edges.{has_form};
 ghost use Rattle.frame.specs.Frame.{number_of};
 ghost use Rattle.frame.specs.Ops.{opened};
 
 use crate::{FRAME, Frame, Kind, edge};
-use table::{bits, flat};
+use table::flat::Table;
 
 // Eight rules from r on have no lines.
-fn no_lines(table: &[u8; 7920], r: usize) -> bool
+fn no_lines(table: &Table, r: usize) -> bool
     requires { r + 8 ≤ 32 }
-    ensures { result ≡ true → (k : ℕ) → k < 8 → get_or (table_in table.now).forms (r + k) 0 ≡ 0 }
+    ensures { result ≡ true → (k : ℕ) → k < 8 → get_or table.now.forms (r + k) 0 ≡ 0 }
 {
-    bits::quiet(table, flat::FORM + r)
+    table.no_forms(r)
 }
 
 // Adds state 0 of those of eight rules that a kind's values may fit. State 0 of rule r is bit 0 of byte 2 r.
-fn add_eight(states: &mut [u8], table: &[u8; 7920], kind: Kind, from: usize)
+fn add_eight(states: &mut [u8], table: &Table, kind: Kind, from: usize)
     requires { (length states.old ≡ 64) × (from + 8 ≤ 32) }
-    ensures { (xs : List ℕ) → states.old ≡ set_all (has_form (table_in table.now).forms (number_of kind)) (λ r. 16 * r) from xs → states.new ≡ set_all (has_form (table_in table.now).forms (number_of kind)) (λ r. 16 * r) (from + 8) xs }
+    ensures { (xs : List ℕ) → states.old ≡ set_all (has_form table.now.forms (number_of kind)) (λ r. 16 * r) from xs → states.new ≡ set_all (has_form table.now.forms (number_of kind)) (λ r. 16 * r) (from + 8) xs }
 {
     for r in from..from + 8 {
         states[2 * r] |= u8::from(edge::is_of_kind(table, r, kind));
@@ -29,9 +28,9 @@ fn add_eight(states: &mut [u8], table: &[u8; 7920], kind: Kind, from: usize)
 
 // Adds state 0 of every rule that a kind's values may fit. Eight rules without lines are passed over at once.
 // Stays: a slice, and written in place, since an array that is given back costs 7 in 100 instructions on a stream of numbers.
-pub fn add_starts(states: &mut [u8], table: &[u8; 7920], kind: Kind)
+pub fn add_starts(states: &mut [u8], table: &Table, kind: Kind)
     requires { length states.old ≡ 64 }
-    ensures { states.new ≡ set_all (has_form (table_in table.now).forms (number_of kind)) (λ r. 16 * r) 32 states.old }
+    ensures { states.new ≡ set_all (has_form table.now.forms (number_of kind)) (λ r. 16 * r) 32 states.old }
 {
     for i in 0..4 {
         if !no_lines(table, 8 * i) {
@@ -41,8 +40,8 @@ pub fn add_starts(states: &mut [u8], table: &[u8; 7920], kind: Kind)
 }
 
 // Writes all 96 bytes of a fresh frame.
-pub fn open_frame(frame: &mut Frame, object: bool, table: &[u8; 7920])
-    ensures { frame.new ≡ opened (table_in table.now).forms object }
+pub fn open_frame(frame: &mut Frame, object: bool, table: &Table)
+    ensures { frame.new ≡ opened table.now.forms object }
 {
     *frame = [0; FRAME];
     if object {

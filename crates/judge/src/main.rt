@@ -8,6 +8,7 @@ use reader::Reader;
 use std::fs::File;
 use std::io::Read;
 use std::rt::Files;
+use table::flat::Table;
 
 // One byte more than a book may have, so that a longer one is refused.
 fn book_space() -> [u8; 65537]
@@ -50,7 +51,7 @@ fn print(rt: &impl Print, out: &[u8], used: usize) -> bool {
 #[derive(Drop)]
 struct Stream<'a> {
     reader: Reader,
-    table: &'a [u8; 7920],
+    table: &'a Table,
     work: &'a mut [u8],
     out: &'a mut [u8],
 }
@@ -119,7 +120,7 @@ fn main(rt: HostRuntime) {
     let mut book = book_space();
     let mut out = [0u8; BLOCK];
     let n = read_book(&rt, &mut book);
-    let mut table = [0u8; 7920];
+    let mut table = Table::empty();
     let begun = report::begin(&book[..n], &mut table, &mut out);
     print(&rt, &out, begun.used);
     if begun.accepted {

@@ -3,7 +3,6 @@
 
 ghost use Rattle.std.specs.Prelude.{◌≡◌, true, false, ◌<◌, length, get_or};
 ghost use Rattle.std.specs.ControlFlow.{MatchControlFlow};
-ghost use Rattle.table.specs.Flat.{table_in};
 ghost use Rattle.progress.specs.Memory.{ends_record};
 ghost use Rattle.turn.specs.Turn.{memory};
 ghost use Rattle.piece.specs.Went.{StepsAs, WentTo};
@@ -33,7 +32,7 @@ fn read_byte(
     step: Step,
 ) -> ControlFlow<usize, usize>
     requires { (i < length piece.now) × StepsAs record.old.progress rules.frames work.old (get_or piece.now i 0) step }
-    ensures { MatchControlFlow result (λ at. WentTo (table_in rules.entry.table.now) rules.entry.frames (memory record.old key.old work.old) piece.now i (memory record.new key.new work.new) at false) (λ at. WentTo (table_in rules.entry.table.now) rules.entry.frames (memory record.old key.old work.old) piece.now i (memory record.new key.new work.new) at true) }
+    ensures { MatchControlFlow result (λ at. WentTo rules.entry.table.now rules.entry.frames (memory record.old key.old work.old) piece.now i (memory record.new key.new work.new) at false) (λ at. WentTo rules.entry.table.now rules.entry.frames (memory record.old key.old work.old) piece.now i (memory record.new key.new work.new) at true) }
 {
     let b = piece[i];
     if ends_record(record.progress, b) {
@@ -55,7 +54,7 @@ pub fn read_on(
     i: usize,
 ) -> ControlFlow<usize, usize>
     requires { i < length piece.now }
-    ensures { MatchControlFlow result (λ at. WentTo (table_in rules.entry.table.now) rules.entry.frames (memory record.old key.old work.old) piece.now i (memory record.new key.new work.new) at false) (λ at. WentTo (table_in rules.entry.table.now) rules.entry.frames (memory record.old key.old work.old) piece.now i (memory record.new key.new work.new) at true) }
+    ensures { MatchControlFlow result (λ at. WentTo rules.entry.table.now rules.entry.frames (memory record.old key.old work.old) piece.now i (memory record.new key.new work.new) at false) (λ at. WentTo rules.entry.table.now rules.entry.frames (memory record.old key.old work.old) piece.now i (memory record.new key.new work.new) at true) }
 {
     let kept = pass::keep(classes, record.progress, key, piece, i);
     let top = top_of(work, kept.progress.level);

@@ -25,9 +25,9 @@ fn put_word(out: &mut [u8], at: usize, word: &[u8], n: usize) -> usize
     ensures { Put out.old at (word_line word.now n) out.new result }
 {
     let a = put::put_bytes(out, at, word);
-    let b = put::put(out, a, b' ');
+    let b = put::put_bytes(out, a, b" ");
     let c = put::put_decimal(out, b, n);
-    put::put(out, c, b'\n')
+    put::put_bytes(out, c, b"\n")
 }
 
 // The line of an answer.

@@ -2,7 +2,6 @@
 #![tactic(auto)]
 
 ghost use Rattle.std.specs.Prelude.{◌≡◌, length, MatchResult};
-ghost use Rattle.table.specs.Flat.{table_in};
 ghost use Rattle.progress.specs.Progress.{judged};
 ghost use Rattle.reader.specs.Refusals.{refusal_number, within_reader, start_gate, call_gate};
 ghost use Rattle.reader.specs.Tally.{tallied};
@@ -12,6 +11,7 @@ ghost use Rattle.reader.specs.Machine.{feeding, feed_of, close_of};
 use chars::class::Classes;
 use progress::Progress;
 use std::ops::ControlFlow;
+use table::flat::Table;
 use table::limits;
 use turn::Record;
 use turn::rules::Rules;
@@ -95,8 +95,8 @@ pub struct Closed {
 }
 
 // Whether a start is let in: the table, then 21 for a buffer of n bytes.
-fn admit_start(table: &[u8; 7920], n: usize) -> Result<(), Refusal>
-    ensures { result ≡ start_gate (table_in table.now) n }
+fn admit_start(table: &Table, n: usize) -> Result<(), Refusal>
+    ensures { result ≡ start_gate table.now n }
 {
     if !limits::fit_limits(table) {
         return Err(Refusal::AboveLimit);
@@ -128,8 +128,8 @@ impl Reader {
 
     // A fresh reader for a table and a buffer, which stay as they are. Ruled out: a start that counts the frames of a longer buffer past 64, and
     // one that hands out frames with a refusal.
-    pub fn start<'a>(table: &'a [u8; 7920], work: &'a [u8]) -> Started
-        ensures { record { reader = result.reader; answer = result.answer } ≡ start_of (table_in table.now) work.now }
+    pub fn start<'a>(table: &'a Table, work: &'a [u8]) -> Started
+        ensures { record { reader = result.reader; answer = result.answer } ≡ start_of table.now work.now }
     {
         let tally = Tally::default();
         match admit_start(table, work.len()) {
@@ -155,8 +155,8 @@ impl Reader {
     }
 
     // Whether a feed or a close is let in: the table, then 23 for the reader, then 22 for a buffer of n bytes.
-    fn admit<'t>(&self, table: &'t [u8; 7920], n: usize) -> Result<Rules<'t>, Refusal>
-        ensures { MatchResult result (λ rules. (call_gate (within_reader self.now) self.now.frames (table_in table.now) n ≡ Ok tt) × (rules.table.now ≡ table.now) × (rules.frames ≡ self.now.frames)) (λ e. call_gate (within_reader self.now) self.now.frames (table_in table.now) n ≡ Err e) }
+    fn admit<'t>(&self, table: &'t Table, n: usize) -> Result<Rules<'t>, Refusal>
+        ensures { MatchResult result (λ rules. (call_gate (within_reader self.now) self.now.frames table.now n ≡ Ok tt) × (rules.table.now ≡ table.now) × (rules.frames ≡ self.now.frames)) (λ e. call_gate (within_reader self.now) self.now.frames table.now n ≡ Err e) }
     {
         if !limits::fit_limits(table) || !self.is_within() {
             return Err(Refusal::AboveLimit);
@@ -196,7 +196,7 @@ impl Reader {
     // Reads a piece up to and with the first RS that ends a record: how many bytes are read, and what the call says.
     fn read_piece(&mut self, rules: Rules, work: &mut [u8], piece: &[u8]) -> (usize, Answer)
         requires { rules.frames ≡ self.old.frames }
-        ensures { record { reader = self.new; count = result.0; answer = result.1; work = work.new } ≡ feeding self.old (table_in rules.entry.table.now) work.old piece.now }
+        ensures { record { reader = self.new; count = result.0; answer = result.1; work = work.new } ≡ feeding self.old rules.entry.table.now work.old piece.now }
     {
         let classes = Classes::new();
         let mut record = Record {
@@ -221,8 +221,8 @@ impl Reader {
 
 // Reads a piece up to and with the first RS that ends a record. Ruled out: a feed that keeps levels of a record over its RS, and one that reads
 // on past a verdict.
-pub fn feed<'a>(r: Reader, table: &'a [u8; 7920], work: &mut [u8], piece: &'a [u8]) -> Fed
-    ensures { record { reader = result.reader; count = result.count; answer = result.answer; work = work.new } ≡ feed_of r (table_in table.now) work.old piece.now }
+pub fn feed<'a>(r: Reader, table: &'a Table, work: &mut [u8], piece: &'a [u8]) -> Fed
+    ensures { record { reader = result.reader; count = result.count; answer = result.answer; work = work.new } ≡ feed_of r table.now work.old piece.now }
 {
     let mut reader = r;
     match reader.admit(table, work.len()) {
@@ -244,8 +244,8 @@ pub fn feed<'a>(r: Reader, table: &'a [u8; 7920], work: &mut [u8], piece: &'a [u
 
 // Ends the last record like an RS, and is in the head again. Ruled out: a close that forgets the tally, and one that gives a verdict where
 // nothing was read.
-pub fn close<'a>(r: Reader, table: &'a [u8; 7920], work: &'a [u8]) -> Closed
-    ensures { record { reader = result.reader; count = 0; answer = result.answer; work = work.now } ≡ close_of r (table_in table.now) work.now }
+pub fn close<'a>(r: Reader, table: &'a Table, work: &'a [u8]) -> Closed
+    ensures { record { reader = result.reader; count = 0; answer = result.answer; work = work.now } ≡ close_of r table.now work.now }
 {
     let mut reader = r;
     if let Err(refusal) = reader.admit(table, work.len()) {

@@ -11,6 +11,7 @@ ghost use Rattle.replot.specs.Calls.{ReplotOf};
 use boundary::Refusal;
 use geometry::{Located, Place, Point};
 use plane::Corners;
+use table::flat::Table;
 
 // A point of a track, with room for its answer: the number of the answer, and the nearest corner. 16 bytes.
 // Stays: the C interface tells an answer by its number and a corner, which is 0 after a refusal.
@@ -95,7 +96,7 @@ pub fn answer_each(corners: &Corners, track: &mut [TrackPoint])
 pub fn replot(
     text: &[u8],
     track: &mut [TrackPoint],
-    table: &mut [u8; 7920],
+    table: &mut Table,
     corners: &mut [i32; 2048],
 ) -> Result<usize, Refusal>
     ensures { ReplotOf text.now track.old result track.new corners.new table.new }

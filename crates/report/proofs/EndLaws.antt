@@ -11,7 +11,7 @@ use borrow.Author.Tests.{le-leb, lt-leb, eq-eqb, ne_eqb}
 use Rattle.table.specs.Table.{Table}
 use Rattle.book.specs.Load.{loads}
 use Rattle.load.specs.Step.{loaded_as}
-use Rattle.load.specs.declared.BookAnswer.{BookAnswer}
+use Rattle.load.specs.BookAnswer.{BookAnswer}
 use Rattle.load.specs.BookAnswer.{numbered}
 use Rattle.load.specs.Loads.{LoadsAs}
 use Rattle.load.proofs.LoadedLaws.{number-of-book, line-of-book}

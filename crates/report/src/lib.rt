@@ -2,11 +2,11 @@
 #![tactic(auto)]
 
 ghost use Rattle.std.specs.Prelude.{◌≡◌, ◌+◌, ◌≤◌, ◌<◌, length, drop};
-ghost use Rattle.table.specs.Flat.{table_in};
 ghost use Rattle.reader.specs.Machine.{feed_of};
 ghost use Rattle.report.specs.Report.{is_last, written, report_next, report_of, finish_of, Begins};
 
 use reader::{Answer, Reader};
+use table::flat::Table;
 use text::{RefusedBook, StreamNames};
 
 // What a report gives: the reader, the bytes read of the piece, the bytes written to the output, and what the last feed answered.
@@ -39,13 +39,13 @@ fn write_answer(out: &mut [u8], at: usize, a: Answer) -> usize
 // Feeds what is unread of a piece.
 fn feed_rest<'a>(
     r: Reader,
-    table: &'a [u8; 7920],
+    table: &'a Table,
     work: &mut [u8],
     piece: &'a [u8],
     read: usize,
 ) -> reader::Fed
     requires { read ≤ length piece.now }
-    ensures work_after { record { reader = result.reader; count = result.count; answer = result.answer; work = work.new } ≡ feed_of r (table_in table.now) work.old (drop read piece.now) }
+    ensures work_after { record { reader = result.reader; count = result.count; answer = result.answer; work = work.new } ≡ feed_of r table.now work.old (drop read piece.now) }
     ensures count_in_bounds { (read + result.count ≤ length piece.now) × (read + result.count < 18446744073709551616) }
 {
     reader::feed(r, table, work, &piece[read..])
@@ -54,13 +54,13 @@ fn feed_rest<'a>(
 // Feeds what is unread of a piece, and writes the line of the verdict if there is one.
 fn report_next<'a>(
     x: Reported,
-    table: &'a [u8; 7920],
+    table: &'a Table,
     work: &mut [u8],
     piece: &'a [u8],
     out: &mut [u8],
 ) -> Reported
     requires { x.read ≤ length piece.now }
-    ensures next { record { reader = result.reader; work = work.new; read = result.read; out = out.new; used = result.used; answer = result.answer } ≡ report_next (table_in table.now) piece.now x.reader work.old x.read out.old x.used }
+    ensures next { record { reader = result.reader; work = work.new; read = result.read; out = out.new; used = result.used; answer = result.answer } ≡ report_next table.now piece.now x.reader work.old x.read out.old x.used }
     ensures short { result.used ≤ x.used + 64 }
 {
     let f = feed_rest(x.reader, table, work, piece, x.read);
@@ -76,12 +76,12 @@ fn report_next<'a>(
 // a report that drops the line of a verdict where the output ends, and one that feeds the same bytes again.
 pub fn report<'a>(
     r: Reader,
-    table: &'a [u8; 7920],
+    table: &'a Table,
     work: &mut [u8],
     piece: &'a [u8],
     out: &mut [u8],
 ) -> Reported
-    ensures { record { reader = result.reader; work = work.new; read = result.read; out = out.new; used = result.used; answer = result.answer } ≡ report_of r (table_in table.now) work.old piece.now out.old }
+    ensures { record { reader = result.reader; work = work.new; read = result.read; out = out.new; used = result.used; answer = result.answer } ≡ report_of r table.now work.old piece.now out.old }
 {
     let lines = out.len() / 64;
     let mut x = Reported {
@@ -104,8 +104,8 @@ pub fn report<'a>(
 
 // Closes, and writes the line of the last verdict. Ruled out: a finish that closes where its line has no room, and one that forgets the verdict of a
 // record that no RS ended.
-pub fn finish<'a>(r: Reader, table: &'a [u8; 7920], work: &'a [u8], out: &mut [u8]) -> Reported
-    ensures { record { reader = result.reader; work = work.now; read = result.read; out = out.new; used = result.used; answer = result.answer } ≡ finish_of r (table_in table.now) work.now out.old }
+pub fn finish<'a>(r: Reader, table: &'a Table, work: &'a [u8], out: &mut [u8]) -> Reported
+    ensures { record { reader = result.reader; work = work.now; read = result.read; out = out.new; used = result.used; answer = result.answer } ≡ finish_of r table.now work.now out.old }
 {
     if out.len() < 64 {
         return Reported {
@@ -133,23 +133,23 @@ pub struct Begun {
 
 // Loads a book, and writes the names of a stream's fields, or the lines of its refusal. Ruled out: a program that judges by a refused book, and one
 // that gives the line of a refusal before its number.
-pub fn begin(book: &[u8], table: &mut [u8; 7920], out: &mut [u8]) -> Begun
-    ensures { Begins book.now out.old result.accepted (table_in table.new) out.new result.used }
+pub fn begin(book: &[u8], table: &mut Table, out: &mut [u8]) -> Begun
+    ensures { Begins book.now out.old result.accepted table.new out.new result.used }
 {
-    let a = load::load(book, table);
-    let number = load::number_of(a) as usize;
-    if number == 0 {
-        return Begun {
+    match load::load(book, table) {
+        Ok(()) => Begun {
             accepted: true,
             used: text::write(out, 0, StreamNames),
-        };
-    }
-    let refused = RefusedBook {
-        number,
-        line: load::line_of(a),
-    };
-    Begun {
-        accepted: false,
-        used: text::write(out, 0, refused),
+        },
+        Err(refusal) => {
+            let lines = RefusedBook {
+                number: usize::from(refusal.number()),
+                line: refusal.line(),
+            };
+            Begun {
+                accepted: false,
+                used: text::write(out, 0, lines),
+            }
+        }
     }
 }

@@ -4,7 +4,6 @@
 pub mod rules; // rules.rt: what records are read by
 
 ghost use Rattle.std.specs.Prelude.{◌≡◌};
-ghost use Rattle.table.specs.Flat.{table_in};
 ghost use Rattle.progress.specs.declared.Progress.{Progress};
 ghost use Rattle.progress.specs.Memory.{mem, top_at, perform};
 ghost use Rattle.turn.specs.Turn.{ClosedTo, memory, turned};
@@ -13,8 +12,8 @@ use frame::Kind;
 use json_text::lexer::{Step, Top};
 use progress::{Progress, Task, act, key};
 use rules::Rules;
+use table::flat::Table;
 use table::kind::{Finished, ValueKind};
-use table::{keys, kind};
 
 // The open record between two bytes, its key and its frames aside.
 // Stays: the key apart, since an array that is read by index keeps the whole record in memory, which costs 4 in 100 instructions.
@@ -39,13 +38,13 @@ pub fn top_of(work: &[u8], level: usize) -> Top
 }
 
 // The value of a level is closed: it joins the level below. Gives whether the root fits rule 0, which is told where it is the root.
-fn close_value(work: &mut [u8], level: usize, root: bool, table: &[u8; 7920]) -> bool
-    ensures { ClosedTo (table_in table.now) work.old level root result work.new }
+fn close_value(work: &mut [u8], level: usize, root: bool, table: &Table) -> bool
+    ensures { ClosedTo table.now work.old level root result work.new }
 {
     let set = frame::close_level(work, level, table);
     frame::value_level(work, act::down(level), table, Finished::Rules(set));
     if level == 1 {
-        return kind::fits(ValueKind::Rule(0), Finished::Rules(set));
+        return ValueKind::Rule(0).fits(Finished::Rules(set));
     }
     root
 }
@@ -54,7 +53,7 @@ impl Record {
     // Does a task to the root, the key and the frames, all but the progress: up is the level after the byte.
     fn perform(&mut self, task: Task, up: usize, key: &mut [u8; 32], work: &mut [u8], rules: Rules)
         ensures progress { self.new.progress ≡ self.old.progress }
-        ensures performed { (x : Progress) → x.level ≡ up → mem x self.new.root key.new work.new ≡ perform task (table_in rules.entry.table.now) (memory self.old key.old work.old) x }
+        ensures performed { (x : Progress) → x.level ≡ up → mem x self.new.root key.new work.new ≡ perform task rules.entry.table.now (memory self.old key.old work.old) x }
     {
         let table = rules.table;
         let level = self.progress.level;
@@ -66,7 +65,7 @@ impl Record {
             }
             Task::Put(c) => key::keep_char(key, self.progress.len, c),
             Task::Named => {
-                let number = keys::number(table, key, self.progress.len);
+                let number = table.number(key, self.progress.len);
                 frame::key_level(work, level, number);
             }
             Task::Open(object) => frame::open_level(work, up, object, table),
@@ -81,7 +80,7 @@ impl Record {
 
     // The byte b, of which the lexer makes a step: the record after it, its key and its frames.
     pub fn turn(&mut self, step: Step, key: &mut [u8; 32], work: &mut [u8], rules: Rules, b: u8)
-        ensures { memory self.new key.new work.new ≡ turned (table_in rules.entry.table.now) rules.entry.frames (memory self.old key.old work.old) b step }
+        ensures { memory self.new key.new work.new ≡ turned rules.entry.table.now rules.entry.frames (memory self.old key.old work.old) b step }
     {
         let next = progress::advance(self.progress, rules.frames, b, step);
         self.perform(next.task, next.progress.level, key, work, rules);

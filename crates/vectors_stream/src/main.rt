@@ -7,6 +7,7 @@ use reader::{Answer, Reader, Refusal};
 use std::fs::File;
 use std::io;
 use std::rt::Files;
+use table::flat::Table;
 use verdict::Verdict;
 
 // The count of bytes read, and a verdict or refusal with number and place.
@@ -28,7 +29,7 @@ fn say_answer(rt: &impl Print, count: usize, a: Answer) {
     match a {
         Ok(None) => say(rt, count, "none", 0),
         Ok(Some(v)) => say_verdict(rt, count, v),
-        Err(r) => say(rt, count, "call", reader::refusal_number(r)),
+        Err(r) => say(rt, count, "call", r.number()),
     }
 }
 
@@ -36,7 +37,7 @@ fn say_answer(rt: &impl Print, count: usize, a: Answer) {
 #[derive(Drop)]
 struct Calls<'a> {
     reader: Reader,
-    table: &'a mut [u8; 7920],
+    table: &'a mut Table,
     buffer: &'a mut [u8],
     size: usize,
 }
@@ -46,7 +47,7 @@ fn call_reader(
     rt: &impl Print,
     op: u8,
     reader: &mut Reader,
-    table: &[u8; 7920],
+    table: &Table,
     work: &mut [u8],
     piece: &[u8],
 ) {
@@ -78,11 +79,13 @@ impl Calls<'_> {
         let [low, high] = n.to_le_bytes();
         match op {
             b'b' => {
-                load::load(piece, self.table);
+                let _ = load::load(piece, self.table);
             }
             b'e' => {
-                self.table[0] = low;
-                self.table[1] = high;
+                let mut bytes = *self.table.bytes();
+                bytes[0] = low;
+                bytes[1] = high;
+                *self.table = Table::from(bytes);
             }
             b'n' => self.size = usize::from(n),
             b'w' => self.buffer.fill(low),
@@ -124,7 +127,7 @@ fn main(rt: HostRuntime) {
     match content(&rt, "calls", &mut space) {
         Ok(n) => {
             let mut buffer = [0u8; 6240];
-            let mut table = [0u8; 7920];
+            let mut table = Table::empty();
             let started = Reader::start(&table, &buffer);
             let mut calls = Calls {
                 reader: started.reader,

@@ -9,6 +9,7 @@ use std::fs::File;
 use std::io::ErrorKind;
 use std::rt::Files;
 use std::{io, str};
+use table::flat::Table;
 
 // More bytes than an RS and any file of data/ have.
 const SPACE: usize = 262144;
@@ -39,7 +40,7 @@ fn content(rt: &(impl Files + Eprint), path: &[u8], space: &mut [u8]) -> usize
 }
 
 // The entries of a stream that is cut into pieces of a size, or of none where that is 0.
-fn judge(table: &[u8; 7920], stream: &[u8], size: usize) -> Entries {
+fn judge(table: &Table, stream: &[u8], size: usize) -> Entries {
     let mut work = [0u8; WORK];
     let mut entries = Entries::none();
     entries.made = feeds::judge(table, stream, size, &mut work, &mut entries.out);
@@ -47,7 +48,7 @@ fn judge(table: &[u8; 7920], stream: &[u8], size: usize) -> Entries {
 }
 
 // The stream of a file: whether the file is JSON. Says where pieces lead to other entries than the whole.
-fn run_stream(rt: &impl Print, table: &[u8; 7920], name: &[u8], stream: &[u8]) -> bool {
+fn run_stream(rt: &impl Print, table: &Table, name: &[u8], stream: &[u8]) -> bool {
     let whole = judge(table, stream, 0);
     whole.say(rt, name);
     for size in [1, 2, 3, 7] {
@@ -63,7 +64,7 @@ fn run_stream(rt: &impl Print, table: &[u8; 7920], name: &[u8], stream: &[u8]) -
 // One file, after the first byte of the space, which is an RS: whether the file is JSON.
 fn run_file(
     rt: &(impl Files + Print + Eprint),
-    table: &[u8; 7920],
+    table: &Table,
     name: &[u8],
     space: &mut [u8; SPACE],
 ) -> bool {
@@ -123,7 +124,7 @@ impl Counts {
 }
 
 // Each file that has a line in names.
-fn run_names(rt: &(impl Files + Print + Eprint), table: &[u8; 7920], names: &[u8]) -> Counts {
+fn run_names(rt: &(impl Files + Print + Eprint), table: &Table, names: &[u8]) -> Counts {
     let mut counts = Counts::none();
     let mut space = [30u8; SPACE];
     let mut rest = names;
@@ -137,10 +138,10 @@ fn run_names(rt: &(impl Files + Print + Eprint), table: &[u8; 7920], names: &[u8
 
 // All of them, and then how many are JSON.
 pub fn run(rt: &(impl Files + Print + Eprint)) {
-    let mut table = [0u8; 7920];
+    let mut table = Table::empty();
     let mut space = [0u8; BLOCK];
     let n = content(rt, b"book.txt", &mut space);
-    load::load(&space[..n], &mut table);
+    let _ = load::load(&space[..n], &mut table);
     let n = content(rt, b"names", &mut space);
     run_names(rt, &table, &space[..n]).say(rt);
 }

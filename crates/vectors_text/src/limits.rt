@@ -2,18 +2,19 @@
 // and the bytes of the buffer.
 use crate::long::Text;
 use crate::{long, nest};
+use table::flat::Table;
 
 // Any tree of arrays, and of objects with the key a; strings and numbers in arrays.
-fn array_book(t: &mut [u8; 7920]) {
-    load::load(
+fn array_book(t: &mut Table) {
+    let _ = load::load(
         b"rule form state key value next\n0 arr 0 - str 0\n0 arr 0 - num 0\n0 arr 0 - r0 0\n0 arr 0 - r1 0\n0 arr 0 - end -\n1 obj 0 a r0 1\n1 obj 0 a r1 1\n1 obj 0 - end -\n1 obj 1 - end -\n",
         t,
     );
 }
 
 // Any tree of objects with the key a.
-fn object_book(t: &mut [u8; 7920]) {
-    load::load(
+fn object_book(t: &mut Table) {
+    let _ = load::load(
         b"rule form state key value next\n0 obj 0 a r0 1\n0 obj 0 - end -\n0 obj 1 - end -\n",
         t,
     );
@@ -25,7 +26,7 @@ const LONGEST: u32 = 16777216;
 const SHORTER: u32 = 16777215;
 
 // Records that are JSON as long as they are not too long.
-fn sound_ones(rt: &impl Print, t: &[u8; 7920]) {
+fn sound_ones(rt: &impl Print, t: &Table) {
     Text::new(b"\x1e[\"", b"a", b"\"]").run(rt, t, b"string", SHORTER);
     Text::new(b"\x1e", b" ", b"[]").run(rt, t, b"blanks-before", LONGEST);
     Text::new(b"\x1e[]", b"\n", b"").run(rt, t, b"blanks-behind", LONGEST);
@@ -37,7 +38,7 @@ fn sound_ones(rt: &impl Print, t: &[u8; 7920]) {
 const DEEP: [u8; 65] = *b"\x1e[[[[[[[[[[[[[[[[[[[[[[[[[[[[[[[[[[[[[[[[[[[[[[[[[[[[[[[[[[[[[[[[";
 
 // Records whose last byte is a fault, that are lost from the first bytes on, or that break off.
-fn broken_ones(rt: &impl Print, t: &[u8; 7920]) {
+fn broken_ones(rt: &impl Print, t: &Table) {
     Text::new(b"\x1e[", b" ", b"x").run(rt, t, b"malformed-last", LONGEST);
     Text::new(b"\x1ex", b" ", b"").run(rt, t, b"malformed-first", LONGEST);
     Text::new(&DEEP, b" ", b"[").run(rt, t, b"too-deep-last", LONGEST);
@@ -63,9 +64,9 @@ const BUFFERS: [(usize, usize); 12] = [
 
 // All of them.
 pub fn run(rt: &impl Print) {
-    let mut t = [0u8; 7920];
+    let mut t = Table::empty();
     array_book(&mut t);
-    let mut u = [0u8; 7920];
+    let mut u = Table::empty();
     object_book(&mut u);
     for (size, least) in BUFFERS {
         nest::run(rt, &t, &u, size, least);

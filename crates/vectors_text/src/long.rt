@@ -4,6 +4,7 @@ use crate::say::Entries;
 use crate::{WORK, say};
 use entries::entry;
 use reader::{Answer, Reader};
+use table::flat::Table;
 
 const BLOCK: usize = 65536;
 
@@ -11,7 +12,7 @@ const BLOCK: usize = 65536;
 #[derive(Drop)]
 struct Stream<'a> {
     reader: Reader,
-    table: &'a [u8; 7920],
+    table: &'a Table,
     work: &'a mut [u8; WORK],
     entries: Entries,
 }
@@ -83,7 +84,7 @@ impl<'a> Text<'a> {
     }
 
     // Judges the text as a stream with 64 frames, with n bytes of the unit over and over in its place.
-    fn run_stream(&self, rt: &impl Print, table: &[u8; 7920], label: &[u8], n: usize) {
+    fn run_stream(&self, rt: &impl Print, table: &Table, label: &[u8], n: usize) {
         let mut work = [0u8; WORK];
         let started = Reader::start(table, &work);
         let mut stream = Stream {
@@ -101,7 +102,7 @@ impl<'a> Text<'a> {
     }
 
     // A record of each number of bytes from the least to one more than a record can have, alone in its stream. The text begins with its RS.
-    pub fn run(&self, rt: &impl Print, table: &[u8; 7920], label: &[u8], least: u32) {
+    pub fn run(&self, rt: &impl Print, table: &Table, label: &[u8], least: u32) {
         for bytes in least..16777218 {
             say::write(rt, label);
             let _ = print!(rt; "-{bytes}");
@@ -114,7 +115,7 @@ impl<'a> Text<'a> {
 }
 
 // A record that is too long, and a head that would be too long for a record, each with a record after it.
-pub fn pairs(rt: &impl Print, table: &[u8; 7920]) {
+pub fn pairs(rt: &impl Print, table: &Table) {
     let too_long = Text::new(b"\x1e[", b"[\"a\",1],", b"\x1e[\"a\",1]");
     too_long.run_stream(rt, table, b"too-long-then-sound", 16777216);
     let long_head = Text::new(b"", b" ", b"\x1e[\"a\",1]");

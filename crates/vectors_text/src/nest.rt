@@ -4,6 +4,7 @@ use crate::{WORK, say};
 use arrayvec::ArrayVec;
 use entries::feeds;
 use reader::Reader;
+use table::flat::Table;
 
 #[derive(Clone, Copy)]
 enum Shape {
@@ -59,14 +60,14 @@ fn close_levels(text: &mut Text, shape: Shape, levels: usize) {
 }
 
 // Judges the text as a stream, and says its entries after a label.
-fn judge(rt: &impl Print, table: &[u8; 7920], work: &mut [u8], text: &Text, label: &[u8]) {
+fn judge(rt: &impl Print, table: &Table, work: &mut [u8], text: &Text, label: &[u8]) {
     let mut entries = Entries::none();
     entries.made = feeds::judge(table, text.as_slice(), 0, work, &mut entries.out);
     entries.say(rt, label);
 }
 
 // A record of so many levels, alone in its stream: left open, and closed.
-fn run_shape(rt: &impl Print, table: &[u8; 7920], work: &mut [u8], shape: Shape, levels: usize) {
+fn run_shape(rt: &impl Print, table: &Table, work: &mut [u8], shape: Shape, levels: usize) {
     let name = shape.name();
     let size = work.len();
     let mut text = Text::new();
@@ -79,7 +80,7 @@ fn run_shape(rt: &impl Print, table: &[u8; 7920], work: &mut [u8], shape: Shape,
 }
 
 // Records of four numbers of levels from the least on, on a buffer of so many bytes. The tables are of arrays, and of objects.
-pub fn run(rt: &impl Print, arrays: &[u8; 7920], objects: &[u8; 7920], size: usize, least: usize) {
+pub fn run(rt: &impl Print, arrays: &Table, objects: &Table, size: usize, least: usize) {
     let mut space = [0u8; 2 * WORK];
     if size <= space.len() && least <= 64 {
         let work = &mut space[..size];
@@ -92,7 +93,7 @@ pub fn run(rt: &impl Print, arrays: &[u8; 7920], objects: &[u8; 7920], size: usi
 }
 
 // A record on one frame, which is its own label.
-fn run_text(rt: &impl Print, table: &[u8; 7920], record: &[u8]) {
+fn run_text(rt: &impl Print, table: &Table, record: &[u8]) {
     let mut work = [0u8; Reader::FRAME];
     let mut text = Text::new();
     put(&mut text, b"\x1e");
@@ -101,7 +102,7 @@ fn run_text(rt: &impl Print, table: &[u8; 7920], record: &[u8]) {
 }
 
 // Second openings on one frame: too deep where a value can stand, malformed where none can.
-pub fn run_texts(rt: &impl Print, table: &[u8; 7920]) {
+pub fn run_texts(rt: &impl Print, table: &Table) {
     run_text(rt, table, b"[[");
     run_text(rt, table, b"[{");
     run_text(rt, table, b"{[");
@@ -112,7 +113,7 @@ pub fn run_texts(rt: &impl Print, table: &[u8; 7920]) {
 }
 
 // Arrays left open, and after them 64 that are closed.
-fn pair(rt: &impl Print, table: &[u8; 7920], label: &[u8], levels: usize) {
+fn pair(rt: &impl Print, table: &Table, label: &[u8], levels: usize) {
     let mut work = [0u8; 2 * WORK];
     let mut text = Text::new();
     open_levels(&mut text, Shape::Arrays, levels);
@@ -122,7 +123,7 @@ fn pair(rt: &impl Print, table: &[u8; 7920], label: &[u8], levels: usize) {
 }
 
 // A record that fails, and one after it: the second is judged as it is alone.
-pub fn pairs(rt: &impl Print, table: &[u8; 7920]) {
+pub fn pairs(rt: &impl Print, table: &Table) {
     pair(rt, table, b"alone", 0);
     pair(rt, table, b"broken-off-then-sound", 64);
     pair(rt, table, b"too-deep-then-sound", 65);

@@ -1,8 +1,7 @@
 -- `open_level` meets its contract: opening writes a fresh frame over any. Assumes nothing.
 use borrow.Author.Rules.{rules}
-use Rattle.table.specs.Flat.{table_in}
 use Rattle.frame.specs.Ops.{opened}
 use Rattle.frame.proofs.open_level.Goals as goal
 
 pub returns : goal.returns
-returns c = c.change_frame.ensures (λ f. opened (table_in c.args.table.now).forms c.args.object) (λ f g p. search rules)
+returns c = c.change_frame.ensures (λ f. opened c.args.table.now.forms c.args.object) (λ f g p. search rules)

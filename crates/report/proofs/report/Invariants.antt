@@ -2,11 +2,10 @@
 use mathlib.Core.Path.{◌≡◌}
 use Prim.Native.Nat.{◌/◌}
 use lib.ListN.{length}
-use Rattle.table.specs.Flat.{table_in}
 use Rattle.report.proofs.ReportLaws.{Going}
 use Rattle.report.proofs.report.Given as goal
 
 abbrev pub invariant-loop : goal.invariant-loop
 invariant-loop l =
     (l.lines ≡ length l.initial.out / 64) × (length l.work ≡ length l.initial.work) × (length l.out ≡ length l.initial.out)
-    × Going (table_in l.table) l.initial.work l.piece l.initial.out l.initial.x.reader l.work l.out l.x.reader l.x.read l.x.used l.counter
+    × Going l.table l.initial.work l.piece l.initial.out l.initial.x.reader l.work l.out l.x.reader l.x.read l.x.used l.counter

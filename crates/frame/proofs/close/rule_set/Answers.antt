@@ -1,6 +1,5 @@
 -- `close::rule_set` meets its contract. Assumes nothing.
 use Rattle.std.proofs.Common.{◌≡◌, ◌+◌, ◌*◌, ◌∙◌, sym, arith, refl}
-use Rattle.table.specs.Flat.{table_in}
 use Rattle.frame.specs.Frame.{number_of}
 use Rattle.frame.specs.Ops.{rule_set}
 use Rattle.frame.proofs.QuietLaws.{rule_set-quiet}
@@ -14,7 +13,7 @@ loop-i-init c = refl
 pub loop-i-preserved : goal.loop-i-preserved
 loop-i-preserved c =
     let a = c.args in
-    let t = table_in a.table.now in
+    let t = a.table.now in
     let i = c.loop-i.i in
     let e : 4 * (i + 1) ≡ 4 * i + 4 = omega arith in
     rw e (elim c.if-not-quiet.branch [

@@ -2,7 +2,6 @@
 use Rattle.laws.specs.Bits.{set_all}
 use Rattle.frame.specs.Edges.{has_form}
 use Rattle.frame.specs.Frame.{number_of}
-use Rattle.table.specs.Flat.{table_in}
 use Rattle.frame.proofs.QuietLaws.{set_all-quiet}
 use Rattle.frame.proofs.KindLaws.{number_of-nonzero}
 use Rattle.std.proofs.Common.{◌≡◌, ◌*◌, ◌+◌, sym, ap, ◌∙◌, arith, refl}
@@ -16,7 +15,7 @@ loop-i-init c = refl
 pub loop-i-preserved : goal.loop-i-preserved
 loop-i-preserved c =
     let a = c.args in
-    let f = (table_in a.table.now).forms in
+    let f = a.table.now.forms in
     let n = number_of a.kind in
     let e : 8 * (c.loop-i.i + 1) ≡ 8 * c.loop-i.i + 8 = omega arith in
     rw e (elim c.if-not-no_lines.branch [
@@ -27,4 +26,4 @@ loop-i-preserved c =
 pub returns : goal.returns
 returns c =
     let e : 8 * c.loop-i.i ≡ 32 = omega arith in
-    c.loop-i.invariant ∙ ap (λ n. set_all (has_form (table_in c.args.table.now).forms (number_of c.args.kind)) (λ r. 16 * r) n c.args.states.now) e
+    c.loop-i.invariant ∙ ap (λ n. set_all (has_form c.args.table.now.forms (number_of c.args.kind)) (λ r. 16 * r) n c.args.states.now) e

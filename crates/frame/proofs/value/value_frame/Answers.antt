@@ -1,6 +1,5 @@
 -- `value::value_frame` meets its contract: a law for each of the three cases. Assumes nothing.
 use borrow.Author.Rules.{rules}
-use Rattle.table.specs.Flat.{table_in}
 use Rattle.frame.specs.InTable.{stepping_in}
 use Rattle.frame.specs.Mask.{mask_has}
 use Rattle.frame.proofs.KindLaws.{object-of-kind, array-of-kind}
@@ -19,4 +18,4 @@ returns-in-Array c =
     let a = c.args in
     let f = a.frame.now in
     valued-array _ _ _ _ f (mask_has c.mask_of-m.result) _ c.led_to-states.result c.mask_of-m.ensures (array-of-kind f c.in-Array.ensures)
-    (c.led_to-states.ensures (stepping_in (table_in a.table.now) c.mask_of-m.result f) (λ e b l p. search rules)) (rw c.copy_from_slice.ensures.after (put-states f c.led_to-states.result c.told-frame))
+    (c.led_to-states.ensures (stepping_in a.table.now c.mask_of-m.result f) (λ e b l p. search rules)) (rw c.copy_from_slice.ensures.after (put-states f c.led_to-states.result c.told-frame))

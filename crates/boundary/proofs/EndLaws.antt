@@ -24,8 +24,7 @@ use Rattle.follows.proofs.PartLaws.{tracks-part, judged-part, pos-part, length_p
 use Rattle.demand.proofs.BookLaws.{carries-of-book, plain-of-book}
 use Rattle.reader.specs.declared.Reader.{Reader}
 use Rattle.reader.specs.Answer.{Answer}
-use Rattle.reader.specs.declared.Gate.TheVariants as Is
-use Rattle.reader.specs.Refusals.{fit_reader, within_reader, call_gate}
+use Rattle.reader.specs.Refusals.{let_in, fit_reader, within_reader, call_gate}
 use Rattle.reader.specs.Tally.{zero_tally}
 use Rattle.reader.specs.Start.{Start, fresh_reader, start_of}
 use Rattle.reader.specs.Machine.{Outcome, memory_of, ending, feed_of, closing, close_of}
@@ -103,7 +102,7 @@ module _ {t : Table} {s : List ℕ} {r : Reader} {w : List ℕ} {n : ℕ} {u : B
   room-all : 96 * 3 ≤ length w
   room-all = omega (arith, ap (λ (m : Mem). length m.work) memory-all, length_part t 3 (fresh_mem false x.first) s, x.room)
 
-  open-close : call_gate (within_reader r) r.frames t (length w) ≡ Is.Open
+  open-close : call_gate (within_reader r) r.frames t (length w) ≡ let_in
   open-close = rw (within-true r x.frames x.level x.len) (call-open-of-room r.frames t (length w) (limits-b b) (omega (arith, x.frames, room-all)))
 
   -- the verdict of the text

@@ -10,8 +10,7 @@ use Rattle.table.specs.Table.{Table}
 use Rattle.table.specs.Limits.{within_limits}
 use Rattle.progress.specs.Memory.{Ran, run_mem}
 use Rattle.reader.specs.declared.Reader.{Reader}
-use Rattle.reader.specs.declared.Gate.TheVariants as Is
-use Rattle.reader.specs.Refusals.{fit_reader, within_reader, call_gate}
+use Rattle.reader.specs.Refusals.{let_in, fit_reader, within_reader, call_gate}
 use Rattle.reader.specs.Machine.{memory_of, going, feeding, feed_of}
 use Rattle.reader.proofs.RefusalLaws.{call-open-of-room}
 use Rattle.follows.specs.Follows.{NoRS, read_part}
@@ -24,7 +23,7 @@ within-true r f l k = rw (f, le-leb r.progress.level 3 l, le-leb r.progress.len 
 
 module _ (t : Table) (limits : within_limits t ≡ true) (r : Reader) (w : List ℕ) (frames : r.frames ≡ 3) (level : r.progress.level ≤ 3) (len : r.progress.len ≤ 33)
     (room : length w ≡ 288) (p : List ℕ) (plain : NoRS p) where
-  open-gate : call_gate (within_reader r) r.frames t (length w) ≡ Is.Open
+  open-gate : call_gate (within_reader r) r.frames t (length w) ≡ let_in
   open-gate = rw (within-true r frames level len) (call-open-of-room r.frames t (length w) limits (omega arith))
 
   run-all : run_mem t r.frames (memory_of r w) 0 p ≡ record { memory = read_part t r.frames (memory_of r w) p; count = 0 + length p; ended = false }

@@ -108,10 +108,10 @@ module _ (s : List ℕ) where
   cleared-is (Ok n) e f = cc
   cleared-is (Err k) e f = ap (λ (b : Result ℕ Refusal). left_by b (numbers_of s)) e
 
-  read_of : (r : Result ℕ Refusal) (m : List ℤ) (t : List ℕ) → r ≡ boundary_of s → m ≡ left_corners s → LoadsB t → ReadOf s r m t
+  read_of : (r : Result ℕ Refusal) (m : List ℤ) (t : Table) → r ≡ boundary_of s → m ≡ left_corners s → LoadsB t → ReadOf s r m t
   read_of r m t e f b = record { boundary = e; corners_left = f; held = rw (e, f) (held-left s); table_left = b }
 
-  module _ (x : Option Numbers) (l m : List ℤ) (r : Result ℕ Refusal) (t : List ℕ) (y : ReadsAs s x l) (e : r ≡ bound_by x) (b : LoadsB t) where
+  module _ (x : Option Numbers) (l m : List ℤ) (r : Result ℕ Refusal) (t : Table) (y : ReadsAs s x l) (e : r ≡ bound_by x) (b : LoadsB t) where
     pub read-kept : is_ok r ≡ true → ReadOf s r l t
     read-kept f = read_of r l t (e ∙ boundary-is x l y) (kept-is x l r y e f) b
 
@@ -151,7 +151,7 @@ module _ (cs : List Point) (p : Point) where
 
 -- ---- a query
 
-module _ {s : List ℕ} {b : Result ℕ Refusal} {l : List ℤ} {t : List ℕ} {p : Point} (x : ReadOf s b l t) where
+module _ {s : List ℕ} {b : Result ℕ Refusal} {l : List ℤ} {t : Table} {p : Point} (x : ReadOf s b l t) where
   pub query-corners : {n : ℕ} {a : Result Located Refusal} → b ≡ Ok n → a ≡ answer_at (corners_in l n) p → QueryOf s p a l t
   unfolding query_of
   query-corners {n} e f =

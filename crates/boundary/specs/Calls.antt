@@ -29,7 +29,7 @@ pub record ReadOf (s : List ℕ) (r : Result ℕ Refusal) (corners : List ℤ) (
   pub table_left : LoadsB table
 
 -- what a query gives for the text s and the point p, and leaves
-pub record QueryOf (s : List ℕ) (p : Point) (r : Result Located Refusal) (corners : List ℤ) (table : List ℕ) : Type 0 where
+pub record QueryOf (s : List ℕ) (p : Point) (r : Result Located Refusal) (corners : List ℤ) (table : Table) : Type 0 where
   pub answer : r ≡ query_of s p
   pub corners_left : corners ≡ left_corners s
   pub table_left : LoadsB table

@@ -1,10 +1,15 @@
 -- `begin` meets its contract: the names of an accepted book, the lines of a refused one. Assumes nothing.
-use Rattle.report.proofs.EndLaws.{begin-accepted, begin-refused}
-use borrow.Author.Rules.{rules}
+use mathlib.Core.Path.{refl, sym, ap, ◌∙◌}
+use Rattle.load.specs.BookAnswer.{numbered}
+use Rattle.report.proofs.EndLaws.{begin-accepted, begin-refused, refusal-above-0}
 use Rattle.report.proofs.begin.Goals as goal
 
-pub returns-then-number-eq0 : goal.returns-then-number-eq0
-returns-then-number-eq0 c = search (rules, begin-accepted)
+pub returns-in-Ok : goal.returns-in-Ok
+returns-in-Ok c = begin-accepted _ _ _ _ c.load.ensures.loads_as 0 (sym (ap (λ a. (numbered a).number) c.in-Ok.is)) _ _ refl c.write.ensures.written
 
-pub returns : goal.returns
-returns c = search (rules, begin-refused)
+pub returns-in-Err : goal.returns-in-Err
+returns-in-Err c =
+    let number = c.from.ensures ∙ c.number.ensures in
+    begin-refused _ _ _ _ c.load.ensures.loads_as _ (number ∙ sym (ap (λ a. (numbered a).number) c.in-Err.is)) _ _ _
+    (λ z. refusal-above-0 c.in-Err.refusal (sym number ∙ z)) (c.line.ensures ∙ sym (ap (λ a. (numbered a).line) c.in-Err.is))
+    c.write-in-Err.ensures.written

@@ -13,6 +13,7 @@ use mir.Facts.{to_z-of_z}
 use mir.Syntax.{w32}
 use mir.Val.{SFits, to_z, of_z}
 use borrow.Author.Tests.{ltb-false}
+use Rattle.table.specs.Table.{Table}
 use Rattle.laws.proofs.TestLaws.{T-and-left, T-and-right, T-of-true}
 use Rattle.laws.specs.Tab.{tab}
 use Rattle.laws.proofs.TabLaws.{length-tab, get_d-tab}
@@ -162,5 +163,5 @@ module _ {s : List ℕ} {b : Result ℕ Refusal} {l : List ℤ} {t : Table} {p :
   query-refused e =
       record { answer = ap (λ (z : Result ℕ Refusal). answer_by z (left_corners s) p) (sym e ∙ x.boundary); corners_left = x.corners_left; table_left = x.table_left }
 
-pub held-corners : {s : List ℕ} {b : Result ℕ Refusal} {l : List ℤ} {t : List ℕ} {n : ℕ} → ReadOf s b l t → b ≡ Ok n → Held l n
+pub held-corners : {s : List ℕ} {b : Result ℕ Refusal} {l : List ℤ} {t : Table} {n : ℕ} → ReadOf s b l t → b ≡ Ok n → Held l n
 held-corners {l = l} x e = subst (λ (z : Result ℕ Refusal). HeldBy z l) e x.held

@@ -22,7 +22,7 @@ bound_by (Some x) = cond (ltb x.taken 6 || ltb 2048 x.taken) (Err No.Count) (con
 bound_by None = Err No.NotValid
 
 -- what read gives for the text s, and leaves in the lent corners and the lent table
-pub record ReadOf (s : List ℕ) (r : Result ℕ Refusal) (corners : List ℤ) (table : List ℕ) : Type 0 where
+pub record ReadOf (s : List ℕ) (r : Result ℕ Refusal) (corners : List ℤ) (table : Table) : Type 0 where
   pub boundary : r ≡ boundary_of s
   pub corners_left : corners ≡ left_corners s
   pub held : HeldBy r corners

@@ -2,7 +2,8 @@
 use mathlib.Core.List.{List, ◌++◌}
 use Prim.Native.Nat.{ℕ}
 use Rattle.laws.specs.Ascii.{ascii}
-use Rattle.text.specs.Text.{decimal, space, LF}
+use Rattle.std.specs.Fmt.{decimal}
+use Rattle.text.specs.Text.{space, LF}
 use Rattle.text.specs.Put.{Put}
 use Rattle.text.proofs.PutLaws.{put_then}
 use Rattle.points.specs.Answers.{word_line, stop_line}

@@ -6,7 +6,8 @@ use Rattle.laws.specs.Ascii.{ascii}
 use Rattle.laws.specs.Lists.{all}
 use Rattle.json_text.specs.Bytes.{within}
 use Rattle.json_text.specs.Numbers.{is_digit}
-use Rattle.text.specs.Text.{digit_if, digits, decimal, LF}
+use Rattle.std.specs.Fmt.{digits}
+use Rattle.text.specs.Text.{LF}
 use Rattle.geometry.specs.declared.Point.{Point}
 use Rattle.geometry.specs.declared.Place.TheVariants.{Inside}
 use Rattle.boundary.specs.declared.Refusal.TheVariants.{Range}
@@ -27,5 +28,5 @@ unfolding is_blank blanks word_len after_blanks word after_word without_cr has_s
 others = (refl, refl, refl, refl, refl)
 
 pub answers : (said_line (Ok (record { place = Inside; nearest = 10 })) ≡ ascii "inside 10" ++ LF) × (said_line (Err Range) ≡ ascii "refused 33" ++ LF)
-unfolding said_line word_line decimal digits digit_if
+unfolding said_line word_line digits
 answers = (refl, refl)

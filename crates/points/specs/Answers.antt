@@ -1,7 +1,8 @@
 -- The lines that the program of points writes: REQUIREMENT.md, section 9. Stated. Assumes nothing.
 use Rattle.std.specs.Prelude.{List, ◌++◌, ℕ, Result, Ok, Err}
 use Rattle.laws.specs.Ascii.{ascii}
-use Rattle.text.specs.Text.{decimal, space, LF}
+use Rattle.std.specs.Fmt.{decimal}
+use Rattle.text.specs.Text.{space, LF}
 use Rattle.geometry.specs.declared.Place.{Place}
 use Rattle.geometry.specs.declared.Place.TheVariants.{Outside, Inside, Edge}
 use Rattle.geometry.specs.declared.Located.{Located}

@@ -5,6 +5,7 @@ use mathlib.Core.Logic.{◌↔◌}
 use mathlib.Core.Path.{◌≡◌, refl, sym, ap, subst, ◌∙◌}
 use Prim.Native.Nat.{ℕ}
 use lib.IntN.{ℤ}
+use Rattle.table.specs.Table.{Table}
 use Rattle.geometry.specs.declared.Point.{Point}
 use Rattle.boundary.specs.declared.Refusal.{Refusal}
 use Rattle.std.specs.Prelude.{Result, Ok, Err}
@@ -93,7 +94,7 @@ track-append s t u = track_by-append (boundary_of s) (left_corners s) t u
 -- ---- the code's need
 
 -- what was read of the text, and the track after it
-module _ {s : List ℕ} {b : Result ℕ Refusal} {l : List ℤ} {m : List ℕ} {t : List TrackPoint} (x : ReadOf s b l m) where
+module _ {s : List ℕ} {b : Result ℕ Refusal} {l : List ℤ} {m : Table} {t : List TrackPoint} (x : ReadOf s b l m) where
   replot-of-read : {u : List TrackPoint} → u ≡ track_by b l t → ReplotOf s t b u l m
   unfolding track_of
   replot-of-read e = record { boundary = x.boundary; track = e ∙ rw (x.boundary, x.corners_left) refl; corners_left = x.corners_left; table_left = x.table_left }

@@ -68,11 +68,7 @@ fn bound(numbers: Option<walk::Numbers>) -> Result<usize, Refusal>
 // holds book B's table then, and the lent corners their numbers, with zeros behind them; all zeros where the text or a corner is refused.
 // Ruled out: a program that takes the corners of a text that is not valid, and one that finds fault with a number before it counts the corners.
 // Stays: the C interface lends the memory and takes the count, so they stand side by side until `Corners::new` joins them.
-pub fn read(
-    text: &[u8],
-    table: &mut Table,
-    corners: &mut [i32; 2048],
-) -> Result<usize, Refusal>
+pub fn read(text: &[u8], table: &mut Table, corners: &mut [i32; 2048]) -> Result<usize, Refusal>
     ensures { ReadOf text.now result corners.new table.new }
 {
     load_b(table);

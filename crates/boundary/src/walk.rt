@@ -214,11 +214,7 @@ fn work_space() -> [u8; 288]
 }
 
 // Judges a text by book B and takes its numbers at level 3, in one walk over its bytes; none where the text is not valid.
-pub fn read_text<'a>(
-    text: &'a [u8],
-    table: &'a Table,
-    corners: &mut [i32; 2048],
-) -> Option<Numbers>
+pub fn read_text<'a>(text: &'a [u8], table: &'a Table, corners: &mut [i32; 2048]) -> Option<Numbers>
     requires { (table.now ≡ book_table book_b) × (corners.old ≡ replicate 2048 (pos 0)) }
     ensures { ReadsAs text.now result corners.new }
 {

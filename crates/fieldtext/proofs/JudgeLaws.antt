@@ -6,6 +6,7 @@ use Prim.Native.Nat.{ℕ}
 use lib.Dec.{eqb}
 use borrow.Author.Tests.{eq-eqb, ne_eqb}
 use Rattle.book.specs.Load.{loads}
+use Rattle.verdict.specs.declared.Word.TheVariants as Says
 use Rattle.load.specs.Step.{Loaded}
 use Rattle.load.specs.BookAnswer.{numbered}
 use Rattle.load.specs.Loads.{LoadsAs}
@@ -17,7 +18,7 @@ use Rattle.fieldtext.specs.Judge.{judges, judge_of}
 module _ (b : List ℕ) (x : Loaded) (l : LoadsAs b x) where
   module _ (s : List ℕ) (size : ℕ) (w o : List ℕ) (number : ℕ) (n : number ≡ (numbered x.answer).number) where
     pub judge-refused : (number ≡ 0 → ⊥) → (line : ℕ) → line ≡ (numbered x.answer).line → (after : List ℕ)
-        → after ≡ with_entry o 0 (record { word = 2; number = number; place = line; read = 0 })
+        → after ≡ with_entry o 0 (record { word = Says.Refused; number = number; place = line; read = 0 })
         → record { work = w; out = after; made = 1 } ≡ judge_of b s size w o
     unfolding judge_of judges with_entries
     judge-refused un line m after h =

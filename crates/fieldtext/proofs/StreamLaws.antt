@@ -29,8 +29,7 @@ use Rattle.demand.specs.Book.{Book}
 use Rattle.demand.specs.Reading.{Reads, ended, fed}
 use Rattle.demand.proofs.FeedLaws.{count-of-feed, some-of-feed, length-of-feed}
 use Rattle.demand.proofs.ReadingLaws.{verdicts-of-reads, book-of-loaded, start-quiet, feed-served, close-served, good-of-feed}
-use Rattle.entries.specs.declared.entry.Entry.{Entry}
-use Rattle.entries.specs.Entries.{Entry as Said}
+use Rattle.entries.specs.declared.entry.Entry.{Entry as Said}
 use Rattle.entries.specs.Feeds.{answer_entries, is_refused, Fed, stopped, entries_then, piece_of, feeds, closes, streamed}
 use Rattle.fieldtext.specs.Judge.{judges}
 use Rattle.fieldtext.specs.Shows.{Shows, none, next}

@@ -49,8 +49,7 @@ fn has_end<'a>(states: &'a States, table: &'a Table, r: usize) -> bool
     requires { r < 32 }
     ensures { result ≡ has_end table.now.ends states.now r }
 {
-    states[2 * r] & table.end(2 * r) != 0
-        || states[2 * r + 1] & table.end(2 * r + 1) != 0
+    states[2 * r] & table.end(2 * r) != 0 || states[2 * r + 1] & table.end(2 * r + 1) != 0
 }
 
 // The values of a kind may fit rule r, and it has an end state among the states.
@@ -62,13 +61,7 @@ fn accepts<'a>(states: &'a States, table: &'a Table, kind: Kind, r: usize) -> bo
 }
 
 // The set with those of four rules that accept the states.
-fn with_four<'a>(
-    set: u32,
-    states: &'a States,
-    table: &'a Table,
-    kind: Kind,
-    from: usize,
-) -> u32
+fn with_four<'a>(set: u32, states: &'a States, table: &'a Table, kind: Kind, from: usize) -> u32
     requires { (from + 4 ≤ 32) × (set ≡ rule_set (accepting_in table.now (number_of kind) states.now) from) }
     ensures { result ≡ rule_set (accepting_in table.now (number_of kind) states.now) (from + 4) }
 {

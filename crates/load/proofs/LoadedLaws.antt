@@ -20,7 +20,9 @@ use Rattle.store.specs.Proper.{Proper}
 use Rattle.load.specs.Ranges.{Ranges}
 use Rattle.store.specs.Store.{table_from, table_of}
 use Rattle.load.specs.Step.{Loaded, take_book}
-use Rattle.load.specs.BookAnswer.{Numbered, number_line, numbered}
+use Rattle.load.specs.declared.Refusal.{Refusal}
+use Rattle.load.specs.declared.Refusal.TheVariants as No
+use Rattle.load.specs.BookAnswer.{Numbered, number_line, refused_as, numbered}
 use Rattle.load.specs.Loads.{book_table, LoadsAs}
 use Rattle.load.proofs.RangeLaws.{within_limits-of-ranges}
 use Rattle.load.proofs.KeptLaws.{Loading}
@@ -182,3 +184,18 @@ module _ (b : List ℕ) (r : Loaded) (l : LoadsAs b r) where
 
   pub loaded-within_limits : within_limits r.table ≡ true
   loaded-within_limits = within_limits-complete r.table loaded-within
+
+-- ---- numbers of refusals
+
+-- a refusal has a number above 0
+pub refusal-above-0 : (r : Refusal) → (refused_as r).number ≡ 0 → ⊥
+refusal-above-0 No.Size e = omega (arith, e)
+refusal-above-0 No.Names e = omega (arith, e)
+refusal-above-0 (No.Malformed n) e = omega (arith, e)
+refusal-above-0 (No.AboveLimit n) e = omega (arith, e)
+refusal-above-0 (No.TooMany n) e = omega (arith, e)
+refusal-above-0 (No.FormChanged n) e = omega (arith, e)
+refusal-above-0 (No.Repeated n) e = omega (arith, e)
+refusal-above-0 (No.NoRule n) e = omega (arith, e)
+refusal-above-0 No.NoRoot e = omega (arith, e)
+refusal-above-0 (No.NotAscending n) e = omega (arith, e)

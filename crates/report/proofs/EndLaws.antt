@@ -11,9 +11,7 @@ use borrow.Author.Tests.{le-leb, lt-leb, eq-eqb, ne_eqb}
 use Rattle.table.specs.Table.{Table}
 use Rattle.book.specs.Load.{loads}
 use Rattle.load.specs.Step.{loaded_as}
-use Rattle.load.specs.declared.Refusal.{Refusal}
-use Rattle.load.specs.declared.Refusal.TheVariants as No
-use Rattle.load.specs.BookAnswer.{refused_as, BookAnswer}
+use Rattle.load.specs.BookAnswer.{BookAnswer}
 use Rattle.load.specs.BookAnswer.{numbered}
 use Rattle.load.specs.Loads.{LoadsAs}
 use Rattle.load.proofs.LoadedLaws.{number-of-book, line-of-book}
@@ -50,19 +48,6 @@ module _ (r : Reader) (t : Table) (w o : List ℕ) where
             rw (rw (le-leb 64 (length o) has) at u, n)
 
 -- ---- begin
-
--- a refusal has a number above 0
-pub refusal-above-0 : (r : Refusal) → (refused_as r).number ≡ 0 → ⊥
-refusal-above-0 No.Size e = omega (arith, e)
-refusal-above-0 No.Names e = omega (arith, e)
-refusal-above-0 (No.Malformed n) e = omega (arith, e)
-refusal-above-0 (No.AboveLimit n) e = omega (arith, e)
-refusal-above-0 (No.TooMany n) e = omega (arith, e)
-refusal-above-0 (No.FormChanged n) e = omega (arith, e)
-refusal-above-0 (No.Repeated n) e = omega (arith, e)
-refusal-above-0 (No.NoRule n) e = omega (arith, e)
-refusal-above-0 No.NoRoot e = omega (arith, e)
-refusal-above-0 (No.NotAscending n) e = omega (arith, e)
 
 module _ (b o : List ℕ) (a : BookAnswer) (t : Table) (l : LoadsAs b (loaded_as a t)) (number : ℕ) (n : number ≡ (numbered a).number)
     (after : List ℕ) (place : ℕ) where

@@ -1,7 +1,8 @@
 -- `begin` meets its contract: the names of an accepted book, the lines of a refused one. Assumes nothing.
 use mathlib.Core.Path.{refl, sym, ap, ◌∙◌}
 use Rattle.load.specs.BookAnswer.{numbered}
-use Rattle.report.proofs.EndLaws.{begin-accepted, begin-refused, refusal-above-0}
+use Rattle.load.proofs.LoadedLaws.{refusal-above-0}
+use Rattle.report.proofs.EndLaws.{begin-accepted, begin-refused}
 use Rattle.report.proofs.begin.Goals as goal
 
 pub returns-in-Ok : goal.returns-in-Ok

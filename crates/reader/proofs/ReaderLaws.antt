@@ -15,22 +15,22 @@ use Rattle.reader.specs.declared.Refusal.{Refusal}
 use Rattle.std.proofs.Common.{Err}
 use Rattle.reader.specs.Refusals.{Gate, let_in, within_reader, start_gate, call_gate}
 use Rattle.reader.specs.Tally.{zero_tally, tallied}
-use Rattle.reader.specs.Start.{fresh_reader, start_of}
+use Rattle.reader.specs.Start.{fresh_reader, unstarted, start_of}
 use Rattle.reader.specs.Machine.{Outcome, refusing, feeding, feed_of, closing, close_of}
 
 -- ---- start, by its gate
 
-module _ (t : Table) (w : List ℕ) (r : Reader) where
+module _ (t : Table) (w : List ℕ) where
   -- a refused start gives a reader with 0 frames
-  pub start-refused : (k : Refusal) → Err k ≡ start_gate t (length w) → r ≡ fresh_reader 0 true zero_tally → record { reader = r; answer = Err k } ≡ start_of t w
+  pub start-refused : (k : Refusal) → Err k ≡ start_gate t (length w) → unstarted k ≡ start_of t w
   unfolding start_of
-  start-refused k p f = rw (sym p, f)
+  start-refused k p = rw (sym p)
 
   -- a start that is let in gives a reader with the frames of the buffer
-  pub start-done : let_in ≡ start_gate t (length w) → r ≡ fresh_reader (frame_count (length w)) true zero_tally
+  pub start-done : (r : Reader) → let_in ≡ start_gate t (length w) → r ≡ fresh_reader (frame_count (length w)) true zero_tally
       → record { reader = r; answer = Ok None } ≡ start_of t w
   unfolding start_of
-  start-done p f = rw (sym p, f)
+  start-done r p f = rw (sym p, f)
 
 -- ---- feed and close, by their gate
 

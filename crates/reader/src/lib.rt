@@ -1,11 +1,12 @@
 // The reader: start, feed and close.
 #![tactic(auto)]
 
-ghost use Rattle.std.specs.Prelude.{◌≡◌, length, MatchResult};
+ghost use Rattle.std.specs.Prelude.{◌≡◌, true, length, Ok, MatchResult};
 ghost use Rattle.progress.specs.Progress.{judged};
 ghost use Rattle.reader.specs.Refusals.{refusal_number, within_reader, start_gate, call_gate};
-ghost use Rattle.reader.specs.Tally.{tallied};
+ghost use Rattle.reader.specs.Tally.{zero_tally, tallied};
 ghost use Rattle.reader.specs.Start.{fresh_reader, start_of};
+ghost use Rattle.reader.specs.Said.{said, count_of, started};
 ghost use Rattle.reader.specs.Machine.{feeding, feed_of, close_of};
 
 use chars::class::Classes;
@@ -75,23 +76,11 @@ impl Refusal {
 // What a call says: nothing, the verdict of a record, or why it is refused.
 pub type Answer = Result<Option<Verdict>, Refusal>;
 
-#[derive(Clone, Copy)]
-pub struct Started {
-    pub reader: Reader,
-    pub answer: Answer,
-}
-
+// What a feed that is let in gives: how many bytes it read, and the verdict of a record that ended.
 #[derive(Clone, Copy)]
 pub struct Fed {
-    pub reader: Reader,
     pub count: usize,
-    pub answer: Answer,
-}
-
-#[derive(Clone, Copy)]
-pub struct Closed {
-    pub reader: Reader,
-    pub answer: Answer,
+    pub verdict: Option<Verdict>,
 }
 
 // Whether a start is let in: the table, then 21 for a buffer of n bytes.
@@ -126,22 +115,23 @@ impl Reader {
         }
     }
 
+    // A reader that no start has let in: every feed and close with it is refused. Ruled out: one that has a frame.
+    pub fn unstarted() -> Reader
+        ensures { result ≡ fresh_reader 0 true zero_tally }
+    {
+        Reader::fresh(0, true, Tally::default())
+    }
+
     // A fresh reader for a table and a buffer, which stay as they are. Ruled out: a start that counts the frames of a longer buffer past 64, and
     // one that hands out frames with a refusal.
-    pub fn start<'a>(table: &'a Table, work: &'a [u8]) -> Started
-        ensures { record { reader = result.reader; answer = result.answer } ≡ start_of table.now work.now }
+    pub fn start(table: &Table, work: &[u8]) -> Result<Reader, Refusal>
+        ensures { started result ≡ start_of table.now work.now }
     {
-        let tally = Tally::default();
-        match admit_start(table, work.len()) {
-            Ok(()) => Started {
-                reader: Reader::fresh(frame::frames(work.len()), true, tally),
-                answer: Ok(None),
-            },
-            Err(refusal) => Started {
-                reader: Reader::fresh(0, true, tally),
-                answer: Err(refusal),
-            },
-        }
+        admit_start(table, work.len())?;
+        Ok(Reader {
+            frames: frame::frames(work.len()),
+            ..Reader::unstarted()
+        })
     }
 
     // The numbers of the reader are within their bounds.
@@ -193,10 +183,10 @@ impl Reader {
         verdict
     }
 
-    // Reads a piece up to and with the first RS that ends a record: how many bytes are read, and what the call says.
-    fn read_piece(&mut self, rules: Rules, work: &mut [u8], piece: &[u8]) -> (usize, Answer)
+    // Reads a piece up to and with the first RS that ends a record: how many bytes are read, and the verdict of that record.
+    fn read_piece(&mut self, rules: Rules, work: &mut [u8], piece: &[u8]) -> Fed
         requires { rules.frames ≡ self.old.frames }
-        ensures { record { reader = self.new; count = result.0; answer = result.1; work = work.new } ≡ feeding self.old rules.entry.table.now work.old piece.now }
+        ensures { record { reader = self.new; count = result.count; answer = Ok result.verdict; work = work.new } ≡ feeding self.old rules.entry.table.now work.old piece.now }
     {
         let classes = Classes::new();
         let mut record = Record {
@@ -210,60 +200,40 @@ impl Reader {
                 ControlFlow::Continue(at) => i = at,
                 ControlFlow::Break(at) => {
                     *self = self.with_record(record, key);
-                    return (at, Ok(Some(self.end_record(false))));
+                    let verdict = self.end_record(false);
+                    return Fed {
+                        count: at,
+                        verdict: Some(verdict),
+                    };
                 }
             }
         }
         *self = self.with_record(record, key);
-        (i, Ok(None))
-    }
-}
-
-// Reads a piece up to and with the first RS that ends a record. Ruled out: a feed that keeps levels of a record over its RS, and one that reads
-// on past a verdict.
-pub fn feed<'a>(r: Reader, table: &'a Table, work: &mut [u8], piece: &'a [u8]) -> Fed
-    ensures { record { reader = result.reader; count = result.count; answer = result.answer; work = work.new } ≡ feed_of r table.now work.old piece.now }
-{
-    let mut reader = r;
-    match reader.admit(table, work.len()) {
-        Ok(rules) => {
-            let (count, answer) = reader.read_piece(rules, work, piece);
-            Fed {
-                reader,
-                count,
-                answer,
-            }
+        Fed {
+            count: i,
+            verdict: None,
         }
-        Err(refusal) => Fed {
-            reader,
-            count: 0,
-            answer: Err(refusal),
-        },
     }
-}
 
-// Ends the last record like an RS, and is in the head again. Ruled out: a close that forgets the tally, and one that gives a verdict where
-// nothing was read.
-pub fn close<'a>(r: Reader, table: &'a Table, work: &'a [u8]) -> Closed
-    ensures { record { reader = result.reader; count = 0; answer = result.answer; work = work.now } ≡ close_of r table.now work.now }
-{
-    let mut reader = r;
-    if let Err(refusal) = reader.admit(table, work.len()) {
-        return Closed {
-            reader,
-            answer: Err(refusal),
-        };
+    // Reads a piece up to and with the first RS that ends a record. A refused feed changes nothing. Ruled out: a feed that keeps levels of a record
+    // over its RS, and one that reads on past a verdict.
+    pub fn feed(&mut self, table: &Table, work: &mut [u8], piece: &[u8]) -> Result<Fed, Refusal>
+        ensures { record { reader = self.new; count = count_of result; answer = said result; work = work.new } ≡ feed_of self.old table.now work.old piece.now }
+    {
+        let rules = self.admit(table, work.len())?;
+        Ok(self.read_piece(rules, work, piece))
     }
-    if 0 < reader.progress.pos {
-        let verdict = reader.end_record(true);
-        return Closed {
-            reader,
-            answer: Ok(Some(verdict)),
-        };
-    }
-    let waiting = Reader::fresh(reader.frames, true, reader.tally);
-    Closed {
-        reader: waiting,
-        answer: Ok(None),
+
+    // Ends the last record like an RS, and is in the head again. A refused close changes nothing. Ruled out: a close that forgets the tally, and one
+    // that gives a verdict where nothing was read.
+    pub fn close(&mut self, table: &Table, work: &[u8]) -> Result<Option<Verdict>, Refusal>
+        ensures { record { reader = self.new; count = 0; answer = result; work = work.now } ≡ close_of self.old table.now work.now }
+    {
+        self.admit(table, work.len())?;
+        if 0 < self.progress.pos {
+            return Ok(Some(self.end_record(true)));
+        }
+        *self = Reader::fresh(self.frames, true, self.tally);
+        Ok(None)
     }
 }

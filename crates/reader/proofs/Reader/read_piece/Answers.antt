@@ -11,7 +11,7 @@ loop-i-preserved c = record { reader = c.loop-i.invariant.reader; left = left-on
 
 pub returns-in-Break : goal.returns-in-Break
 returns-in-Break c =
-    let e = c.end_record.ensures in
+    let e = c.end_record-verdict.ensures in
     let k = c.with_record.ensures in
     let h = c.loop-i.invariant in
     piece-ended _ _ _ _ _ _ _ _ c.requires _ _ _ h.left c.in-Break.ensures (rw (k, h.reader) at e.fresh) (rw k at e.verdict)

@@ -13,6 +13,7 @@ use Rattle.text.specs.Text.{line_of}
 use Rattle.text.specs.Put.{Put, write, Written}
 use Rattle.text.proofs.PutLaws.{Rest, rest-start, rest_put, rest-done, put-of-write, length-of-put}
 use Rattle.reader.specs.declared.Reader.{Reader}
+use Rattle.reader.specs.declared.Refusal.{Refusal}
 use Rattle.reader.specs.Answer.{Answer}
 use Rattle.reader.specs.Machine.{Outcome, feed_of}
 use Rattle.demand.proofs.FeedLaws.{count-of-feed}
@@ -47,6 +48,13 @@ module _ (t : Table) (s : List ℕ) (r : Reader) (w : List ℕ) (read : ℕ) whe
       let e : after ≡ (written a o used).out = ap (λ (x : Written). x.out) wrote in
       let d : place ≡ (written a o used).at = ap (λ (x : Written). x.at) wrote in
       rw (sym fed, e, d)
+
+  -- a refused feed has no line, and reads nothing
+  pub next-refused : (o : List ℕ) (used : ℕ) (next : Reader) (n : Refusal) (work : List ℕ)
+      → record { reader = next; count = 0; answer = Err n; work = work } ≡ feed_of r t w (drop read s)
+      → record { reader = next; work = work; read = read; out = o; used = used; answer = Err n } ≡ report_next t s r w read o used
+  unfolding report_next
+  next-refused o used next n work fed = let e : read + 0 ≡ read = omega arith in rw (sym fed, e)
 
 -- a feed without a verdict is the last, and has no line
 last-stops : (a : Answer) → is_last a ≡ true → (stop : Reported) (go : Verdict → Reported) → by_answer a stop go ≡ stop

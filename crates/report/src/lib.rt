@@ -2,17 +2,17 @@
 #![tactic(auto)]
 
 ghost use Rattle.std.specs.Prelude.{◌≡◌, ◌+◌, ◌≤◌, ◌<◌, length, drop};
+ghost use Rattle.reader.specs.Said.{said, count_of};
 ghost use Rattle.reader.specs.Machine.{feed_of};
 ghost use Rattle.report.specs.Report.{is_last, written, report_next, report_of, finish_of, Begins};
 
-use reader::{Answer, Reader};
+use reader::{Answer, Fed, Reader, Refusal};
 use table::flat::Table;
 use text::{RefusedBook, StreamNames};
 
-// What a report gives: the reader, the bytes read of the piece, the bytes written to the output, and what the last feed answered.
+// What a report gives beside the reader: the bytes read of the piece, the bytes written to the output, and what the last feed answered.
 #[derive(Clone, Copy)]
 pub struct Reported {
-    pub reader: Reader,
     pub read: usize,
     pub used: usize,
     pub answer: Answer,
@@ -37,61 +37,68 @@ fn write_answer(out: &mut [u8], at: usize, a: Answer) -> usize
 }
 
 // Feeds what is unread of a piece.
-fn feed_rest<'a>(
-    r: Reader,
-    table: &'a Table,
+fn feed_rest(
+    reader: &mut Reader,
+    table: &Table,
     work: &mut [u8],
-    piece: &'a [u8],
+    piece: &[u8],
     read: usize,
-) -> reader::Fed
+) -> Result<Fed, Refusal>
     requires { read ≤ length piece.now }
-    ensures work_after { record { reader = result.reader; count = result.count; answer = result.answer; work = work.new } ≡ feed_of r table.now work.old (drop read piece.now) }
-    ensures count_in_bounds { (read + result.count ≤ length piece.now) × (read + result.count < 18446744073709551616) }
+    ensures work_after { record { reader = reader.new; count = count_of result; answer = said result; work = work.new } ≡ feed_of reader.old table.now work.old (drop read piece.now) }
+    ensures count_in_bounds { (read + count_of result ≤ length piece.now) × (read + count_of result < 18446744073709551616) }
 {
-    reader::feed(r, table, work, &piece[read..])
+    reader.feed(table, work, &piece[read..])
 }
 
 // Feeds what is unread of a piece, and writes the line of the verdict if there is one.
-fn report_next<'a>(
+fn report_next(
     x: Reported,
-    table: &'a Table,
+    reader: &mut Reader,
+    table: &Table,
     work: &mut [u8],
-    piece: &'a [u8],
+    piece: &[u8],
     out: &mut [u8],
 ) -> Reported
     requires { x.read ≤ length piece.now }
-    ensures next { record { reader = result.reader; work = work.new; read = result.read; out = out.new; used = result.used; answer = result.answer } ≡ report_next table.now piece.now x.reader work.old x.read out.old x.used }
+    ensures next { record { reader = reader.new; work = work.new; read = result.read; out = out.new; used = result.used; answer = result.answer } ≡ report_next table.now piece.now reader.old work.old x.read out.old x.used }
     ensures short { result.used ≤ x.used + 64 }
 {
-    let f = feed_rest(x.reader, table, work, piece, x.read);
-    Reported {
-        reader: f.reader,
-        read: x.read + f.count,
-        used: write_answer(out, x.used, f.answer),
-        answer: f.answer,
+    match feed_rest(reader, table, work, piece, x.read) {
+        Ok(fed) => {
+            let answer = Ok(fed.verdict);
+            Reported {
+                read: x.read + fed.count,
+                used: write_answer(out, x.used, answer),
+                answer,
+            }
+        }
+        Err(refusal) => Reported {
+            answer: Err(refusal),
+            ..x
+        },
     }
 }
 
 // Feeds what is unread of a piece until a feed gives no verdict, and writes a line for each verdict, as many as the output has room for. Ruled out:
 // a report that drops the line of a verdict where the output ends, and one that feeds the same bytes again.
-pub fn report<'a>(
-    r: Reader,
-    table: &'a Table,
+pub fn report(
+    reader: &mut Reader,
+    table: &Table,
     work: &mut [u8],
-    piece: &'a [u8],
+    piece: &[u8],
     out: &mut [u8],
 ) -> Reported
-    ensures { record { reader = result.reader; work = work.new; read = result.read; out = out.new; used = result.used; answer = result.answer } ≡ report_of r table.now work.old piece.now out.old }
+    ensures { record { reader = reader.new; work = work.new; read = result.read; out = out.new; used = result.used; answer = result.answer } ≡ report_of reader.old table.now work.old piece.now out.old }
 {
     let lines = out.len() / 64;
     let mut x = Reported {
-        reader: r,
         read: 0,
         used: 0,
         answer: Ok(None),
     };
     for _ in 0..lines {
-        x = report_next(x, table, work, piece, out);
+        x = report_next(x, reader, table, work, piece, out);
         if is_last(x.answer) {
             return x;
         }
@@ -104,23 +111,21 @@ pub fn report<'a>(
 
 // Closes, and writes the line of the last verdict. Ruled out: a finish that closes where its line has no room, and one that forgets the verdict of a
 // record that no RS ended.
-pub fn finish<'a>(r: Reader, table: &'a Table, work: &'a [u8], out: &mut [u8]) -> Reported
-    ensures { record { reader = result.reader; work = work.now; read = result.read; out = out.new; used = result.used; answer = result.answer } ≡ finish_of r table.now work.now out.old }
+pub fn finish(reader: &mut Reader, table: &Table, work: &[u8], out: &mut [u8]) -> Reported
+    ensures { record { reader = reader.new; work = work.now; read = result.read; out = out.new; used = result.used; answer = result.answer } ≡ finish_of reader.old table.now work.now out.old }
 {
     if out.len() < 64 {
         return Reported {
-            reader: r,
             read: 0,
             used: 0,
             answer: Ok(None),
         };
     }
-    let x = reader::close(r, table, work);
+    let answer = reader.close(table, work);
     Reported {
-        reader: x.reader,
         read: 0,
-        used: write_answer(out, 0, x.answer),
-        answer: x.answer,
+        used: write_answer(out, 0, answer),
+        answer,
     }
 }
 

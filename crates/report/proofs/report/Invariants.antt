@@ -8,4 +8,4 @@ use Rattle.report.proofs.report.Given as goal
 abbrev pub invariant-loop : goal.invariant-loop
 invariant-loop l =
     (l.lines ≡ length l.initial.out / 64) × (length l.work ≡ length l.initial.work) × (length l.out ≡ length l.initial.out)
-    × Going l.table l.initial.work l.piece l.initial.out l.initial.x.reader l.work l.out l.x.reader l.x.read l.x.used l.counter
+    × Going l.table l.initial.work l.piece l.initial.out l.initial.reader l.work l.out l.reader l.x.read l.x.used l.counter

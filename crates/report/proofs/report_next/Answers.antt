@@ -1,7 +1,9 @@
 -- `report_next` meets its contract: a feed, then its line. Assumes nothing.
-use Rattle.report.proofs.ReportLaws.{next_of}
-use borrow.Author.Rules.{rules}
+use Rattle.report.proofs.ReportLaws.{next_of, next-refused}
 use Rattle.report.proofs.report_next.Goals as goal
 
-pub returns-clause-next : goal.returns-clause-next
-returns-clause-next c = search (rules, next_of)
+pub returns-in-Ok-clause-next : goal.returns-in-Ok-clause-next
+returns-in-Ok-clause-next c = next_of _ _ _ _ _ _ _ _ _ _ _ (rw c.in-Ok.is at c.feed_rest.ensures.work_after) _ _ c.write_answer.ensures.written
+
+pub returns-in-Err-clause-next : goal.returns-in-Err-clause-next
+returns-in-Err-clause-next c = next-refused _ _ _ _ _ _ _ _ _ _ (rw c.in-Err.is at c.feed_rest.ensures.work_after)

@@ -1,5 +1,5 @@
 -- A stream feed by feed: what is unread gives what the whole gives. Assumes nothing.
-use Rattle.std.specs.Prelude.{Ok, Err, Some, None}
+use Rattle.std.specs.Prelude.{Option, Ok, Err, Some, None}
 use mathlib.Core.Bool.{Bool, true, false}
 use mathlib.Core.List.{List, ◌++◌}
 use mathlib.Core.Path.{◌≡◌, refl, sym, ap, subst, ◌∙◌}
@@ -11,6 +11,7 @@ use lib.Seq.{drop-drop}
 use borrow.Author.Tests.{eq-eqb, ne_eqb}
 use Rattle.book.proofs.TruthLaws.{true-not-false}
 use Rattle.table.specs.Table.{Table}
+use Rattle.verdict.specs.declared.Verdict.{Verdict}
 use Rattle.reader.specs.declared.Reader.{Reader}
 use Rattle.reader.specs.Answer.{Answer}
 use Rattle.reader.specs.declared.Refusal.{Refusal}
@@ -36,6 +37,10 @@ entry-weight (Err n) read e = true-not-false true refl e
 
 served : (a : Answer) → is_refused a ≡ false → (n : Refusal) → a ≡ Err n → ⊥
 served a e n d = true-not-false true refl (rw d at e)
+
+let_in : (v : Option Verdict) → is_refused (Ok v) ≡ false
+let_in None = refl
+let_in (Some v) = refl
 
 -- ---- one feed
 
@@ -82,18 +87,21 @@ module _ (t : Table) (size : ℕ) (s : List ℕ) (r : Reader) (w : List ℕ) (re
       → length s < 18446744073709551616 → read + count < 18446744073709551616
   fed-fits h end cut next count a work lent l = omega (arith, fed-count h end cut next count a work lent)
 
-  module _ (o : List ℕ) (made : ℕ) (next : Reader) (count : ℕ) (a : Answer) (work : List ℕ)
-      (fed : record { reader = next; count = count; answer = a; work = work } ≡ feed_next t size s r w read) (b : Bool) (said : b ≡ is_refused a) where
-    pub turn-refused : b ≡ true
-        → record { reader = next; work = work; read = read + count; out = o; made = made; refused = true } ≡ turn_of t size s r w read o made
+  module _ (o : List ℕ) (made : ℕ) (next : Reader) (work : List ℕ) where
+    pub turn-refused : (n : Refusal) → record { reader = next; count = 0; answer = Err n; work = work } ≡ feed_next t size s r w read
+        → record { reader = next; work = work; read = read; out = o; made = made; refused = true } ≡ turn_of t size s r w read o made
     unfolding turn_of with_entries
-    turn-refused e = let none : made + 0 ≡ made = omega arith in rw (sym fed, sym said, e, none)
+    turn-refused n fed =
+        let same : read + 0 ≡ read = omega arith in
+        let none : made + 0 ≡ made = omega arith in
+        rw (sym fed, same, none)
 
-    pub turn-put : b ≡ false → (after : List ℕ) (now : ℕ) → after ≡ with_entries o made (answer_entries a (read + count))
-        → now ≡ made + length (answer_entries a (read + count))
+    pub turn-put : (count : ℕ) (v : Option Verdict) → record { reader = next; count = count; answer = Ok v; work = work } ≡ feed_next t size s r w read
+        → (after : List ℕ) (now : ℕ) → after ≡ with_entries o made (answer_entries (Ok v) (read + count))
+        → now ≡ made + length (answer_entries (Ok v) (read + count))
         → record { reader = next; work = work; read = read + count; out = after; made = now; refused = false } ≡ turn_of t size s r w read o made
     unfolding turn_of
-    turn-put e after now h d = rw (sym fed, sym said, e, h, d)
+    turn-put count v fed after now h d = rw (sym fed, let_in v, h, d)
 
 -- ---- the loop: read bytes of the stream s are read, and made entries are made
 

@@ -6,4 +6,4 @@ pub returns : goal.returns
 returns c =
     let put = c.put_answer in
     let fed = c.feed_all-f in
-    streamed-of _ _ _ _ _ _ _ _ _ _ _ fed.ensures.feeds _ _ _ _ c.close-c.ensures _ _ put.ensures.0 put.ensures.1
+    streamed-of _ _ _ _ _ _ _ _ _ _ _ fed.ensures.feeds _ _ _ _ c.close-answer.ensures _ _ put.ensures.0 put.ensures.1

@@ -1,5 +1,5 @@
 -- The walk from its first byte to the verdict, in the form of the code's needs. Assumes nothing.
-use Rattle.std.specs.Prelude.{Option, Ok, None}
+use Rattle.std.specs.Prelude.{Option, None, Result, Ok, Err}
 use mathlib.Core.Bool.{Bool, true, false, cond}
 use mathlib.Core.List.{List, [], ◌∷◌}
 use mathlib.Core.Path.{◌≡◌, refl, sym, ap, subst, ◌∙◌}
@@ -23,6 +23,8 @@ use Rattle.follows.specs.Follows.{FaultIs, Tracks, off_track, NoRS, nonempty, re
 use Rattle.follows.proofs.PartLaws.{tracks-part, judged-part, pos-part, length_part}
 use Rattle.demand.proofs.BookLaws.{carries-of-book, plain-of-book}
 use Rattle.reader.specs.declared.Reader.{Reader}
+use Rattle.reader.specs.declared.Refusal.{Refusal}
+use Rattle.reader.specs.Said.{started}
 use Rattle.reader.specs.Answer.{Answer}
 use Rattle.reader.specs.Refusals.{let_in, fit_reader, within_reader, call_gate}
 use Rattle.reader.specs.Tally.{zero_tally}
@@ -75,10 +77,18 @@ all-on {t} {s} {r} {w} {l} x h =
 
 -- ---- a reader behind an RS
 
-pub started-fresh : (t : Table) (w : List ℕ) {r : Reader} {a : Answer} → t ≡ book_table book_b → length w ≡ 288 → record { reader = r; answer = a } ≡ start_of t w
-    → r ≡ fresh_reader 3 true zero_tally
+-- a start with the table of book B and three frames is let in
+pub started-fresh : (t : Table) (w : List ℕ) (x : Result Reader Refusal) → t ≡ book_table book_b → length w ≡ 288 → started x ≡ start_of t w
+    → x ≡ Ok (fresh_reader 3 true zero_tally)
 unfolding start_of
-started-fresh t w e h x = ap (λ (z : Start). z.reader) (rw (start-open-of-room t (length w) (limits-b e) (omega arith), h) at x)
+started-fresh t w x b h e = go x (rw (start-open-of-room t (length w) (limits-b b) (omega arith), h) at e)
+  where
+    go : (x : Result Reader Refusal) → started x ≡ record { reader = fresh_reader 3 true zero_tally; answer = Ok None } → x ≡ Ok (fresh_reader 3 true zero_tally)
+    go (Ok r) e = ap (λ (z : Start). Ok z.reader) e
+    go (Err n) e = let q : Err n ≡ Ok None = ap (λ (z : Start). z.answer) e in cc
+
+pub fresh-of-ok : {r o : Reader} → ◌≡◌ {A = Result Reader Refusal} (Ok r) (Ok o) → r ≡ o
+fresh-of-ok e = cc
 
 pub behind-of-feed : {t : Table} {w v : List ℕ} {r o : Reader} {b : Answer} {c : ℕ} → t ≡ book_table book_b → length w ≡ 288 → r ≡ fresh_reader 3 true zero_tally
     → record { reader = o; count = c; answer = b; work = v } ≡ feed_of r t w (0x1E ∷ []) → (o ≡ fresh_reader 3 false zero_tally) × (v ≡ w)

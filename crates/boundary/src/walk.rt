@@ -117,13 +117,13 @@ impl Walk {
         ensures { WentOn source.now.table.now source.now.text.now self.at result work.new corners.new }
     {
         let text = source.text;
-        let f = reader::feed(self.reader, source.table, work, &text[self.at..end]);
-        let next = f.reader;
-        if takes(next.progress) {
-            return self.take_number(next, end, corners, &text[from..end]);
+        let mut reader = self.reader;
+        let _ = reader.feed(source.table, work, &text[self.at..end]);
+        if takes(reader.progress) {
+            return self.take_number(reader, end, corners, &text[from..end]);
         }
         Walk {
-            reader: next,
+            reader,
             at: end,
             ..self
         }
@@ -167,8 +167,7 @@ fn started(source: &Source, work: &[u8]) -> Reader
     requires { length work.now ≡ 288 }
     ensures { result ≡ fresh_reader 3 true zero_tally }
 {
-    let s = Reader::start(source.table, work);
-    s.reader
+    Reader::start(source.table, work).unwrap()
 }
 
 // A reader behind an RS.
@@ -176,9 +175,9 @@ fn behind_rs(source: &Source, work: &mut [u8]) -> Reader
     requires { length work.old ≡ 288 }
     ensures { (result ≡ fresh_reader 3 false zero_tally) × (work.new ≡ work.old) }
 {
-    let r = started(source, work);
-    let f = reader::feed(r, source.table, work, &RS);
-    f.reader
+    let mut reader = started(source, work);
+    let _ = reader.feed(source.table, work, &RS);
+    reader
 }
 
 // The call gives a record the verdict valid.
@@ -199,8 +198,9 @@ pub struct Numbers {
 fn close_text(w: Walk, source: &Source, work: &[u8]) -> Option<Numbers>
     ensures { result ≡ then_some (says_valid (close_of w.reader source.now.table.now work.now).answer) (record { taken = w.taken; unfit = w.unfit }) }
 {
-    let c = reader::close(w.reader, source.table, work);
-    says_valid(c.answer).then_some(Numbers {
+    let mut reader = w.reader;
+    let answer = reader.close(source.table, work);
+    says_valid(answer).then_some(Numbers {
         taken: w.taken,
         unfit: w.unfit,
     })

@@ -4,4 +4,4 @@ use Rattle.boundary.proofs.walk.behind_rs.Goals as goal
 
 pub returns : goal.returns
 returns c =
-    behind-of-feed c.args.source.now.book c.requires c.started-r.ensures c.feed-f.ensures
+    behind-of-feed c.args.source.now.book c.requires c.started-reader.ensures c.feed.ensures

@@ -62,9 +62,7 @@ impl Stream<'_> {
     fn judge_next(&mut self, rt: &impl Print, rest: &[u8]) -> usize
         ensures { result ≤ length rest.now }
     {
-        let reader = self.reader;
-        let x = report::report(reader, self.table, self.work, rest, self.out);
-        self.reader = x.reader;
+        let x = report::report(&mut self.reader, self.table, self.work, rest, self.out);
         if print(rt, self.out, x.used) && x.read <= rest.len() {
             x.read
         } else {
@@ -106,12 +104,12 @@ impl Stream<'_> {
     // The line of the last record.
     fn finish(self, rt: &impl Print) {
         let Stream {
-            reader,
+            mut reader,
             table,
             work,
             out,
         } = self;
-        let x = report::finish(reader, table, work, out);
+        let x = report::finish(&mut reader, table, work, out);
         print(rt, out, x.used);
     }
 }
@@ -128,7 +126,7 @@ fn main(rt: HostRuntime) {
         let mut space = [0u8; BLOCK];
         let started = Reader::start(&table, &work);
         let mut stream = Stream {
-            reader: started.reader,
+            reader: started.unwrap_or(Reader::unstarted()),
             table: &table,
             work: &mut work,
             out: &mut out,

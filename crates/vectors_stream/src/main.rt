@@ -53,20 +53,18 @@ fn call_reader(
 ) {
     match op {
         b's' => {
-            let x = Reader::start(table, work);
-            *reader = x.reader;
-            say_answer(rt, 0, x.answer);
+            let started = Reader::start(table, work);
+            *reader = started.unwrap_or(Reader::unstarted());
+            say_answer(rt, 0, started.map(|_| None));
         }
-        b'f' => {
-            let x = reader::feed(*reader, table, work, piece);
-            *reader = x.reader;
-            say_answer(rt, x.count, x.answer);
-        }
+        b'f' => match reader.feed(table, work, piece) {
+            Ok(fed) => say_answer(rt, fed.count, Ok(fed.verdict)),
+            Err(refusal) => say_answer(rt, 0, Err(refusal)),
+        },
         _ => {
-            let x = reader::close(*reader, table, work);
-            *reader = x.reader;
-            say_answer(rt, 0, x.answer);
-            let y = x.reader.tally;
+            let answer = reader.close(table, work);
+            say_answer(rt, 0, answer);
+            let y = reader.tally;
             let _ = println!(rt; "tally {} {} {}", y.valid, y.invalid, y.refused);
         }
     }
@@ -130,7 +128,7 @@ fn main(rt: HostRuntime) {
             let mut table = Table::empty();
             let started = Reader::start(&table, &buffer);
             let mut calls = Calls {
-                reader: started.reader,
+                reader: started.unwrap_or(Reader::unstarted()),
                 table: &mut table,
                 buffer: &mut buffer,
                 size: 0,

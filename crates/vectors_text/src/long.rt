@@ -30,14 +30,15 @@ impl Stream<'_> {
     fn feed_all(&mut self, piece: &[u8]) {
         let mut rest = piece;
         while rest.len() > 0 {
-            let reader = self.reader;
-            let x = reader::feed(reader, self.table, self.work, rest);
-            self.reader = x.reader;
-            self.put(x.answer);
-            if x.count == 0 || rest.len() < x.count {
+            let mut reader = self.reader;
+            let fed = reader.feed(self.table, self.work, rest);
+            self.reader = reader;
+            self.put(fed.map(|f| f.verdict));
+            let count = fed.map_or(0, |f| f.count);
+            if count == 0 || rest.len() < count {
                 return;
             }
-            rest = &rest[x.count..];
+            rest = &rest[count..];
         }
     }
 
@@ -50,9 +51,8 @@ impl Stream<'_> {
     }
 
     fn close(&mut self) {
-        let reader = self.reader;
-        let x = reader::close(reader, self.table, self.work);
-        self.put(x.answer);
+        let answer = self.reader.close(self.table, self.work);
+        self.put(answer);
     }
 }
 
@@ -88,12 +88,12 @@ impl<'a> Text<'a> {
         let mut work = [0u8; WORK];
         let started = Reader::start(table, &work);
         let mut stream = Stream {
-            reader: started.reader,
+            reader: started.unwrap_or(Reader::unstarted()),
             table,
             work: &mut work,
             entries: Entries::none(),
         };
-        stream.put(started.answer);
+        stream.put(started.map(|_| None));
         stream.feed_all(self.first);
         stream.feed_many(&self.block(), n);
         stream.feed_all(self.last);

@@ -3,11 +3,13 @@ ghost use Rattle.std.specs.Prelude.{true, cond, ◌≡◌, ℕ, ◌+◌, ◌<◌
 ghost use Rattle.laws.specs.Bits.{bit_at, set_bit};
 
 // Bit i is set.
-#[tactic(auto, unfolding(laws::specs::Bits::bit_at))]
 pub fn get_bit(s: &[u8], i: usize) -> bool
     ensures { result ≡ bit_at s.now i }
 {
-    (s.get(i / 8).copied().unwrap_or(0) >> (i % 8)) % 2 == 1
+    match s.get(i / 8) {
+        Some(byte) => (*byte >> (i % 8)) % 2 == 1,
+        None => false,
+    }
 }
 
 // Sets bit i where `on` is true.

@@ -248,6 +248,7 @@ pub fn high_after(s: StringMode, bits: u32, high: u32, b: u8) -> u32
 }
 
 // The character that byte b finishes; 0 where it finishes none.
+// Stays: 0, since the number is read only where a byte finishes a character of a key: with an Option each of its two readers has an arm that no byte reaches.
 pub fn char_of(s: StringMode, bits: u32, high: u32, b: u8) -> u32
     ensures { result ≡ char_of s bits high b }
 {

@@ -3,7 +3,7 @@ use mathlib.Core.Bool.{Bool, ◌&&◌}
 use mathlib.Core.List.{List}
 use mathlib.Core.Logic.{◌↔◌}
 use mathlib.Core.Path.{◌≡◌}
-use Prim.Native.Nat.{ℕ, ◌+◌, ◌*◌, ◌<◌}
+use Prim.Native.Nat.{ℕ, ◌<◌}
 use native.Mathlib.Omega.{arith}
 use lib.Dec.{T, eqb, ltb, eqb→eq, ltb→lt}
 use lib.ListN.{get_or}
@@ -31,10 +31,6 @@ below-of-has_form forms form r t = ltb→lt r 32 (T-and-left (ltb r 32) (eqb (ge
 pub state_number-lt : (rules states : List ℕ) (e : ℕ) → get_or rules e 0 < 32 → get_or states e 0 < 16 → state_number rules states e < 512
 unfolding state_number
 state_number-lt rules states e r s = omega arith
-
--- rule and state can be read off the number
-pub rule-state-of-number : (r q s p : ℕ) → q < 16 → p < 16 → 16 * r + q ≡ 16 * s + p → (r ≡ s) × (q ≡ p)
-rule-state-of-number r q s p a b e = (omega arith, omega arith)
 
 -- ---- tests of an edge
 

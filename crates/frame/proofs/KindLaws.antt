@@ -2,18 +2,11 @@
 use mathlib.Core.Bool.{Bool, true, false, cond}
 use mathlib.Core.List.{List}
 use mathlib.Core.Path.{◌≡◌, refl}
-use Prim.Native.Nat.{ℕ, ◌+◌, ◌<◌}
+use Prim.Native.Nat.{ℕ, ◌<◌}
 use lib.Dec.{lit<}
-use denote.Enum.Declared.{tag_of}
 use Rattle.frame.specs.declared.Kind.{Kind}
 use Rattle.frame.specs.declared.Kind.TheVariants.{Object, Array}
-use Rattle.frame.specs.contracts.Kind.{the_type}
 use Rattle.frame.specs.Frame.{is_object, kind_in, number_of}
-
--- the number that is declared for a kind
-pub number_of-tag : (k : Kind) → tag_of the_type k + 1 ≡ number_of k
-number_of-tag Object = refl
-number_of-tag Array = refl
 
 pub number_of-nonzero : (k : Kind) → 0 < number_of k
 number_of-nonzero Object = lit< tt

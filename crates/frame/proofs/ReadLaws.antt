@@ -1,9 +1,8 @@
 -- Tests of an edge whose numbers were read one by one: each law takes what was read and what the tests on the way told. Assumes nothing.
-use mathlib.Core.Bool.{Bool, true, false, not, cond}
+use mathlib.Core.Bool.{Bool, true, false, not}
 use mathlib.Core.List.{List}
 use mathlib.Core.Path.{◌≡◌, sym, ap, ◌∙◌}
-use Prim.Native.Nat.{ℕ, ◌+◌, ◌*◌, ◌/◌, ◌%◌, ◌^◌, ◌<◌, ◌≤◌}
-use native.Mathlib.Omega.{arith}
+use Prim.Native.Nat.{ℕ, ◌+◌, ◌*◌, ◌<◌}
 use lib.Bits.{bit_and}
 use lib.Dec.{eqb}
 use lib.ListN.{get_or}
@@ -11,8 +10,7 @@ use borrow.Author.Tests.{eq-eqb, ne_eqb, lt-ltb}
 use Rattle.laws.specs.Bits.{bit_at}
 use Rattle.frame.specs.Edges.{has_form, state_number, fitting, stepping, walking}
 use Rattle.frame.specs.Frame.{held_in}
-use Rattle.frame.specs.Ops.{has_end, accepting}
-use Rattle.frame.proofs.EdgeLaws.{has_form-below}
+use Rattle.frame.specs.Ops.{has_end}
 use Rattle.frame.proofs.RuleLaws.{has_end-of-bytes}
 
 -- the form of a rule below 32

@@ -1,5 +1,5 @@
 // Opening: REQUIREMENT.md, section 5.
-ghost use Rattle.std.specs.Prelude.{true, List, ◌≡◌, ℕ, ◌+◌, ◌*◌, ◌<◌, ◌≤◌, get_or, length};
+ghost use Rattle.std.specs.Prelude.{List, ◌≡◌, ℕ, ◌+◌, ◌*◌, ◌≤◌, length};
 ghost use Rattle.laws.specs.Bits.{set_all};
 ghost use Rattle.frame.specs.Edges.{has_form};
 ghost use Rattle.frame.specs.Frame.{number_of};
@@ -7,14 +7,6 @@ ghost use Rattle.frame.specs.Ops.{opened};
 
 use crate::{FRAME, Frame, Kind, edge};
 use table::flat::Table;
-
-// Eight rules from r on have no lines.
-fn no_lines(table: &Table, r: usize) -> bool
-    requires { r + 8 ≤ 32 }
-    ensures { result ≡ true → (k : ℕ) → k < 8 → get_or table.now.forms (r + k) 0 ≡ 0 }
-{
-    table.no_forms(r)
-}
 
 // Adds state 0 of those of eight rules that a kind's values may fit. State 0 of rule r is bit 0 of byte 2 r.
 fn add_eight(states: &mut [u8], table: &Table, kind: Kind, from: usize)
@@ -33,7 +25,7 @@ pub fn add_starts(states: &mut [u8], table: &Table, kind: Kind)
     ensures { states.new ≡ set_all (has_form table.now.forms (number_of kind)) (λ r. 16 * r) 32 states.old }
 {
     for i in 0..4 {
-        if !no_lines(table, 8 * i) {
+        if !table.no_forms(8 * i) {
             add_eight(states, table, kind, 8 * i);
         }
     }

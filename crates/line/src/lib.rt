@@ -26,6 +26,7 @@ pub enum Form {
 }
 
 // What an edge says. Without a key, the key is empty.
+// Stays: an empty key for none, as in an entry of the book: with an Option each contract from `key_named` to `store::take_entry` says besides that a key has a byte.
 #[derive(Clone, Copy)]
 pub struct EdgeLine<'a> {
     pub key: &'a [u8],

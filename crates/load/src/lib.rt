@@ -54,7 +54,8 @@ impl Refusal {
         }
     }
 
-    // The line of a refusal; 0 where it has none, as in C.
+    // The line of a refusal; 0 where it has none.
+    // Stays: 0, since the C interface has no other line for none.
     pub fn line(self) -> usize
         ensures { result ≡ (refused_as self).line }
     {
@@ -72,7 +73,8 @@ impl Refusal {
     }
 }
 
-// The number of an answer, as in C: 0 for a book that is accepted.
+// The number of an answer: 0 for a book that is accepted.
+// Stays: a number, since the C interface gives one.
 pub fn number_of(a: Result<(), Refusal>) -> u8
     ensures { result ≡ (numbered a).number }
 {
@@ -82,7 +84,8 @@ pub fn number_of(a: Result<(), Refusal>) -> u8
     }
 }
 
-// The line of an answer, as in C: 0 where it has none.
+// The line of an answer: 0 where it has none.
+// Stays: 0, since the C interface has no other line for none.
 pub fn line_of(a: Result<(), Refusal>) -> usize
     ensures { result ≡ (numbered a).line }
 {

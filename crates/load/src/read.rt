@@ -55,17 +55,15 @@ fn take_lines(table: &mut Table, lines: &[u8]) -> Result<(), Refusal>
     *table = Table::empty();
     let mut rest = lines;
     let mut n: usize = 2;
-    while !rest.is_empty() {
-        match scan::cut(rest, b'\n') {
-            None => return refusal(table, Refusal::Malformed(n)),
-            Some((l, behind)) => {
-                if let Err(fault) = take_line(table, n as u16, l) {
-                    return refusal(table, line_refusal(fault, n));
-                }
-                rest = behind;
-            }
+    while let Some((l, behind)) = scan::cut(rest, b'\n') {
+        if let Err(fault) = take_line(table, n as u16, l) {
+            return refusal(table, line_refusal(fault, n));
         }
+        rest = behind;
         n += 1;
+    }
+    if !rest.is_empty() {
+        return refusal(table, Refusal::Malformed(n));
     }
     Ok(())
 }

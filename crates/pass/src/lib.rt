@@ -162,6 +162,7 @@ impl<'a> Stretch<'a> {
     }
 
     // Passes over bytes of a number. They are counted at once where they lead to one mode.
+    // Stays: a loop, since it goes on by runs of bytes and is left at three places, and so counts no index from one bound to another.
     fn number_to(
         &self,
         top: Top,
@@ -198,6 +199,7 @@ impl<'a> Stretch<'a> {
     }
 
     // Passes over bytes. A number that begins is passed over in a loop of its own.
+    // Stays: a loop, since it goes on by runs of bytes and is left at three places, and so counts no index from one bound to another.
     fn pass_to(&self, classes: &Classes, top: Top) -> Passed
         ensures { PassedTo self.now.known top self.now.piece.now self.now.from result.progress result.at result.step }
     {
@@ -253,6 +255,7 @@ impl<'a> Stretch<'a> {
 
 // Passes over the bytes of a piece that only change where the reader stands in the record. Ruled out: a pass over the RS that ends a record,
 // and one over bytes past the longest record.
+// Stays: the piece and a place in it, since the place that comes back is one in the piece: of a slice it would be counted from `from`, and added to it again.
 pub fn pass(classes: &Classes, x: Progress, top: Top, piece: &[u8], from: usize) -> Passed
     requires { from ≤ length piece.now }
     ensures { PassedTo x top piece.now from result.progress result.at result.step }
@@ -277,6 +280,7 @@ pub fn pass(classes: &Classes, x: Progress, top: Top, piece: &[u8], from: usize)
 }
 
 // Keeps the plain characters of an open key. Ruled out: a key of which a character past the 32nd is kept, and one without its first.
+// Stays: the piece and a place in it, as in `pass`.
 pub fn keep(classes: &Classes, x: Progress, key: &mut [u8], piece: &[u8], from: usize) -> KeyRead
     requires { from ≤ length piece.now }
     ensures { KeptTo x piece.now from key.old result.progress result.at key.new }

@@ -6,9 +6,9 @@ use Prim.Native.Nat.{ℕ, suc, ◌+◌, ◌*◌, ◌-◌, ◌<◌, ◌≤◌}
 use native.Mathlib.Numerals.{add-one}
 use native.Mathlib.Omega.{arith}
 use lib.Dec.{eqb, ltb}
-use lib.ListN.{length, get_or, take, drop, length-drop, drop_of_length-le}
-use lib.Seq.{take_all, drop-cons}
-use borrow.Author.Tests.{ne_eqb, lt-ltb, le-ltb, ltb-true, ltb-false, not-true, not-false}
+use lib.ListN.{length, take, drop, length-drop}
+use lib.Seq.{take_all}
+use borrow.Author.Tests.{ne_eqb, lt-ltb, le-ltb, ltb-true, ltb-false}
 use Rattle.std.proofs.Common.{Option, Some, None, position}
 use Rattle.std.specs.List.{position_or_len, list_all, fold}
 use Rattle.laws.specs.Lists.{all}
@@ -65,20 +65,6 @@ pub all_list : {A : Type 0} (f : A → Bool) (xs : List A) → list_all f xs ≡
 unfolding all
 all_list f [] = refl
 all_list f (x ∷ xs) = rw (all_list f xs)
-
--- from place i on the test comes to b: crate points
-module _ (f : ℕ → Bool) (s : List ℕ) (i : ℕ) (b : Bool) (inv : all f (drop i s) ≡ b) where
-  pub all-stop : (r : Bool) → r ≡ f (get_or s i 0) → i < length s → not r ≡ true → false ≡ b
-  unfolding all
-  all-stop r e h q = rw (drop-cons s i 0, sym e ∙ not-true r q) at inv
-
-  pub all_more : (r : Bool) → r ≡ f (get_or s i 0) → i < length s → not r ≡ false → all f (drop (i + 1) s) ≡ b
-  unfolding all
-  all_more r e h q = rw add-one (rw (drop-cons s i 0, sym e ∙ not-false r q) at inv)
-
-  pub all_end : length s ≤ i → true ≡ b
-  unfolding all
-  all_end h = rw (drop_of_length-le s h) at inv
 
 -- ---- numbers
 module _ (d : ℕ) (t : List ℕ) (a b : Bool) (qa : a ≡ between 48 57 d) (qb : b ≡ list_all (between 48 57) t) where

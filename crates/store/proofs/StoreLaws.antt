@@ -12,7 +12,6 @@ use Rattle.table.specs.Kind.{code_of}
 use Rattle.std.proofs.Common.{Option, unwrap_or}
 use Rattle.table.specs.Keys.{table_keys, key_index}
 use Rattle.table.proofs.KeyLaws.{key_index-or, number_of-le, length-table_keys}
-use Rattle.book.specs.Entry.{edge}
 use Rattle.book.specs.Holds.{key_number, form_code}
 use Rattle.line.specs.declared.Sort.{Sort}
 use Rattle.line.specs.declared.Sort.TheVariants.{End, Edge}
@@ -21,7 +20,6 @@ use Rattle.line.specs.declared.EdgeLine.{EdgeLine}
 use Rattle.line.specs.Line.{form_in, entry_as, entry_in}
 use Rattle.table.specs.declared.flat.Cell.{Cell}
 use Rattle.table.specs.Cells.{with_end, with_edge, with_key}
-use Rattle.store.specs.Proper.{ProperEdge, Proper}
 use Rattle.store.specs.Store.{Taken, has_cell, is_new, form_changes, taken, take_edge, take_end, take_entry}
 
 -- ---- keys
@@ -79,36 +77,6 @@ module _ (n : ℕ) (t : Table) (f : ℕ) (c : Cell) (k : List ℕ) (b : Bool) (p
       take_edge-old v e y = rw (sym p ∙ nb, lt-leb 512 t.edges (omega arith), test e, y)
 
 -- ---- entries
-module _ (l : Line) where
-  -- the numbers of an entry within the limits of its fields
-  proper-numbers : Proper (entry_in l) → (l.rule < 32) × (l.state < 16)
-  proper-numbers = go l.sort
-    where
-      go : (s : Sort) → Proper (entry_as s l.rule (form_in l.form) l.state) → (l.rule < 32) × (l.state < 16)
-      go End p = p
-      go (Edge e) p = (p.rule, p.state)
-
-  pub proper-rule : Proper (entry_in l) → l.rule < 32
-  proper-rule p = (proper-numbers p).0
-
-  pub proper-state : Proper (entry_in l) → l.state < 16
-  proper-state p = (proper-numbers p).1
-
-  module _ (e : EdgeLine) (is : l.sort ≡ Edge e) where
-    -- an edge
-    entry_in-edge : entry_in l ≡ edge l.rule (form_in l.form) l.state e.key.now e.kind e.next
-    entry_in-edge = rw is
-
-    proper-edge : Proper (entry_in l) → ProperEdge l.rule (form_in l.form) l.state e.key.now e.kind e.next
-    proper-edge p = rw entry_in-edge at p
-
-    pub proper-len : Proper (entry_in l) → length e.key.now ≤ 32
-    proper-len p = (proper-edge p).len
-
-    -- the code of the edge's kind is a byte
-    pub proper-code : (c : ℕ) → c ≡ code_of e.kind → Proper (entry_in l) → c < 256
-    proper-code c q p = let h = (proper-edge p).kind in omega arith
-
 module _ (n : ℕ) (t : Table) (l : Line) (f : ℕ) (qf : f ≡ form_code (form_in l.form)) (b : Bool)
     (x : ℕ) (qx : x ≡ get_or t.forms l.rule 0) (qy : b ≡ form_changes x f) where
   test-form : {y : Bool} → b ≡ y → form_changes (get_or t.forms l.rule 0) (form_code (form_in l.form)) ≡ y

@@ -25,7 +25,8 @@ fn has_cell(table: &Table, c: Cell) -> bool
 
 // ---- keys
 
-// The number that a cell has for a key: how many keys there are, for a new one; 128 for none, as the table's layout has it.
+// The number that a cell has for a key: how many keys there are, for a new one; 128 for none.
+// Stays: a number, since it is the byte that the table holds of the key, and 128 is that byte for none.
 fn key_number(table: &Table, key: &[u8]) -> usize
     requires { table.now.keys ≤ 128 }
     ensures { (result ≡ key_number (table_keys table.now) key.now) × (result ≤ 128) }
@@ -47,6 +48,7 @@ fn is_new(n: usize, k: usize, m: usize) -> bool
 // ---- entries
 
 // The code of a form in a table; 0 stands for none there.
+// Stays: a number, since it is the byte that the table holds.
 #[tactic(auto, unfolding(book::specs::Holds::form_code))]
 fn form_code(form: Form) -> u8
     ensures { result ≡ form_code (form_in form) }

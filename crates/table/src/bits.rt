@@ -6,22 +6,18 @@ ghost use Rattle.laws.specs.Bits.{bit_at, set_bit};
 pub fn get_bit(s: &[u8], i: usize) -> bool
     ensures { result ≡ bit_at s.now i }
 {
-    let q = i / 8;
-    if q < s.len() {
-        return (s[q] >> (i % 8)) % 2 == 1;
+    match s.get(i / 8) {
+        Some(byte) => (*byte >> (i % 8)) % 2 == 1,
+        None => false,
     }
-    false
 }
 
 // Sets bit i where `on` is true.
 pub fn set_if(on: bool, s: &mut [u8], i: usize)
     ensures { s.new ≡ cond on (set_bit s.old i) s.old }
 {
-    let q = i / 8;
-    if on {
-        if q < s.len() {
-            s[q] = s[q] | (1 << (i % 8));
-        }
+    if on && i / 8 < s.len() {
+        s[i / 8] |= 1 << (i % 8);
     }
 }
 

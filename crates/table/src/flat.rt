@@ -1,4 +1,4 @@
-// A table in the bytes that a caller lends: reads of its numbers. `specs/Flat.antt` says where they stand.
+// A table in its bytes: reads and writes of its numbers. `specs/Flat.antt` says where they stand.
 ghost use Rattle.std.specs.Prelude.{◌≡◌, ℕ, ◌+◌, ◌*◌, ◌<◌, ◌≤◌, true, length, get_or};
 ghost use Rattle.laws.specs.Bits.{bit_at};
 ghost use Rattle.table.specs.Bytes.{bytes_of};
@@ -71,7 +71,7 @@ impl From<[u8; SIZE]> for Table {
     }
 }
 
-// The numbers of an edge as a table stores them, but for its line. A kind is stored by its code.
+// The numbers of an edge as a table stores them, but for its line. A kind is stored by its code; the key of an edge without one is 128.
 #[derive(Clone, Copy, PartialEq)]
 pub struct Cell {
     pub rule: u8,
@@ -186,6 +186,7 @@ impl Table {
 
 impl Table {
     // The form of a rule; 0 for a rule past the forms.
+    // Stays: a number, since the table's byte is one, which may be any, and 0 there means no lines.
     pub fn form_of(&self, rule: u8) -> u8
         ensures { result ≡ get_or self.now.forms rule 0 }
     {

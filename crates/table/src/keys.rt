@@ -24,8 +24,8 @@ impl Table {
     }
 
     // The number of the key of which `len` characters are kept, where it is a key of the table.
-    fn known(&self, key: &[u8], len: u8) -> Option<u8>
-        requires { (self.now.keys ≤ 128) × (length key.now ≡ 32) }
+    fn known(&self, key: &[u8; 32], len: u8) -> Option<u8>
+        requires { self.now.keys ≤ 128 }
         ensures { result ≡ known_key self.now key.now len }
     {
         let n = len as usize;
@@ -37,8 +37,9 @@ impl Table {
     }
 
     // That number as a frame stores it: 255 stands for a key that the table doesn't have.
-    pub fn number(&self, key: &[u8], len: u8) -> u8
-        requires { (self.now.keys ≤ 128) × (length key.now ≡ 32) }
+    // Stays: a number, since a frame's byte holds it, and 255 is what it holds for such a key.
+    pub fn number(&self, key: &[u8; 32], len: u8) -> u8
+        requires { self.now.keys ≤ 128 }
         ensures { result ≡ key_found self.now key.now len }
     {
         self.known(key, len).unwrap_or(255)

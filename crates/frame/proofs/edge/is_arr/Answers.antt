@@ -3,9 +3,6 @@ use Rattle.frame.specs.Edges.{has_form}
 use Rattle.laws.proofs.Tests.{tests}
 use Rattle.frame.proofs.edge.is_arr.Goals as goal
 
-pub returns-then-rule-lt32 : goal.returns-then-rule-lt32
-returns-then-rule-lt32 c = rw (← c.from.ensures) c.is_of_kind.ensures
-
 pub returns-else-rule-lt32 : goal.returns-else-rule-lt32
 unfolding has_form
 returns-else-rule-lt32 c = search tests

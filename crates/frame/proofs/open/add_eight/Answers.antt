@@ -4,9 +4,6 @@ use Rattle.frame.proofs.QuietLaws.{first-state}
 use mathlib.Core.Path.{refl}
 use Rattle.frame.proofs.open.add_eight.Goals as goal
 
-pub loop-r-init : goal.loop-r-init
-loop-r-init c = λ xs e. e
-
 pub loop-r-preserved : goal.loop-r-preserved
 loop-r-preserved c = λ xs e.
     set_all-more _ _ _ _ _ _ _ _ (c.loop-r.invariant xs e) c.is_of_kind.ensures refl (rw c.from.ensures (first-state c.loop-r.states c.loop-r.r c.is_of_kind.result))

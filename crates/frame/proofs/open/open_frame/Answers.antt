@@ -1,5 +1,5 @@
 -- `open::open_frame` meets its contract. Assumes nothing.
-use Rattle.std.proofs.Common.{List, ℕ, ◌∷◌, ◌++◌, ap, replicate, ◌≡◌}
+use Rattle.std.proofs.Common.{List, ℕ, ◌∷◌, ◌++◌, ap, replicate}
 use mathlib.Core.List.{append-nil}
 use Rattle.frame.specs.Ops.{opened, start_states}
 use Rattle.frame.proofs.open.open_frame.Goals as goal

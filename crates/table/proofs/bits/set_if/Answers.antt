@@ -2,13 +2,14 @@
 use Prim.Native.Nat.{◌%◌}
 use Rattle.laws.proofs.BitLaws.{one_shl, set_bit-out}
 use Rattle.laws.specs.Bits.{set_bit}
-use mathlib.Core.Path.{sym}
+use mathlib.Core.Path.{refl, sym}
 use native.Mathlib.Omega.{arith}
 use Rattle.table.proofs.bits.set_if.Goals as goal
+use Rattle.table.proofs.bits.set_if.Goals.{else-on-via-then-on+else-i-s, else-on-via-else-on}
 
-pub returns-then-q-s : goal.returns-then-q-s
+pub returns-then-i-s : goal.returns-then-i-s
 unfolding set_bit
-returns-then-q-s c = rw (c.if-on.true, one_shl 8 (c.args.i % 8) (omega arith))
+returns-then-i-s c = rw (c.if-on.true, one_shl 8 (c.args.i % 8) (omega arith)) refl
 
-pub returns-else-q-s : goal.returns-else-q-s
-returns-else-q-s c = rw c.if-on.true (sym (set_bit-out _ _ c.if-q-s.false))
+pub returns-else-on : goal.returns-else-on
+returns-else-on c = elim c.else-on.branch [ else-on-via-then-on+else-i-s w ↦ rw w.if-on.true (sym (set_bit-out _ _ w.if-i-s.false)) | else-on-via-else-on w ↦ rw w.if-on.false refl ]

@@ -5,7 +5,7 @@ use Rattle.turn.proofs.TurnLaws.{keys_le}
 use Rattle.turn.proofs.Record.perform.Goals as goal
 
 pub number-number-requires : goal.number-number-requires
-number-number-requires c = (keys_le _ c.args.rules.in_limits, search rules)
+number-number-requires c = keys_le _ c.args.rules.in_limits
 
 pub returns-in-Finish-clause-performed : goal.returns-in-Finish-clause-performed
 unfolding value_at

@@ -176,11 +176,7 @@ fn on_segment(a: Point, b: Point, p: Point, area: i64) -> bool
     requires { area ≡ cross a b p }
     ensures { result ≡ on_segment a b p }
 {
-    if area == 0 {
-        between(a.x, b.x, p.x) & between(a.y, b.y, p.y)
-    } else {
-        false
-    }
+    area == 0 && (between(a.x, b.x, p.x) & between(a.y, b.y, p.y))
 }
 
 // The segment from a to b has exactly one end above the height of p, and crosses that height to the right of p.

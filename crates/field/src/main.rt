@@ -10,6 +10,7 @@ ghost use Rattle.boundary.specs.Exact.{answer_at};
 ghost use Rattle.points.specs.Points.{point_of};
 ghost use Rattle.points.specs.Answers.{said_line};
 
+use arrayvec::ArrayVec;
 use boundary::Refusal;
 use geometry::Located;
 use plane::Corners;
@@ -115,10 +116,8 @@ struct Session<'a, P, E> {
     err: &'a E,
     corners: Corners<'a>,
     output: Output,
-    line: [u8; LINE_SPACE],
-    held: usize,
+    line: ArrayVec<u8, LINE_SPACE>,
     lines: usize,
-    ghost inside: { held ≤ 4096 },
 }
 
 impl<'a, P: Print, E: Print> Session<'a, P, E> {
@@ -144,13 +143,13 @@ impl<'a, P: Print, E: Print> Session<'a, P, E> {
 
     // Answers the line under way.
     fn answer_line(&mut self) -> Result<(), Ended> {
-        let Some(a) = answer(&self.corners, &self.line[..self.held]) else {
+        let Some(a) = answer(&self.corners, &self.line) else {
             self.stop();
             return Err(Ended);
         };
         self.say(a);
         self.lines = self.lines.saturating_add(1);
-        self.held = 0;
+        self.line.clear();
         Ok(())
     }
 
@@ -159,12 +158,10 @@ impl<'a, P: Print, E: Print> Session<'a, P, E> {
         if b == b'\n' {
             return self.answer_line();
         }
-        if self.held == LINE_SPACE {
+        if self.line.try_push(b).is_err() {
             self.stop();
             return Err(Ended);
         }
-        self.line[self.held] = b;
-        self.held += 1;
         Ok(())
     }
 
@@ -178,7 +175,7 @@ impl<'a, P: Print, E: Print> Session<'a, P, E> {
 
     // The end of the input: the last line may lack its LF.
     fn take_end(&mut self) -> Result<(), Ended> {
-        if self.held != 0 {
+        if !self.line.is_empty() {
             self.answer_line()?;
         }
         Err(Ended)
@@ -208,8 +205,7 @@ fn answer_points<'a>(rt: &'a (impl Input + Print), err: &'a impl Print, corners:
         err,
         corners,
         output,
-        line: [0; LINE_SPACE],
-        held: 0,
+        line: ArrayVec::new(),
         lines: 0,
     };
     let mut input = rt.reader();

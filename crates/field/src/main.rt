@@ -132,20 +132,20 @@ impl<'a, P: Print, E: Print> Session<'a, P, E> {
         self.output.put(Said(a));
     }
 
-    // Prints the output, and says that the line has no point.
-    fn stop(&mut self) {
+    // Prints the output, and says that the line has no point: the answers end.
+    fn stop(&mut self) -> Result<(), Ended> {
         let _ = self.output.print(self.rt);
         self.output.put(NoPoint {
             line: self.lines.saturating_add(1),
         });
         let _ = self.output.print(self.err);
+        Err(Ended)
     }
 
     // Answers the line under way.
     fn answer_line(&mut self) -> Result<(), Ended> {
         let Some(a) = answer(&self.corners, &self.line) else {
-            self.stop();
-            return Err(Ended);
+            return self.stop();
         };
         self.say(a);
         self.lines = self.lines.saturating_add(1);
@@ -159,8 +159,7 @@ impl<'a, P: Print, E: Print> Session<'a, P, E> {
             return self.answer_line();
         }
         if self.line.try_push(b).is_err() {
-            self.stop();
-            return Err(Ended);
+            return self.stop();
         }
         Ok(())
     }

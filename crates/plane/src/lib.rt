@@ -36,6 +36,7 @@ impl<'a> Corners<'a> {
     }
 
     // Corner i: its numbers stand at 2 i and 2 i + 1.
+    // Stays: the C interface lends the corners as a row of numbers, and not as points.
     fn corner(&self, i: usize) -> Point
         requires { 2 * i + 1 < length self.now.numbers.now }
         ensures { result ≡ corner_at self.now.numbers.now i }

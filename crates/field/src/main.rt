@@ -2,23 +2,25 @@
 // judged and the point answered by crate boundary, and points are read and lines made by crate points; here bytes are only read and written.
 #![tactic(auto)]
 
-ghost use Rattle.std.specs.Prelude.{◌≡◌, ◌≤◌, length, IfOk};
+ghost use Rattle.std.specs.Prelude.{◌≡◌, ◌≤◌, cond};
 ghost use Rattle.std.specs.Option.{option_map};
-ghost use Rattle.text.specs.Put.{write};
+ghost use Rattle.text.specs.Put.{has_room, write};
 ghost use Rattle.plane.specs.Lent.{corners_of};
 ghost use Rattle.boundary.specs.Exact.{answer_at};
 ghost use Rattle.points.specs.Points.{point_of};
 ghost use Rattle.points.specs.Answers.{said_line};
 
+use arrayvec::ArrayVec;
 use boundary::Refusal;
 use geometry::Located;
 use plane::Corners;
-use points::answer;
+use points::answer::{AnswerNames, NoPoint, Said};
 use std::fs::File;
 use std::io::Read;
 use std::rt::Files;
 use std::{fmt, io};
 use table::flat::Table;
+use text::Line;
 
 // The bytes of one read, and of the answers that are printed at once.
 const BLOCK: usize = 65536;
@@ -51,31 +53,15 @@ impl fmt::Display for TextError {
     }
 }
 
-// Reads a file to its end, as far as there is space: how many bytes that gives.
-fn read_file(file: &mut impl Read, space: &mut [u8]) -> io::Result<usize>
-    ensures { IfOk result (λ n. n ≤ length space.new) }
-{
-    let mut n = 0;
-    while n < space.len() {
-        let more = file.read(&mut space[n..])?;
-        if more == 0 || space.len() - n < more {
-            break;
-        }
-        n += more;
-    }
-    Ok(n)
-}
-
-// The bytes of text.json. A file that fills the space has too many.
-fn read_text(rt: &impl Files, space: &mut [u8; TEXT_SPACE]) -> Result<usize, TextError>
-    ensures { IfOk result (λ n. n ≤ length space.new) }
-{
+// The text in text.json. A file that fills the space has too many bytes.
+fn read_text<'s>(rt: &impl Files, space: &'s mut [u8; TEXT_SPACE]) -> Result<&'s [u8], TextError> {
     let mut file = File::open(rt, "text.json")?;
-    let n = read_file(&mut file, space)?;
+    let (n, ended) = lent_file::fill(&mut file, space);
+    ended?;
     if n == space.len() {
         return Err(TextError::TooLong);
     }
-    Ok(n)
+    Ok(&space[..n])
 }
 
 // What is answered for a line; none where it has no point.
@@ -95,6 +81,7 @@ struct Ended;
 struct Output {
     bytes: [u8; BLOCK],
     used: usize,
+    ghost inside: { used ≤ 65536 },
 }
 
 impl Output {
@@ -105,22 +92,20 @@ impl Output {
         }
     }
 
-    // Puts the line of an answer behind the others, where there is room. Ruled out: a point outside that is said to be inside, and the number of
-    // another refusal.
-    fn put(&mut self, a: Result<Located, Refusal>)
-        ensures { record { out = self.new.bytes; at = self.new.used } ≡ write self.old.bytes self.old.used (said_line a) }
+    // Puts a line behind the others, where there is room.
+    fn put<L: Line + Drop>(&mut self, line: L)
+        ensures { record { out = self.new.bytes; at = self.new.used } ≡ write self.old.bytes self.old.used (L.text line) }
     {
-        self.used = answer::write_said(&mut self.bytes, self.used, a);
+        self.used = text::write(&mut self.bytes, self.used, line);
     }
 
     // Prints the lines.
-    fn print(&mut self, rt: &impl Print) -> Result<(), Ended> {
+    fn print(&mut self, rt: &impl Print) -> Result<(), Ended>
+        ensures { (self.new.bytes ≡ self.old.bytes) × (self.new.used ≡ 0) }
+    {
         let used = self.used;
         self.used = 0;
-        if self.bytes.len() < used || rt.write_all(&self.bytes[..used]).is_err() {
-            return Err(Ended);
-        }
-        Ok(())
+        rt.write_all(&self.bytes[..used]).map_err(|_| Ended)
     }
 }
 
@@ -131,41 +116,40 @@ struct Session<'a, P, E> {
     err: &'a E,
     corners: Corners<'a>,
     output: Output,
-    line: [u8; LINE_SPACE],
-    held: usize,
+    line: ArrayVec<u8, LINE_SPACE>,
     lines: usize,
-    ghost inside: { held ≤ 4096 },
 }
 
 impl<'a, P: Print, E: Print> Session<'a, P, E> {
-    // Puts a line behind the output, which is printed first where it has no room for one.
-    fn say(&mut self, a: Result<Located, Refusal>) {
+    // Puts the line of an answer behind the output, which is printed first where it has no room for one. Ruled out: a point outside that is said to
+    // be inside, and the number of another refusal.
+    fn say(&mut self, a: Result<Located, Refusal>)
+        ensures { record { out = self.new.output.bytes; at = self.new.output.used } ≡ write self.old.output.bytes (cond (has_room 65536 self.old.output.used) self.old.output.used 0) (said_line a) }
+    {
         if !text::has_room(BLOCK, self.output.used) {
             let _ = self.output.print(self.rt);
         }
-        self.output.put(a);
+        self.output.put(Said(a));
     }
 
-    // Prints the output, and says that the line has no point.
-    fn stop(&mut self) {
+    // Prints the output, and says that the line has no point: the answers end.
+    fn stop(&mut self) -> Result<(), Ended> {
         let _ = self.output.print(self.rt);
-        self.output.used = answer::write_stop(
-            &mut self.output.bytes,
-            0,
-            self.lines.saturating_add(1),
-        );
+        self.output.put(NoPoint {
+            line: self.lines.saturating_add(1),
+        });
         let _ = self.output.print(self.err);
+        Err(Ended)
     }
 
     // Answers the line under way.
     fn answer_line(&mut self) -> Result<(), Ended> {
-        let Some(a) = answer(&self.corners, &self.line[..self.held]) else {
-            self.stop();
-            return Err(Ended);
+        let Some(a) = answer(&self.corners, &self.line) else {
+            return self.stop();
         };
         self.say(a);
         self.lines = self.lines.saturating_add(1);
-        self.held = 0;
+        self.line.clear();
         Ok(())
     }
 
@@ -174,12 +158,9 @@ impl<'a, P: Print, E: Print> Session<'a, P, E> {
         if b == b'\n' {
             return self.answer_line();
         }
-        if self.held == LINE_SPACE {
-            self.stop();
-            return Err(Ended);
+        if self.line.try_push(b).is_err() {
+            return self.stop();
         }
-        self.line[self.held] = b;
-        self.held += 1;
         Ok(())
     }
 
@@ -193,7 +174,7 @@ impl<'a, P: Print, E: Print> Session<'a, P, E> {
 
     // The end of the input: the last line may lack its LF.
     fn take_end(&mut self) -> Result<(), Ended> {
-        if self.held != 0 {
+        if !self.line.is_empty() {
             self.answer_line()?;
         }
         Err(Ended)
@@ -216,15 +197,14 @@ impl<'a, P: Print, E: Print> Session<'a, P, E> {
 // loop counts its turns up to a number that no run reaches.
 fn answer_points<'a>(rt: &'a (impl Input + Print), err: &'a impl Print, corners: Corners<'a>) {
     let mut output = Output::new();
-    output.used = answer::write_names(&mut output.bytes, 0);
+    output.put(AnswerNames);
     let _ = output.print(rt);
     let mut session = Session {
         rt,
         err,
         corners,
         output,
-        line: [0; LINE_SPACE],
-        held: 0,
+        line: ArrayVec::new(),
         lines: 0,
     };
     let mut input = rt.reader();
@@ -244,7 +224,7 @@ fn answer_text(rt: &(impl Input + Print), err: &impl Print, text: &[u8]) {
         Ok(n) => answer_points(rt, err, Corners::new(&memory, n)),
         Err(k) => {
             let mut output = Output::new();
-            output.put(Err(k));
+            output.put(Said(Err(k)));
             let _ = output.print(rt);
         }
     }
@@ -253,7 +233,7 @@ fn answer_text(rt: &(impl Input + Print), err: &impl Print, text: &[u8]) {
 fn main(rt: HostRuntime) {
     let mut space = [0u8; TEXT_SPACE];
     match read_text(&rt, &mut space) {
-        Ok(n) => answer_text(&rt, &rt.stderr(), &space[..n]),
+        Ok(text) => answer_text(&rt, &rt.stderr(), text),
         Err(e) => {
             let _ = eprintln!(rt; "{e}");
         }

@@ -36,6 +36,7 @@ impl<'a> Corners<'a> {
     }
 
     // Corner i: its numbers stand at 2 i and 2 i + 1.
+    // Stays: the C interface lends the corners as a row of numbers, and not as points.
     fn corner(&self, i: usize) -> Point
         requires { 2 * i + 1 < length self.now.numbers.now }
         ensures { result ≡ corner_at self.now.numbers.now i }
@@ -176,11 +177,7 @@ fn on_segment(a: Point, b: Point, p: Point, area: i64) -> bool
     requires { area ≡ cross a b p }
     ensures { result ≡ on_segment a b p }
 {
-    if area == 0 {
-        between(a.x, b.x, p.x) & between(a.y, b.y, p.y)
-    } else {
-        false
-    }
+    area == 0 && (between(a.x, b.x, p.x) & between(a.y, b.y, p.y))
 }
 
 // The segment from a to b has exactly one end above the height of p, and crosses that height to the right of p.

@@ -1,12 +1,11 @@
-// The lines that are written, as bytes in a lent buffer. Each function answers the place after what it wrote; where the buffer has less than 64
-// bytes from the place on, it writes nothing.
+// The lines that the program for points writes, for `text::write`.
 ghost use Rattle.std.specs.Prelude.{◌≡◌, ◌+◌, ◌≤◌, length};
-ghost use Rattle.text.specs.Put.{Put, write};
+ghost use Rattle.text.specs.Put.{Put};
 ghost use Rattle.points.specs.Answers.{answer_names, place_word, word_line, said_line, stop_line};
 
 use boundary::Refusal;
 use geometry::{Located, Place};
-use text::put;
+use text::{Line, put};
 
 // The word of a place.
 fn place_word(p: Place) -> &'static [u8]
@@ -22,7 +21,8 @@ fn place_word(p: Place) -> &'static [u8]
 // A word and a number.
 fn put_word(out: &mut [u8], at: usize, word: &[u8], n: usize) -> usize
     requires { (at + 64 ≤ length out.old) × (length word.now ≤ 7) }
-    ensures { Put out.old at (word_line word.now n) out.new result }
+    ensures put { Put out.old at (word_line word.now n) out.new result }
+    ensures short { result ≤ at + 64 }
 {
     let a = put::put_bytes(out, at, word);
     let b = put::put_bytes(out, a, b" ");
@@ -30,53 +30,46 @@ fn put_word(out: &mut [u8], at: usize, word: &[u8], n: usize) -> usize
     put::put_bytes(out, c, b"\n")
 }
 
-// The line of an answer.
-fn put_said(out: &mut [u8], at: usize, a: Result<Located, Refusal>) -> usize
-    requires { at + 64 ≤ length out.old }
-    ensures { Put out.old at (said_line a) out.new result }
-{
-    match a {
-        Ok(l) => put_word(out, at, place_word(l.place), l.nearest),
-        Err(k) => put_word(out, at, b"refused", k.number() as usize),
-    }
-}
-
-// The line that says that line k has no point.
-fn put_stop(out: &mut [u8], at: usize, k: usize) -> usize
-    requires { at + 64 ≤ length out.old }
-    ensures { Put out.old at (stop_line k) out.new result }
-{
-    let a = put::put_bytes(out, at, b"line ");
-    let b = put::put_decimal(out, a, k);
-    put::put_bytes(out, b, b": not two whole numbers\n")
-}
-
 // The first line.
-pub fn write_names(out: &mut [u8], at: usize) -> usize
-    ensures { record { out = out.exit.now; at = result } ≡ write out.entry.now at answer_names }
-{
-    if text::has_room(out.len(), at) {
-        return put::put_bytes(out, at, b"answer corner\n");
+#[derive(Clone, Copy)]
+pub struct AnswerNames;
+
+impl Line for AnswerNames {
+    ghost text = { λ _. answer_names };
+
+    fn put(self, out: &mut [u8], at: usize) -> usize {
+        put::put_bytes(out, at, b"answer corner\n")
     }
-    at
 }
 
-// The line of an answer. Ruled out: a point inside that is said to be outside, and the number of another corner.
-pub fn write_said(out: &mut [u8], at: usize, a: Result<Located, Refusal>) -> usize
-    ensures { record { out = out.exit.now; at = result } ≡ write out.entry.now at (said_line a) }
-{
-    if text::has_room(out.len(), at) {
-        return put_said(out, at, a);
+// The line of an answer.
+#[derive(Clone, Copy)]
+pub struct Said(pub Result<Located, Refusal>);
+
+impl Line for Said {
+    ghost text = { λ x. said_line x.0 };
+
+    // Ruled out: a point inside that is said to be outside, and the number of another corner.
+    fn put(self, out: &mut [u8], at: usize) -> usize {
+        match self.0 {
+            Ok(l) => put_word(out, at, place_word(l.place), l.nearest),
+            Err(k) => put_word(out, at, b"refused", usize::from(k.number())),
+        }
     }
-    at
 }
 
-// The line that says that line k has no point.
-pub fn write_stop(out: &mut [u8], at: usize, k: usize) -> usize
-    ensures { record { out = out.exit.now; at = result } ≡ write out.entry.now at (stop_line k) }
-{
-    if text::has_room(out.len(), at) {
-        return put_stop(out, at, k);
+// The line that says that a line of the input, by its number from 1 on, has no point.
+#[derive(Clone, Copy)]
+pub struct NoPoint {
+    pub line: usize,
+}
+
+impl Line for NoPoint {
+    ghost text = { λ x. stop_line x.line };
+
+    fn put(self, out: &mut [u8], at: usize) -> usize {
+        let a = put::put_bytes(out, at, b"line ");
+        let b = put::put_decimal(out, a, self.line);
+        put::put_bytes(out, b, b": not two whole numbers\n")
     }
-    at
 }

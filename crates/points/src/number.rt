@@ -8,6 +8,7 @@ ghost use Rattle.points.specs.Points.{has_some_digits, number_of};
 // Stands for every number beyond the range, with its sign.
 const BEYOND: i32 = 2_000_000;
 
+// Stays: within `has_some_digits` no search proves the goal `c.all.result ≡ list_all is_ascii_digit s`, on either side of the `&&`.
 fn all_digits(s: &[u8]) -> bool
     ensures { result ≡ list_all is_ascii_digit s.now }
 {

@@ -32,6 +32,7 @@ pub fn has_room(len: usize, at: usize) -> bool
 pub fn write<L: Line + Drop>(out: &mut [u8], at: usize, line: L) -> usize
     ensures written { record { out = out.new; at = result } ≡ write out.old at (L.text line) }
     ensures short { result ≤ at + 64 }
+    ensures inside { at ≤ length out.old → result ≤ length out.new }
 {
     if has_room(out.len(), at) {
         return line.put(out, at);

@@ -1,6 +1,7 @@
 -- `plane::on_segment` meets its contract: the box is tested where the cross product is 0. Assumes nothing.
-use mathlib.Core.Path.{◌≡◌}
+use mathlib.Core.Path.{◌≡◌, ◌∙◌}
 use borrow.Author.Rules.{rules}
+use borrow.Author.Tests.{ne_eqb}
 use mir.Syntax.{w32}
 use mir.Val.{to_z, of_z}
 use Rattle.plane.proofs.SideLaws.{is_zero-of-bits, nonzero-of-bits, between-same, on_segment-in-line, on_segment-beside}
@@ -22,4 +23,4 @@ returns-then-area-eq0 c =
 pub returns-else-area-eq0 : goal.returns-else-area-eq0
 returns-else-area-eq0 c =
     let x = c.args in
-    on_segment-beside x.a x.b x.p c.requires (nonzero-of-bits x.area c.if-area-eq0.false)
+    ne_eqb _ 0 c.if-area-eq0.false ∙ on_segment-beside x.a x.b x.p c.requires (nonzero-of-bits x.area c.if-area-eq0.false)

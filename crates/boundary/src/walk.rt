@@ -191,6 +191,7 @@ fn says_valid(a: Answer) -> bool
 #[derive(Clone, Copy)]
 pub struct Numbers {
     pub taken: usize,
+    // Stays: beside the count, which is tested before it.
     pub unfit: bool,
 }
 

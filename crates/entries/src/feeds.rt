@@ -13,6 +13,7 @@ use table::flat::Table;
 struct Fed {
     read: usize,
     made: usize,
+    // Stays: beside the others, which are told of a refused feed too.
     refused: bool,
 }
 

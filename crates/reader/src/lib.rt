@@ -195,6 +195,7 @@ impl Reader {
         };
         let mut key = self.key;
         let mut i = 0;
+        // Stays: a turn reads any number of bytes.
         while i < piece.len() {
             match piece::read_on(&mut record, &mut key, work, rules, &classes, piece, i) {
                 ControlFlow::Continue(at) => i = at,

@@ -154,6 +154,7 @@ fn walk_all(r: Reader, source: &Source, work: &mut [u8], corners: &mut [i32; 204
         taken: 0,
         unfit: false,
     };
+    // Stays: a turn feeds any number of bytes, so that no range counts the place.
     while w.at < source.text.len() {
         w = w.on(source, work, corners)?;
     }
@@ -191,7 +192,7 @@ fn says_valid(a: Answer) -> bool
 #[derive(Clone, Copy)]
 pub struct Numbers {
     pub taken: usize,
-    // Stays: beside the count, which is tested before it.
+    // Stays: an Option of the count would lose it where a number is unfit, and refusal 32 by the count comes first.
     pub unfit: bool,
 }
 

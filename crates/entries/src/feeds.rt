@@ -13,7 +13,7 @@ use table::flat::Table;
 struct Fed {
     read: usize,
     made: usize,
-    // Stays: beside the others, which are told of a refused feed too.
+    // Stays: a Result would hold the other fields on both sides, since they are told of a refused feed too.
     refused: bool,
 }
 
@@ -94,6 +94,7 @@ fn feed_all(
         made: 0,
         refused: false,
     };
+    // Stays: a turn feeds any number of bytes, so that no range counts the place.
     while f.read < stream.len() {
         f = feed_next(f, reader, table, stream, size, work, out);
         if f.refused {

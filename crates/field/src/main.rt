@@ -72,7 +72,7 @@ fn answer(corners: &Corners, line: &[u8]) -> Option<Result<Located, Refusal>>
     Some(boundary::answer_at(corners, p))
 }
 
-// The answers end: a line has no point, or the output cannot be written.
+// The answers end: the input does, a line has no point, or the output cannot be written.
 #[derive(Clone, Copy)]
 struct Ended;
 

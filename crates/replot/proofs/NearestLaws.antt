@@ -13,12 +13,13 @@ use Rattle.geometry.specs.declared.Located.{Located}
 use Rattle.geometry.specs.Plane.{Placed, on_the_edge, inside, outside}
 use Rattle.geometry.specs.Tests.{located}
 use Rattle.geometry.proofs.PlacedLaws.{placed-located}
-use Rattle.plane.specs.Corners.{corner_at, corners_in}
+use Rattle.plane.specs.Corners.{corner_at, corners_in, Held}
 use Rattle.plane.specs.Lent.{corners_of}
 use Rattle.plane.specs.declared.Corners.{Corners}
-use Rattle.std.specs.Prelude.{Ok, Err, ◌/◌}
+use Rattle.std.specs.Prelude.{Result, Ok, Err, ◌/◌, ℤ}
+use Rattle.boundary.specs.declared.Refusal.{Refusal}
 use Rattle.boundary.specs.declared.Refusal.TheVariants as No
-use Rattle.boundary.specs.Exact.{in_range, answer_at}
+use Rattle.boundary.specs.Exact.{in_range, answer_at, answer_by, HeldBy}
 use Rattle.replot.specs.Numbers.{nearest_in}
 
 -- an element of a list stands below its length
@@ -44,10 +45,19 @@ nearest-below cs p h = go (in_range p)
     go true = located-lt cs p h
     go false = h
 
--- so it fits in 32 bits
-pub nearest-fits : (c : Corners) (p : Point) → nearest_in (answer_at (corners_of c) p) < 4294967296
-unfolding corners_of corners_in
-nearest-fits c p =
-    let n : ℕ = length c.numbers.now / 2 in
-    let count : length (corners_of c) ≡ n = length-tab (corner_at c.numbers.now) 0 n in
-    omega (arith, nearest-below (corners_of c) p (omega (arith, count, c.held.least)), count, c.held.most)
+-- so it fits in 32 bits, where n corners are held
+corners-fit : (l : List ℤ) (n : ℕ) (p : Point) → Held l n → nearest_in (answer_at (corners_in l n) p) < 4294967296
+unfolding corners_in
+corners-fit l n p h =
+    let count : length (corners_in l n) ≡ n = length-tab (corner_at l) 0 n in
+    omega (arith, nearest-below (corners_in l n) p (omega (arith, count, h.least)), count, h.most)
+
+-- the answer by the corners in lent memory
+pub lent-fits : (c : Corners) (p : Point) → nearest_in (answer_at (corners_of c) p) < 4294967296
+unfolding corners_of
+lent-fits c p = corners-fit c.numbers.now (length c.numbers.now / 2) p c.held
+
+-- the answer by what was read of a text, a refusal too
+pub nearest-fits : (b : Result ℕ Refusal) (l : List ℤ) (p : Point) → HeldBy b l → nearest_in (answer_by b l p) < 4294967296
+nearest-fits (Ok n) l p h = corners-fit l n p h
+nearest-fits (Err k) l p h = omega arith

@@ -132,7 +132,7 @@ pub fn finish(reader: &mut Reader, table: &Table, work: &[u8], out: &mut [u8]) -
 // What a book begins with: whether it is accepted, and the bytes written to the output.
 #[derive(Clone, Copy)]
 pub struct Begun {
-    // Stays: beside the bytes written, which are told of a refused book too.
+    // Stays: a Result would hold the bytes written on both sides, since they are told of a refused book too.
     pub accepted: bool,
     pub used: usize,
 }

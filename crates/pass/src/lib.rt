@@ -162,7 +162,7 @@ impl<'a> Stretch<'a> {
     }
 
     // Passes over bytes of a number. They are counted at once where they lead to one mode.
-    // Stays: a loop, since it goes on by runs of bytes and is left at three places, and so counts no index from one bound to another.
+    // Stays: a loop, since it goes on by runs of bytes and is left at two places, and so counts no index from one bound to another.
     fn number_to(
         &self,
         top: Top,

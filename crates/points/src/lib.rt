@@ -17,7 +17,7 @@ fn is_blank(b: u8) -> bool
 }
 
 // The place of the first byte that is no blank.
-// Stays: `returns` of `after_blanks` and `split_word` finds what `position` gives only where the chain is a function of its own.
+// Stays: a function of its own, as `first_blank` is: with the chain inside `after_blanks` and `split_word` their goals `returns` are not proved.
 fn first_other(s: &[u8]) -> Option<usize>
     ensures { result ≡ position (λ b. not (is_blank b)) s.now }
 {

@@ -123,7 +123,7 @@ impl Reader {
     }
 
     // A fresh reader for a table and a buffer, which stay as they are. Ruled out: a start that counts the frames of a longer buffer past 64, and
-    // one that hands out frames with a refusal.
+    // one that lets in a buffer without a frame.
     pub fn start(table: &Table, work: &[u8]) -> Result<Reader, Refusal>
         ensures { started result ≡ start_of table.now work.now }
     {
@@ -195,7 +195,7 @@ impl Reader {
         };
         let mut key = self.key;
         let mut i = 0;
-        // Stays: a turn reads any number of bytes.
+        // Stays: a turn reads any number of bytes, so that no range counts the place.
         while i < piece.len() {
             match piece::read_on(&mut record, &mut key, work, rules, &classes, piece, i) {
                 ControlFlow::Continue(at) => i = at,

@@ -5,7 +5,7 @@ ghost use Rattle.std.specs.Prelude.{◌≡◌, List, ℕ, ◌+◌, ◌≤◌, le
 ghost use Rattle.text.specs.Text.{word_text, stream_names, line_of, book_lines};
 ghost use Rattle.text.specs.Put.{Put, has_room, write};
 
-pub mod put; // put.rt: words and numbers
+pub mod put; // put.rt: bytes and numbers
 
 use verdict::{Verdict, Word};
 

@@ -11,6 +11,7 @@ use borrow.Author.Tests.{ne_eqb}
 use Rattle.json_text.specs.Machine.{Stack, bare, whole, in_array, in_object, top_of, depth, finish}
 use Rattle.table.specs.Kind.{code_of, rule_fits}
 use Rattle.table.specs.Table.{Table}
+use Rattle.table.specs.declared.kind.Form.TheVariants.{Object, Array}
 use Rattle.table.specs.declared.kind.Finished.{Finished}
 use Rattle.table.specs.declared.kind.Finished.TheVariants as Done
 use Rattle.table.specs.declared.kind.ValueKind.{ValueKind}
@@ -64,12 +65,12 @@ module _ {t : Table} {es : List Entry} (kept : Carries t es) (n : ℕ) (few : n 
 
   -- an array or object is opened
   pub shows-opened-array : (k : Stack (judging es)) → depth (judging es) k < n → ShowsStack es w k
-      → ShowsStack es (put_frame w (suc (depth (judging es) k)) (opened t.forms false)) (in_array (start_of es arr) k)
-  shows-opened-array k d h = shows-put-array (opened t.forms false) k d h (shows-open-array kept)
+      → ShowsStack es (put_frame w (suc (depth (judging es) k)) (opened t.forms Array)) (in_array (start_of es arr) k)
+  shows-opened-array k d h = shows-put-array (opened t.forms Array) k d h (shows-open-array kept)
 
   pub shows-opened-object : (k : Stack (judging es)) → depth (judging es) k < n → ShowsStack es w k
-      → ShowsStack es (put_frame w (suc (depth (judging es) k)) (opened t.forms true)) (in_object (at_opening es) k)
-  shows-opened-object k d h = shows-put-object (opened t.forms true) k d h (shows-open-object kept)
+      → ShowsStack es (put_frame w (suc (depth (judging es) k)) (opened t.forms Object)) (in_object (at_opening es) k)
+  shows-opened-object k d h = shows-put-object (opened t.forms Object) k d h (shows-open-object kept)
 
   -- a key of the innermost object is finished
   pub shows-named : (o : OpenObject) (k : Stack (judging es)) (s : List ℕ) (c : ℕ) → depth (judging es) k < n → ShowsStack es w (in_object o k)

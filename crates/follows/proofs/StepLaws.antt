@@ -37,6 +37,8 @@ use Rattle.whole.specs.Fresh.{fresh}
 use Rattle.whole.specs.Count.{unbounded, bounded, counted}
 use Rattle.whole.specs.Read.{Read, begins, read_byte, reads_whole}
 use Rattle.table.specs.Table.{Table}
+use Rattle.table.specs.declared.kind.Form.{Form}
+use Rattle.table.specs.declared.kind.Form.TheVariants.{Object, Array}
 use Rattle.table.specs.declared.kind.Scalar.{Scalar}
 use Rattle.table.specs.declared.kind.Scalar.TheVariants as K
 use Rattle.book.specs.Entry.{arr, Entry}
@@ -185,7 +187,7 @@ module _ {t : Table} {es : List Entry} (kept : Carries t es) (plain : PlainKeys 
   opened_to m = lex_at (M.At P.First) (depth (judging es) k + 1) (bump i) place (bits_in m g.bits b) (high_in m g.bits g.high b) d len
 
   -- an array or object is opened, where there is a frame for it; y is what the limits make of the byte
-  step-opened : (m : Mode) (o : Bool) (k' : Stack (judging es)) (y : Advanced) → Known m
+  step-opened : (m : Mode) (o : Form) (k' : Stack (judging es)) (y : Advanced) → Known m
       → (ltb (depth (judging es) k) n ≡ true → y ≡ advance (opened_to m) (To.Open o))
       → (ltb (depth (judging es) k) n ≡ false → y ≡ faulted (lexer m) F.TooDeep) → suc (depth (judging es) k) ≡ depth (judging es) k'
       → (depth (judging es) k < n → ShowsStack es (put_frame w (suc (depth (judging es) k)) (opened t.forms o)) k') → NoRoot es root k'
@@ -217,13 +219,13 @@ module _ {t : Table} {es : List Entry} (kept : Carries t es) (plain : PlainKeys 
   step-open_array : (m : Mode) → Known m → NoRoot es root k → Tracked m (step_to (M.At P.First) A.OpenArray)
   unfolding open_fault open_level
   step-open_array m s r p =
-      step-opened m false (in_array (start_of es arr) k) (acted A.OpenArray false (lexer m) n b (M.At P.First)) s (λ e. simp e) (λ e. simp e) refl
+      step-opened m Array (in_array (start_of es arr) k) (acted A.OpenArray false (lexer m) n b (M.At P.First)) s (λ e. simp e) (λ e. simp e) refl
       (λ l. shows-opened-array kept n few w s.long k l s.stack) r tt
 
   step-open_object : (m : Mode) → Known m → NoRoot es root k → Tracked m (step_to (M.At P.First) A.OpenObject)
   unfolding open_fault open_level
   step-open_object m s r p =
-      step-opened m true (in_object (at_opening es) k) (acted A.OpenObject false (lexer m) n b (M.At P.First)) s (λ e. simp e) (λ e. simp e) refl
+      step-opened m Object (in_object (at_opening es) k) (acted A.OpenObject false (lexer m) n b (M.At P.First)) s (λ e. simp e) (λ e. simp e) refl
       (λ l. shows-opened-object kept n few w s.long k l s.stack) r tt
 
   -- a character of a key is finished

@@ -13,8 +13,9 @@ use Rattle.table.specs.declared.kind.Scalar.TheVariants.{Null, Str, Num, Int}
 use Rattle.table.specs.declared.kind.Finished.{Finished}
 use Rattle.table.specs.declared.kind.Finished.TheVariants as Done
 use Rattle.frame.specs.Edges.{Edges, edges_of, has_form, state_number, fits_code, fitting, stepping, walking}
-use Rattle.frame.specs.declared.Kind.TheVariants.{Array}
-use Rattle.frame.specs.Frame.{has_frame, frame_at, put_frame, is_object, kind_in, current_key, marked, seen_in, held_in}
+use Rattle.table.specs.declared.kind.Form.{Form}
+use Rattle.table.specs.declared.kind.Form.TheVariants.{Object, Array}
+use Rattle.frame.specs.Frame.{has_frame, frame_at, put_frame, is_object, form_in, current_key, marked, seen_in, held_in}
 use Rattle.frame.specs.Ops.{start_states, opened, keyed, with_edges, with_states, valued, key_states, walked, has_end, accepting, rule_set, closed}
 
 -- ---- book B: the keys are corners, 0, and name, 1; the edges are `corners r1`, `name str`, `r2`, `int` and `int`
@@ -36,7 +37,7 @@ ends = 4 ∷ 0 ∷ 1 ∷ 0 ∷ 4 ∷ []
 -- ---- the steps of a text
 
 pub data Step : Type 0 where
-  begin : Bool → Step
+  begin : Form → Step
   key : ℕ → Step
   value : Finished → Step
   close : Step
@@ -49,7 +50,7 @@ pub record Reading : Type 0 where
 
 -- what a step does: a closed value is finished in the level below
 pub step : Step → Reading → Reading
-step (begin object) r = record { work = put_frame r.work (suc r.level) (opened forms object); level = suc r.level; fits = r.fits }
+step (begin form) r = record { work = put_frame r.work (suc r.level) (opened forms form); level = suc r.level; fits = r.fits }
 step (key k) r = record { work = put_frame r.work r.level (keyed k (frame_at r.work r.level)); level = r.level; fits = r.fits }
 step (value v) r = record { work = put_frame r.work r.level (valued edges kinds forms v (frame_at r.work r.level)); level = r.level; fits = r.fits }
 step close r =
@@ -97,10 +98,10 @@ null : Step
 null = value (Done.Scalar Null)
 
 object : Step
-object = begin true
+object = begin Object
 
 array : Step
-array = begin false
+array = begin Array
 
 pub table : List Row
 table =
@@ -190,10 +191,10 @@ frames =
     ∷ (at 0 2 ∷ at 32 4 ∷ [])
     ∷ []
 
--- a kind of 7 is an array's
-pub kind-of-seven : kind_in (frame (at 0 7 ∷ [])) ≡ Array
-unfolding kind_in is_object frame bytes
-kind-of-seven = refl
+-- a number of 7 in byte 0 is an array's
+pub form-of-seven : form_in (frame (at 0 7 ∷ [])) ≡ Array
+unfolding form_in is_object frame bytes
+form-of-seven = refl
 
 -- a current key of 128 is unknown: an array that rule 2 fits adds no edge, though edge 2 asks for rule 2 and has no key
 pub no-edge-of-key-128 : T (same (valued edges kinds forms (Done.Rules 4) (frame (at 0 1 ∷ at 1 128 ∷ []))) (frame (at 0 1 ∷ at 1 128 ∷ [])))

@@ -1,5 +1,5 @@
 pub mod LevelLaws
-pub mod KindLaws
+pub mod FormLaws
 pub mod PartLaws
 pub mod EdgeLaws
 pub mod MaskLaws

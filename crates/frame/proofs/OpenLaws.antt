@@ -1,5 +1,5 @@
 -- What an opened frame holds. Assumes nothing.
-use mathlib.Core.Bool.{Bool, true, false}
+use mathlib.Core.Bool.{true, false}
 use mathlib.Core.List.{List}
 use mathlib.Core.Logic.{◌↔◌}
 use mathlib.Core.Path.{◌≡◌, refl, ◌∙◌}
@@ -9,6 +9,8 @@ use lib.Dec.{T}
 use lib.ListN.{length, replicate}
 use Rattle.laws.specs.Bits.{bit_at}
 use Rattle.laws.proofs.BitLaws.{bit_at-zeros, length-set_all, test-of-set_all-zeros, bit_at-set_all-of-test}
+use Rattle.table.specs.declared.kind.Form.{Form}
+use Rattle.table.specs.declared.kind.Form.TheVariants.{Object, Array}
 use Rattle.frame.specs.Edges.{has_form}
 use Rattle.frame.specs.Frame.{is_object, current_key, marked, seen_in, held_in}
 use Rattle.frame.specs.Ops.{start_states, opened}
@@ -35,37 +37,40 @@ bit_at-start_states forms form j = (
 -- ---- a fresh frame
 
 module _ (forms : List ℕ) where
-  pub length-opened : (object : Bool) → length (opened forms object) ≡ 96
+  pub length-opened : (form : Form) → length (opened forms form) ≡ 96
   unfolding opened
-  length-opened true = refl
-  length-opened false = rw (length-start_states forms 2)
+  length-opened Object = refl
+  length-opened Array = rw (length-start_states forms 2)
 
-  pub is_object-opened : (object : Bool) → is_object (opened forms object) ≡ object
+  pub is_object-opened-object : is_object (opened forms Object) ≡ true
   unfolding opened is_object
-  is_object-opened true = refl
-  is_object-opened false = refl
+  is_object-opened-object = refl
+
+  pub is_object-opened-array : is_object (opened forms Array) ≡ false
+  unfolding opened is_object
+  is_object-opened-array = refl
 
   -- no key is current in an object
-  pub current_key-opened : current_key (opened forms true) ≡ 255
+  pub current_key-opened : current_key (opened forms Object) ≡ 255
   unfolding opened current_key
   current_key-opened = refl
 
-  pub marked-opened : (object : Bool) → marked (opened forms object) ≡ false
+  pub marked-opened : (form : Form) → marked (opened forms form) ≡ false
   unfolding opened marked
-  marked-opened true = refl
-  marked-opened false = refl
+  marked-opened Object = refl
+  marked-opened Array = refl
 
   -- no key was seen
-  pub seen_in-opened : (k : ℕ) → k < 128 → seen_in (opened forms true) k ≡ false
+  pub seen_in-opened : (k : ℕ) → k < 128 → seen_in (opened forms Object) k ≡ false
   unfolding opened
-  seen_in-opened k h = seen_in-of-drop (opened forms true) k ∙ bit_at-zeros 80 k
+  seen_in-opened k h = seen_in-of-drop (opened forms Object) k ∙ bit_at-zeros 80 k
 
   -- an object has no edges
-  pub held_in-opened-object : (i : ℕ) → held_in (opened forms true) i ≡ false
+  pub held_in-opened-object : (i : ℕ) → held_in (opened forms Object) i ≡ false
   unfolding opened
-  held_in-opened-object i = held_in-of-drop (opened forms true) i ∙ bit_at-zeros 64 i
+  held_in-opened-object i = held_in-of-drop (opened forms Object) i ∙ bit_at-zeros 64 i
 
   -- an array has state 0 of every `arr` rule
-  pub held_in-opened-array : (j : ℕ) → T (held_in (opened forms false) j) ↔ ((r : ℕ) × T (has_form forms 2 r) × (16 * r ≡ j))
+  pub held_in-opened-array : (j : ℕ) → T (held_in (opened forms Array) j) ↔ ((r : ℕ) × T (has_form forms 2 r) × (16 * r ≡ j))
   unfolding opened
-  held_in-opened-array j = rw (held_in-of-drop (opened forms false) j) (bit_at-start_states forms 2 j)
+  held_in-opened-array j = rw (held_in-of-drop (opened forms Array) j) (bit_at-start_states forms 2 j)

@@ -29,10 +29,6 @@ module _ (fits : ℕ → Bool) (keys kinds : List ℕ) (k e x : ℕ) (q : x ≡ 
   unfolding fitting
   fitting-hit v r h w p = rw (eq-eqb (get_or keys e 0) k (sym q ∙ h)) (p ∙ ap fits w)
 
-  pub fitting-miss : (x ≡ k → ⊥) → false ≡ fitting fits keys kinds k e
-  unfolding fitting
-  fitting-miss h = rw (ne_eqb (get_or keys e 0) k (λ z. h (q ∙ z)))
-
 -- ---- an edge of an array
 module _ (fits : ℕ → Bool) (rules states kinds forms f : List ℕ) (e v : ℕ) (a : Bool) (q : v ≡ get_or kinds e 0) (p : a ≡ fits v) where
   pub stepping-miss : a ≡ false → false ≡ stepping fits rules states kinds forms f e

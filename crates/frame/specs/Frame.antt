@@ -1,8 +1,8 @@
 -- The frames of a work buffer and the parts of a frame: REQUIREMENT.md, section 5. Stated. Assumes nothing.
 use Rattle.std.specs.Prelude.{Bool, cond, ◌&&◌, List, [], ◌++◌, ℕ, ◌+◌, ◌*◌, ◌-◌, ◌/◌, min, eqb, ltb, leb, length, get_or, take, drop}
 use Rattle.laws.specs.Bits.{bit_at}
-use Rattle.frame.specs.declared.Kind.{Kind}
-use Rattle.frame.specs.declared.Kind.TheVariants.{Object, Array}
+use Rattle.table.specs.declared.kind.Form.{Form}
+use Rattle.table.specs.declared.kind.Form.TheVariants.{Object, Array}
 
 -- ---- the buffer
 
@@ -28,18 +28,13 @@ put_frame w l f = cond (has_frame (length w) l) (take (frame_start l) w ++ (f ++
 
 -- ---- the frame
 
--- byte 0, the kind, is 1 in an object; any other number counts as 2, an array
+-- byte 0, the number of the value's form, is 1 in an object; any other number counts as 2, an array
 unfoldable pub is_object : List ℕ → Bool
 is_object f = eqb (get_or f 0 0) 1
 
--- the kind as it counts
-unfoldable pub kind_in : List ℕ → Kind
-kind_in f = cond (is_object f) Object Array
-
--- the number of a kind, which is also that of the form of the rules that its values may fit: 1 obj, 2 arr
-abbrev pub number_of : Kind → ℕ
-number_of Object = 1
-number_of Array = 2
+-- the form as it counts
+unfoldable pub form_in : List ℕ → Form
+form_in f = cond (is_object f) Object Array
 
 -- byte 1: the current key's number; above 127 it counts as 255, unknown or none
 unfoldable pub current_key : List ℕ → ℕ

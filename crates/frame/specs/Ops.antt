@@ -1,9 +1,11 @@
 -- What opening, a finished key, a finished value and closing do to a frame: REQUIREMENT.md, section 5. Stated. Assumes nothing.
-use Rattle.std.specs.Prelude.{Bool, true, false, cond, ◌&&◌, List, ◌∷◌, ◌++◌, ℕ, zero, suc, ◌+◌, ◌*◌, ◌^◌, ltb, set, take, drop, replicate}
+use Rattle.std.specs.Prelude.{Bool, cond, ◌&&◌, List, ◌∷◌, ◌++◌, ℕ, zero, suc, ◌+◌, ◌*◌, ◌^◌, ltb, set, take, drop, replicate}
 use Rattle.laws.specs.Bits.{bit_at, set_bit, set_all}
 use Rattle.laws.specs.Lists.{any}
 use Rattle.laws.specs.Tab.{tab}
 use Rattle.table.specs.declared.kind.Finished.{Finished}
+use Rattle.table.specs.declared.kind.Form.{Form}
+use Rattle.table.specs.declared.kind.Form.TheVariants.{Object, Array}
 use Rattle.frame.specs.Frame.{is_object, current_key, marked, seen_in}
 use Rattle.frame.specs.Edges.{Edges, edge_count, has_form, state_number, fits_code, fitting, stepping, walking}
 
@@ -14,9 +16,9 @@ unfoldable pub start_states : List ℕ → ℕ → List ℕ
 start_states forms form = set_all (has_form forms form) (λ r. 16 * r) 32 (replicate 64 0)
 
 -- opening writes all 96 bytes: byte 1 is 255 in an object, and an array gets state 0 of every `arr` rule
-unfoldable pub opened : List ℕ → Bool → List ℕ
-opened forms true = 1 ∷ (255 ∷ replicate 94 0)
-opened forms false = 2 ∷ (replicate 31 0 ++ start_states forms 2)
+unfoldable pub opened : List ℕ → Form → List ℕ
+opened forms Object = 1 ∷ (255 ∷ replicate 94 0)
+opened forms Array = 2 ∷ (replicate 31 0 ++ start_states forms 2)
 
 -- ---- a finished key
 

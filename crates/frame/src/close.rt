@@ -1,13 +1,14 @@
 // Closing: REQUIREMENT.md, section 5.
 ghost use Rattle.std.specs.Prelude.{◌≡◌, ◌+◌, ◌*◌, ◌^◌, ◌<◌, ◌≤◌};
+ghost use Rattle.table.specs.Kind.{form_number};
 ghost use Rattle.frame.specs.Edges.{edges_in};
-ghost use Rattle.frame.specs.Frame.{number_of};
 ghost use Rattle.frame.specs.Ops.{key_states, walked, start_states, has_end, rule_set, closed};
 ghost use Rattle.frame.specs.InTable.{accepting_in};
 
-use crate::{Frame, Kind, States, edge, kind_of, open};
+use crate::{Frame, States, edge, form_of, open};
 use table::bits;
 use table::flat::Table;
+use table::kind::Form;
 
 // The states that the object's fitting edges of the key lead to.
 fn key_states<'a>(frame: &'a Frame, from: &'a States, table: &'a Table, key: u8) -> States
@@ -37,7 +38,7 @@ fn walk<'a>(frame: &'a Frame, table: &'a Table) -> States
     ensures { result ≡ walked (edges_in table.now) frame.now 0 (start_states table.now.forms 1) 128 }
 {
     let mut states = [0; 64];
-    open::add_starts(&mut states, table, Kind::Object);
+    open::add_starts(&mut states, table, Form::Object);
     for i in 0..16 {
         walk_byte(&mut states, frame, table, i);
     }
@@ -52,36 +53,36 @@ fn has_end<'a>(states: &'a States, table: &'a Table, r: usize) -> bool
     states[2 * r] & table.end(2 * r) != 0 || states[2 * r + 1] & table.end(2 * r + 1) != 0
 }
 
-// The values of a kind may fit rule r, and it has an end state among the states.
-fn accepts<'a>(states: &'a States, table: &'a Table, kind: Kind, r: usize) -> bool
+// Rule r is of a form, and has an end state among the states.
+fn accepts<'a>(states: &'a States, table: &'a Table, form: Form, r: usize) -> bool
     requires { r < 32 }
-    ensures { result ≡ accepting_in table.now (number_of kind) states.now r }
+    ensures { result ≡ accepting_in table.now (form_number form) states.now r }
 {
-    edge::is_of_kind(table, r, kind) && has_end(states, table, r)
+    edge::has_form(table, r, form) && has_end(states, table, r)
 }
 
-// The set with those of four rules that accept the states.
-fn with_four<'a>(set: u32, states: &'a States, table: &'a Table, kind: Kind, from: usize) -> u32
-    requires { (from + 4 ≤ 32) × (set ≡ rule_set (accepting_in table.now (number_of kind) states.now) from) }
-    ensures { result ≡ rule_set (accepting_in table.now (number_of kind) states.now) (from + 4) }
+// The set with those of four rules that are of a form and accept the states.
+fn with_four<'a>(set: u32, states: &'a States, table: &'a Table, form: Form, from: usize) -> u32
+    requires { (from + 4 ≤ 32) × (set ≡ rule_set (accepting_in table.now (form_number form) states.now) from) }
+    ensures { result ≡ rule_set (accepting_in table.now (form_number form) states.now) (from + 4) }
 {
     let mut all = set;
     for r in from..from + 4 {
-        if accepts(states, table, kind, r) {
+        if accepts(states, table, form, r) {
             all += 1 << r;
         }
     }
     all
 }
 
-// The rules that accept the states. Four rules without states are passed over at once.
-fn rule_set<'a>(states: &'a States, table: &'a Table, kind: Kind) -> u32
-    ensures { result ≡ rule_set (accepting_in table.now (number_of kind) states.now) 32 }
+// The rules of a form that accept the states. Four rules without states are passed over at once.
+fn rule_set<'a>(states: &'a States, table: &'a Table, form: Form) -> u32
+    ensures { result ≡ rule_set (accepting_in table.now (form_number form) states.now) 32 }
 {
     let mut set = 0;
     for i in 0..8 {
         if !bits::quiet(states, 8 * i) {
-            set = with_four(set, states, table, kind, 4 * i);
+            set = with_four(set, states, table, form, 4 * i);
         }
     }
     set
@@ -91,9 +92,9 @@ fn rule_set<'a>(states: &'a States, table: &'a Table, kind: Kind) -> u32
 pub fn close_frame<'a>(frame: &'a Frame, table: &'a Table) -> u32
     ensures { result ≡ closed (edges_in table.now) table.now.forms table.now.ends frame.now }
 {
-    match kind_of(frame) {
-        Kind::Object if 0 < frame[2] => 0,
-        Kind::Object => rule_set(&walk(frame, table), table, Kind::Object),
-        Kind::Array => rule_set(frame.last_chunk().unwrap(), table, Kind::Array),
+    match form_of(frame) {
+        Form::Object if 0 < frame[2] => 0,
+        Form::Object => rule_set(&walk(frame, table), table, Form::Object),
+        Form::Array => rule_set(frame.last_chunk().unwrap(), table, Form::Array),
     }
 }

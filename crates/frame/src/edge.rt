@@ -1,13 +1,14 @@
 // Edges of a table: how many count, the tests of one of them, and the states that some lead to.
 ghost use Rattle.std.specs.Prelude.{Bool, ◌≡◌, ℕ, ◌+◌, ◌*◌, ◌<◌, ◌≤◌, replicate};
 ghost use Rattle.laws.specs.Bits.{set_all};
+ghost use Rattle.table.specs.Kind.{form_number};
 ghost use Rattle.frame.specs.Edges.{edge_count, has_form};
-ghost use Rattle.frame.specs.Frame.{number_of};
 ghost use Rattle.frame.specs.InTable.{leaves, leads_to, fitting_in, stepping_in, walking_in};
 
-use crate::{Frame, Kind, States, mask};
+use crate::{Frame, States, mask};
 use table::bits;
 use table::flat::Table;
+use table::kind::Form;
 
 // How many edges of a table count: at most 512.
 pub fn count(table: &Table) -> usize
@@ -39,19 +40,19 @@ fn next_state(table: &Table, e: usize) -> usize
     state_number(table.rule(e), table.next(e))
 }
 
-// The values of a kind may fit rule r.
-pub fn is_of_kind(table: &Table, r: usize, kind: Kind) -> bool
+// Rule r is of a form.
+pub fn has_form(table: &Table, r: usize, form: Form) -> bool
     requires { r < 32 }
-    ensures { result ≡ has_form table.now.forms (number_of kind) r }
+    ensures { result ≡ has_form table.now.forms (form_number form) r }
 {
-    table.form(r) == kind.number()
+    table.form(r) == form.number()
 }
 
 // A rule is an arr rule; one above 31 is not.
 fn is_arr(table: &Table, rule: u8) -> bool
     ensures { result ≡ has_form table.now.forms 2 rule }
 {
-    rule < 32 && is_of_kind(table, usize::from(rule), Kind::Array)
+    rule < 32 && has_form(table, usize::from(rule), Form::Array)
 }
 
 // Edge e is one of the key, and the mask has its kind.

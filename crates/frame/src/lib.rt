@@ -12,11 +12,11 @@ mod value; // value.rt: a finished value
 ghost use Rattle.std.specs.Prelude.{List, [], true, false, ◌≡◌, ℕ, ◌+◌, ◌≤◌, ◌++◌, length, take, drop, MatchOption};
 ghost use Rattle.std.specs.Fn.{FnOnceReturnsAtMut};
 ghost use Rattle.frame.specs.Edges.{edges_in};
-ghost use Rattle.frame.specs.Frame.{frame_count, has_frame, frame_start, frame_at, put_frame, kind_in, number_of};
+ghost use Rattle.frame.specs.Frame.{frame_count, has_frame, frame_start, frame_at, put_frame, form_in};
 ghost use Rattle.frame.specs.Ops.{opened, keyed, valued, closed};
 
 use table::flat::Table;
-use table::kind::Finished;
+use table::kind::{Finished, Form};
 
 // The bytes of a frame.
 pub const FRAME: usize = 96;
@@ -24,27 +24,11 @@ pub const FRAME: usize = 96;
 // The most levels.
 pub const LEVELS: usize = 64;
 
-// A frame: the kind of its value, the current key, a mark, the keys seen, and from byte 32 on an object's fitting edges or an array's states.
+// A frame: the form of its value, the current key, a mark, the keys seen, and from byte 32 on an object's fitting edges or an array's states.
 pub type Frame = [u8; FRAME];
 
 // States of a table's rules: bit q of rule r is bit 16 r + q.
 pub type States = [u8; 64];
-
-// The kind of an open value. Its number stands in a frame of the kind, and in a table as the form of the rules that such values may fit.
-#[derive(Clone, Copy, PartialEq, Eq)]
-pub enum Kind {
-    Object = 1,
-    Array = 2,
-}
-
-impl Kind {
-    // The number that a frame and a table have for the kind.
-    fn number(self) -> u8
-        ensures { result ≡ number_of self }
-    {
-        self as u8
-    }
-}
 
 // The number of frames of a buffer of n bytes: one for each 96, at most 64.
 // Ruled out: a program that counts a frame of fewer than 96 bytes at the end; one that counts a 65th.
@@ -93,34 +77,34 @@ fn change_frame<F: FnOnce(&mut Frame)>(work: &mut [u8], level: usize, change: F)
     }
 }
 
-// The kind of the value that a frame is of: any number but that of an object counts as that of an array.
-fn kind_of(frame: &Frame) -> Kind
-    ensures { result ≡ kind_in frame.now }
+// The form of the value that a frame is of: any number but that of an object counts as that of an array.
+fn form_of(frame: &Frame) -> Form
+    ensures { result ≡ form_in frame.now }
 {
-    if frame[0] == Kind::Object.number() {
-        Kind::Object
+    if frame[0] == Form::Object.number() {
+        Form::Object
     } else {
-        Kind::Array
+        Form::Array
     }
 }
 
-// The kind of the value that is open at a level.
+// The form of the value that is open at a level: an object or an array.
 // Ruled out: a program that hands out the byte as it stands; one that reads the frame of the level below.
-pub fn kind_at(work: &[u8], level: usize) -> Kind
-    ensures { result ≡ kind_in (frame_at work.now level) }
+pub fn form_at(work: &[u8], level: usize) -> Form
+    ensures { result ≡ form_in (frame_at work.now level) }
 {
     match frame_of(work, level) {
-        Some(frame) => kind_of(frame),
-        None => Kind::Array,
+        Some(frame) => form_of(frame),
+        None => Form::Array,
     }
 }
 
 // Opens an object or an array at a level: all 96 bytes of its frame are written, and no other byte.
 // Ruled out: a program that leaves edges or states of an earlier value; one that gives an array the states of `obj` rules.
-pub fn open_level(work: &mut [u8], level: usize, object: bool, table: &Table)
-    ensures { work.new ≡ put_frame work.old level (opened table.now.forms object) }
+pub fn open_level(work: &mut [u8], level: usize, form: Form, table: &Table)
+    ensures { work.new ≡ put_frame work.old level (opened table.now.forms form) }
 {
-    change_frame(work, level, |frame| open::open_frame(frame, object, table));
+    change_frame(work, level, |frame| open::open_frame(frame, form, table));
 }
 
 // A finished key in the frame of a level: the number of a key of the book, or any number above 127 for a key that it does not have.

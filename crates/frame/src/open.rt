@@ -1,46 +1,45 @@
 // Opening: REQUIREMENT.md, section 5.
 ghost use Rattle.std.specs.Prelude.{List, ◌≡◌, ℕ, ◌+◌, ◌*◌, ◌≤◌, length};
 ghost use Rattle.laws.specs.Bits.{set_all};
+ghost use Rattle.table.specs.Kind.{form_number};
 ghost use Rattle.frame.specs.Edges.{has_form};
-ghost use Rattle.frame.specs.Frame.{number_of};
 ghost use Rattle.frame.specs.Ops.{opened};
 
-use crate::{FRAME, Frame, Kind, edge};
+use crate::{FRAME, Frame, edge};
 use table::flat::Table;
+use table::kind::Form;
 
-// Adds state 0 of those of eight rules that a kind's values may fit. State 0 of rule r is bit 0 of byte 2 r.
-fn add_eight(states: &mut [u8], table: &Table, kind: Kind, from: usize)
+// Adds state 0 of those of eight rules that are of a form. State 0 of rule r is bit 0 of byte 2 r.
+fn add_eight(states: &mut [u8], table: &Table, form: Form, from: usize)
     requires { (length states.old ≡ 64) × (from + 8 ≤ 32) }
-    ensures { (xs : List ℕ) → states.old ≡ set_all (has_form table.now.forms (number_of kind)) (λ r. 16 * r) from xs → states.new ≡ set_all (has_form table.now.forms (number_of kind)) (λ r. 16 * r) (from + 8) xs }
+    ensures { (xs : List ℕ) → states.old ≡ set_all (has_form table.now.forms (form_number form)) (λ r. 16 * r) from xs → states.new ≡ set_all (has_form table.now.forms (form_number form)) (λ r. 16 * r) (from + 8) xs }
 {
     for r in from..from + 8 {
-        states[2 * r] |= u8::from(edge::is_of_kind(table, r, kind));
+        states[2 * r] |= u8::from(edge::has_form(table, r, form));
     }
 }
 
-// Adds state 0 of every rule that a kind's values may fit. Eight rules without lines are passed over at once.
+// Adds state 0 of every rule of a form. Eight rules without lines are passed over at once.
 // Stays: a slice, and written in place, since an array that is given back costs 7 in 100 instructions on a stream of numbers.
-pub fn add_starts(states: &mut [u8], table: &Table, kind: Kind)
+pub fn add_starts(states: &mut [u8], table: &Table, form: Form)
     requires { length states.old ≡ 64 }
-    ensures { states.new ≡ set_all (has_form table.now.forms (number_of kind)) (λ r. 16 * r) 32 states.old }
+    ensures { states.new ≡ set_all (has_form table.now.forms (form_number form)) (λ r. 16 * r) 32 states.old }
 {
     for i in 0..4 {
         if !table.no_forms(8 * i) {
-            add_eight(states, table, kind, 8 * i);
+            add_eight(states, table, form, 8 * i);
         }
     }
 }
 
 // Writes all 96 bytes of a fresh frame.
-pub fn open_frame(frame: &mut Frame, object: bool, table: &Table)
-    ensures { frame.new ≡ opened table.now.forms object }
+pub fn open_frame(frame: &mut Frame, form: Form, table: &Table)
+    ensures { frame.new ≡ opened table.now.forms form }
 {
     *frame = [0; FRAME];
-    if object {
-        frame[0] = Kind::Object.number();
-        frame[1] = 255;
-    } else {
-        frame[0] = Kind::Array.number();
-        add_starts(&mut frame[32..], table, Kind::Array);
+    frame[0] = form.number();
+    match form {
+        Form::Object => frame[1] = 255,
+        Form::Array => add_starts(&mut frame[32..], table, form),
     }
 }

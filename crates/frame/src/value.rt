@@ -5,10 +5,10 @@ ghost use Rattle.frame.specs.Edges.{edges_in, edge_count};
 ghost use Rattle.frame.specs.Ops.{valued};
 ghost use Rattle.frame.specs.InTable.{fitting_in};
 
-use crate::{Frame, Kind, edge, kind_of, mask};
+use crate::{Frame, edge, form_of, mask};
 use table::bits;
 use table::flat::Table;
-use table::kind::Finished;
+use table::kind::{Finished, Form};
 
 // Adds the edges of the key whose kinds the mask has.
 fn add_edges(frame: &mut Frame, table: &Table, key: u8, m: u64)
@@ -24,14 +24,14 @@ pub fn value_frame(frame: &mut Frame, table: &Table, v: Finished)
     ensures { frame.new ≡ valued (edges_in table.now) table.now.edge_kind table.now.forms v frame.old }
 {
     let m = mask::mask_of(v);
-    match kind_of(frame) {
-        Kind::Object => {
+    match form_of(frame) {
+        Form::Object => {
             let key = frame[1];
             if key < 128 {
                 add_edges(frame, table, key, m);
             }
         }
-        Kind::Array => {
+        Form::Array => {
             let states = edge::led_to(table, |e| edge::stepping(table, frame, e, m));
             frame[32..].copy_from_slice(&states);
         }

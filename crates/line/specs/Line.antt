@@ -1,13 +1,13 @@
 -- How the code's answers tell what a line says. Derived: `judge` joins them to `say_line`. Assumes nothing.
 use Rattle.std.specs.Prelude.{Bool, cond, ◌&&◌, List, ℕ, Option, Some, None, Result, Ok, Err}
 use Rattle.laws.specs.Lists.{same}
+use Rattle.table.specs.declared.kind.Form.TheVariants.{Object, Array}
+use Rattle.table.specs.declared.kind.Form.{Form as CodeForm}
 use Rattle.book.specs.Text.{is_number}
 use Rattle.book.specs.Entry.{Form, obj, arr, Entry, edge, end_state}
 use Rattle.book.specs.Line.{Said, bad, good, say_fields, small, entry_of, is_kind, is_key, word_obj, word_end, dash}
 use Rattle.line.specs.declared.Fault.{Fault}
 use Rattle.line.specs.declared.Fault.TheVariants.{Malformed, AboveLimit, TooMany, FormChanged, Repeated}
-use Rattle.line.specs.declared.Form.{Form as LineForm}
-use Rattle.line.specs.declared.Form.TheVariants.{Obj, Arr}
 use Rattle.line.specs.declared.Sort.{Sort}
 use Rattle.line.specs.declared.Sort.TheVariants.{End, Edge}
 use Rattle.line.specs.declared.Line.{Line}
@@ -22,9 +22,9 @@ fault_number FormChanged = 6
 fault_number Repeated = 7
 
 -- the form of a line
-abbrev pub form_in : LineForm → Form
-form_in Obj = obj
-form_in Arr = arr
+abbrev pub form_in : CodeForm → Form
+form_in Object = obj
+form_in Array = arr
 
 -- the entry of a line by what it is: rule, form and state
 abbrev pub entry_as : Sort → ℕ → Form → ℕ → Entry

@@ -6,7 +6,7 @@ ghost use Rattle.laws.specs.Lists.{same};
 ghost use Rattle.book.specs.Line.{bad, formed as isFormed, form_of, key_of, say_line, word_end, dash};
 ghost use Rattle.line.specs.Line.{form_in, entry_in, said, say_six, small_entry, keyed, formed_end};
 
-use table::kind::ValueKind;
+use table::kind::{Form, ValueKind};
 
 // Why a line is refused: refusals 3 to 7. A line by itself has only the first two.
 #[derive(Clone, Copy, PartialEq, Eq)]
@@ -16,13 +16,6 @@ pub enum Fault {
     TooMany,
     FormChanged,
     Repeated,
-}
-
-// The form of a rule.
-#[derive(Clone, Copy, PartialEq, Eq)]
-pub enum Form {
-    Obj,
-    Arr,
 }
 
 // What an edge says. Without a key, the key is empty.
@@ -138,9 +131,9 @@ fn form_named(field: &[u8]) -> Form
     ensures { form_in result ≡ form_of field.now }
 {
     if field == b"obj".as_slice() {
-        Form::Obj
+        Form::Object
     } else {
-        Form::Arr
+        Form::Array
     }
 }
 

@@ -5,7 +5,7 @@ ghost use Rattle.load.specs.Check.{dangles_kind, clash_at, clashes_at, late_at, 
 
 use crate::{Refusal, read};
 use table::flat::Table;
-use table::kind::ValueKind;
+use table::kind::{Form, ValueKind};
 
 // A kind refers to a rule without lines. A rule that is past the forms has none.
 #[tactic(auto, unfolding(crate::specs::Check::dangles_kind))]
@@ -36,7 +36,7 @@ fn clash_at(table: &Table, a: usize, b: usize) -> bool
     let first = table.cell(a);
     let second = table.cell(b);
     let rising = first.key < second.key;
-    (table.form_of(first.rule) == 1)
+    (table.form_of(first.rule) == Form::Object.number())
         & ((first.rule == second.rule) & ((first.next == second.state) & !rising))
 }
 

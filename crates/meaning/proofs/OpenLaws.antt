@@ -9,13 +9,14 @@ use lib.Dec.{T, eqb, eqb→eq, ltb, ltb→lt, lt→ltb}
 use borrow.Author.Tests.{lt-ltb, le-ltb, eq-eqb}
 use Rattle.laws.proofs.TestLaws.{T-of-true, T_and, T-and-left, T-and-right}
 use Rattle.table.specs.Table.{Table}
+use Rattle.table.specs.declared.kind.Form.TheVariants.{Object, Array}
 use Rattle.book.specs.Entry.{arr, Entry}
 use Rattle.book.specs.Holds.{form_code}
 use Rattle.runs.specs.Walk.{OpenObject, start_of, key_count, number_in, at_opening, after_key}
 use Rattle.runs.proofs.StepLaws.{in_keys-at_opening, in_keys-after_key}
 use Rattle.frame.specs.Frame.{current_key, marked, seen_in, held_in}
 use Rattle.frame.specs.Ops.{opened, keyed}
-use Rattle.frame.proofs.OpenLaws.{length-opened, is_object-opened, current_key-opened, marked-opened, seen_in-opened, held_in-opened-object, held_in-opened-array}
+use Rattle.frame.proofs.OpenLaws.{length-opened, is_object-opened-object, is_object-opened-array, current_key-opened, marked-opened, seen_in-opened, held_in-opened-object, held_in-opened-array}
 use Rattle.frame.proofs.KeyLaws.{length-keyed, is_object-keyed, held_in-keyed, current_key-keyed, marked-keyed-known, marked-keyed-unknown, seen_in-keyed}
 use Rattle.meaning.specs.Shows.{Carries, ShowsArray, ShowsKey, ShowsObject}
 use Rattle.meaning.proofs.EdgeLaws.{key_count-le}
@@ -25,21 +26,21 @@ module _ {t : Table} {es : List Entry} (kept : Carries t es) where
   -- ---- opening
 
   -- an array that was just opened has state 0 of every `arr` rule
-  pub shows-open-array : ShowsArray (opened t.forms false) (start_of es arr)
+  pub shows-open-array : ShowsArray (opened t.forms Array) (start_of es arr)
   unfolding form_code
   shows-open-array = record {
-    long = length-opened t.forms false;
-    array = is_object-opened t.forms false;
-    states = shows-start kept arr (held_in (opened t.forms false)) (held_in-opened-array t.forms);
+    long = length-opened t.forms Array;
+    array = is_object-opened-array t.forms;
+    states = shows-start kept arr (held_in (opened t.forms Array)) (held_in-opened-array t.forms);
   }
 
   -- an object that was just opened has no key, no edge and no mark
-  pub shows-open-object : ShowsObject es (opened t.forms true) (at_opening es)
+  pub shows-open-object : ShowsObject es (opened t.forms Object) (at_opening es)
   unfolding at_opening
   shows-open-object = record {
-    long = length-opened t.forms true;
-    object = is_object-opened t.forms true;
-    mark = marked-opened t.forms true;
+    long = length-opened t.forms Object;
+    object = is_object-opened-object t.forms;
+    mark = marked-opened t.forms Object;
     current = rw (le-ltb (key_count es) (key_count es) (omega arith)) (current_key-opened t.forms);
     seen = seen_in-opened t.forms;
     held = λ e l. held_in-opened-object t.forms e;

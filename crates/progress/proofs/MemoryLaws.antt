@@ -6,6 +6,7 @@ use Prim.Native.Nat.{ℕ, ◌-◌}
 use lib.Dec.{eqb}
 use lib.ListN.{length}
 use Rattle.table.specs.Table.{Table}
+use Rattle.table.specs.declared.kind.Form.{Form}
 use Rattle.table.specs.declared.kind.Finished.{Finished}
 use Rattle.table.specs.declared.kind.Finished.TheVariants as Done
 use Rattle.table.specs.Keys.{key_found}
@@ -55,8 +56,8 @@ pub length-value_at : (t : Table) (w : List ℕ) (l : ℕ) (v : Finished) → le
 unfolding value_at
 length-value_at t w l v = length-worked w l (valued (edges_in t) t.edge_kind t.forms v) (keeps-valued t v)
 
-pub length-opened-frame : (t : Table) (w : List ℕ) (l : ℕ) (object : Bool) → length (put_frame w l (opened t.forms object)) ≡ length w
-length-opened-frame t w l object = length-put_frame w (opened t.forms object) l (length-opened t.forms object)
+pub length-opened-frame : (t : Table) (w : List ℕ) (l : ℕ) (form : Form) → length (put_frame w l (opened t.forms form)) ≡ length w
+length-opened-frame t w l form = length-put_frame w (opened t.forms form) l (length-opened t.forms form)
 
 pub length-keyed-frame : (w : List ℕ) (l c : ℕ) → length (put_frame w l (keyed c (frame_at w l))) ≡ length w
 length-keyed-frame w l c = length-worked w l (keyed c) (keeps-keyed c)

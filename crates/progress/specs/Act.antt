@@ -10,6 +10,7 @@ use Rattle.json_text.specs.declared.lexer.Act.TheVariants as A
 use Rattle.whole.specs.declared.Decimal.{Decimal}
 use Rattle.whole.specs.Fresh.{fresh}
 use Rattle.whole.specs.Count.{bounded, counted, is_whole}
+use Rattle.table.specs.declared.kind.Form.TheVariants.{Object, Array}
 use Rattle.table.specs.declared.kind.Scalar.{Scalar}
 use Rattle.table.specs.declared.kind.Scalar.TheVariants as K
 use Rattle.progress.specs.declared.Fault.{Fault}
@@ -90,8 +91,8 @@ closing false d = To.Close
 -- what is to be done at a byte with an act; e tells whether the byte ends the number d
 abbrev pub task_of : Act → Bool → Decimal → ℕ → ℕ → Task
 task_of A.Pass e d len c = number_task e d
-task_of A.OpenArray e d len c = To.Open false
-task_of A.OpenObject e d len c = To.Open true
+task_of A.OpenArray e d len c = To.Open Array
+task_of A.OpenObject e d len c = To.Open Object
 task_of A.Close e d len c = closing e d
 task_of A.KeyChar e d len c = key_task len c
 task_of A.KeyEnd e d len c = To.Named

@@ -6,7 +6,7 @@ use super::key::key_len;
 use super::{Fault, Task};
 use json_text::lexer::Act;
 use json_text::word::Word;
-use table::kind::Scalar;
+use table::kind::{Form, Scalar};
 use whole::Decimal;
 
 // A value that is opened is too deep where the buffer has no frame for it.
@@ -128,8 +128,8 @@ pub fn task_of(a: Act, ends: bool, d: Decimal, len: u8, c: u32) -> Task
 {
     match a {
         Act::Pass => number_task(ends, d),
-        Act::OpenArray => Task::Open(false),
-        Act::OpenObject => Task::Open(true),
+        Act::OpenArray => Task::Open(Form::Array),
+        Act::OpenObject => Task::Open(Form::Object),
         Act::Close => closing(ends, d),
         Act::KeyChar => key_task(len, c),
         Act::KeyEnd => Task::Named,

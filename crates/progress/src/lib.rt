@@ -6,7 +6,7 @@ ghost use Rattle.progress.specs.Fresh.{fresh_progress};
 ghost use Rattle.progress.specs.Progress.{counted, faulted, moved, acted, sound, advanced, judged};
 
 use json_text::lexer::{Awaited, Mode, Step};
-use table::kind::Scalar;
+use table::kind::{Form, Scalar};
 use verdict::Verdict;
 use whole::Decimal;
 
@@ -56,8 +56,8 @@ pub enum Task {
     Put(u8),
     // the key is finished
     Named,
-    // an object is opened, or an array
-    Open(bool),
+    // an object or an array is opened
+    Open(Form),
     // a scalar is finished
     Finish(Scalar),
     Close,

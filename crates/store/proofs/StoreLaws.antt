@@ -8,7 +8,9 @@ use lib.ListN.{length, get_or}
 use borrow.Author.Tests.{le-leb, lt-leb}
 use Rattle.laws.specs.Bits.{bit_at}
 use Rattle.table.specs.Table.{Table}
-use Rattle.table.specs.Kind.{code_of}
+use Rattle.table.specs.Kind.{form_number, code_of}
+use Rattle.table.specs.declared.kind.Form.{Form}
+use Rattle.table.specs.declared.kind.Form.TheVariants.{Object, Array}
 use Rattle.std.proofs.Common.{Option, unwrap_or}
 use Rattle.table.specs.Keys.{table_keys, key_index}
 use Rattle.table.proofs.KeyLaws.{key_index-or, number_of-le, length-table_keys}
@@ -77,10 +79,20 @@ module _ (n : ℕ) (t : Table) (f : ℕ) (c : Cell) (k : List ℕ) (b : Bool) (p
       take_edge-old v e y = rw (sym p ∙ nb, lt-leb 512 t.edges (omega arith), test e, y)
 
 -- ---- entries
-module _ (n : ℕ) (t : Table) (l : Line) (f : ℕ) (qf : f ≡ form_code (form_in l.form)) (b : Bool)
+
+-- the number of a form is the code of the book's
+form_number-is_code : (f : Form) → form_number f ≡ form_code (form_in f)
+unfolding form_code
+form_number-is_code Object = refl
+form_number-is_code Array = refl
+
+module _ (n : ℕ) (t : Table) (l : Line) (f : ℕ) (qf : f ≡ form_number l.form) (b : Bool)
     (x : ℕ) (qx : x ≡ get_or t.forms l.rule 0) (qy : b ≡ form_changes x f) where
+  code : f ≡ form_code (form_in l.form)
+  code = qf ∙ form_number-is_code l.form
+
   test-form : {y : Bool} → b ≡ y → form_changes (get_or t.forms l.rule 0) (form_code (form_in l.form)) ≡ y
-  test-form e = sym (ap (form_changes (get_or t.forms l.rule 0)) qf) ∙ sym (qy ∙ ap (λ (i : ℕ). form_changes i f) qx) ∙ e
+  test-form e = sym (ap (form_changes (get_or t.forms l.rule 0)) code) ∙ sym (qy ∙ ap (λ (i : ℕ). form_changes i f) qx) ∙ e
 
   pub take_entry-form : b ≡ true → taken 6 t ≡ take_entry n t (entry_in l)
   unfolding take_entry
@@ -94,8 +106,8 @@ module _ (n : ℕ) (t : Table) (l : Line) (f : ℕ) (qf : f ≡ form_code (form_
     pub take_entry-edge : (v : EdgeLine) (m c : ℕ) (w : Taken) → l.sort ≡ Edge v → m ≡ key_number (table_keys t) v.key.now → c ≡ code_of v.kind
         → w ≡ take_edge n t f (record { rule = l.rule; state = l.state; key = m; kind = c; next = v.next }) v.key.now → w ≡ take_entry n t (entry_in l)
     unfolding take_entry
-    take_entry-edge v m c w is qm qc e = e ∙ rw (is, test-form nb, qc, sym qm, qf)
+    take_entry-edge v m c w is qm qc e = e ∙ rw (is, test-form nb, qc, sym qm, code)
 
     pub take_entry-end : (w : Taken) → l.sort ≡ End → w ≡ take_end t l.rule f l.state → w ≡ take_entry n t (entry_in l)
     unfolding take_entry
-    take_entry-end w is e = e ∙ rw (is, test-form nb, qf)
+    take_entry-end w is e = e ∙ rw (is, test-form nb, code)

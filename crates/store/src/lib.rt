@@ -4,12 +4,12 @@
 ghost use Rattle.std.specs.Prelude.{◌&&◌, ◌≡◌, ◌+◌, ◌*◌, ◌<◌, ◌≤◌, eqb, length};
 ghost use Rattle.table.specs.Limits.{WithinLimits};
 ghost use Rattle.table.specs.Keys.{table_keys};
-ghost use Rattle.book.specs.Holds.{key_number, form_code};
-ghost use Rattle.line.specs.Line.{form_in, entry_in};
+ghost use Rattle.book.specs.Holds.{key_number};
+ghost use Rattle.line.specs.Line.{entry_in};
 ghost use Rattle.store.specs.Proper.{Proper};
 ghost use Rattle.store.specs.Store.{has_cell, is_new, form_changes, taken, fault_in, take_edge, take_end, take_entry};
 
-use line::{Fault, Form, Line, Sort};
+use line::{Fault, Line, Sort};
 use table::flat::{Cell, Table};
 
 // ---- edges
@@ -46,18 +46,6 @@ fn is_new(n: usize, k: usize, m: usize) -> bool
 }
 
 // ---- entries
-
-// The code of a form in a table; 0 stands for none there.
-// Stays: a number, since it is the byte that the table holds.
-#[tactic(auto, unfolding(book::specs::Holds::form_code))]
-fn form_code(form: Form) -> u8
-    ensures { result ≡ form_code (form_in form) }
-{
-    match form {
-        Form::Obj => 1,
-        Form::Arr => 2,
-    }
-}
 
 // A rule with lines has another form.
 #[tactic(auto, unfolding(crate::specs::Store::form_changes))]
@@ -109,7 +97,7 @@ pub fn take_entry(table: &mut Table, n: u16, l: &Line) -> Result<(), Fault>
     requires { WithinLimits table.old × Proper (entry_in l.now) }
     ensures { taken (fault_in result) table.new ≡ take_entry n table.old (entry_in l.now) }
 {
-    let form = form_code(l.form);
+    let form = l.form.number();
     if form_changes(table.form_of(l.rule), form) {
         return Err(Fault::FormChanged);
     }

@@ -24,7 +24,7 @@ use Rattle.reader.specs.Answer.{Answer}
 use Rattle.reader.specs.Machine.{Outcome, memory_of, feeding, feed_of, closing, close_of}
 use Rattle.stream.specs.Paper.{feed}
 use Rattle.reader.proofs.RefusalLaws.{through-elim}
-use Rattle.stream.specs.Lent.{Spares, level_of, mode_of, is_in_token, byte_fed, EndsToken, ByteWrites, then_fed, NotOpened, Lent}
+use Rattle.stream.specs.Lent.{Spares, level_of, mode_of, is_in_token, byte_fed, EndsToken, form_opened, ByteWrites, then_fed, NotOpened, Lent}
 use Rattle.stream.proofs.CallLaws.{unchanged-of-refused}
 use Rattle.stream.proofs.FedLaws.{gate_of, bounds-of-open, IsSound, Idles, ways-of-byte, fed-none, fed-in-two}
 use Rattle.stream.proofs.NumberLaws.{fed-of-number-end}
@@ -59,7 +59,7 @@ module _ (r : Reader) (t : Table) (w : List ℕ) (b : ℕ) where
 
   byte-of-sound : IsSound r t w b → ByteWrites r t w b (byte_fed r t w b)
   byte-of-sound s =
-      let long : length (opened t.forms (eqb b 0x7B)) ≡ 96 = length-opened t.forms (eqb b 0x7B) in
+      let long : length (opened t.forms (form_opened b)) ≡ 96 = length-opened t.forms (form_opened b) in
       let frame : (q : level_of (byte_fed r t w b).reader ≡ level_of r + 1) → has_frame (length w) (level_of r + 1) ≡ true
       = λ q. frame-of-level r t w b s (level_of r + 1) q (omega arith) in
       record {

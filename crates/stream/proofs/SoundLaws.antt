@@ -37,7 +37,7 @@ use Rattle.reader.specs.declared.Reader.{Reader}
 use Rattle.reader.specs.Machine.{Outcome, memory_of, closing, close_of}
 use Rattle.reader.specs.Refusals.{let_in, within_reader}
 use Rattle.reader.proofs.RefusalLaws.{room-of-call, through-elim}
-use Rattle.stream.specs.Lent.{Outside, Spares, with_value, with_key, rules_of, level_of, mode_of, is_in_token, word_kind, is_faulty, says_faulty, faulty_in, byte_fed}
+use Rattle.stream.specs.Lent.{Outside, Spares, with_value, with_key, rules_of, level_of, mode_of, is_in_token, word_kind, is_faulty, says_faulty, faulty_in, form_opened, byte_fed}
 use Rattle.stream.proofs.LexerLaws.{Tells, tells-step_of, placed-step_of, key_ended, text-ended, word-ended}
 use Rattle.stream.proofs.FedLaws.{gate_of, bounds-of-open, step_at, moved_by, task_by, IsSound, progress-fed, work-fed}
 use Rattle.stream.proofs.TaskLaws.{Told, told-of-act, no_finish-of-between, opens-of-task, closes-of-task, between-of-task}
@@ -121,7 +121,7 @@ module _ (r : Reader) (t : Table) (w : List ℕ) (b : ℕ) (s : IsSound r t w b)
       has_frame-of-le r.frames (length w) l g.1 (room-of-call (within_reader r) r.frames t (length w) s.gate) h (rw q at level-le)
 
   -- a sound byte that opens a level writes all bytes of its frame
-  pub sound-opens : level_of o.reader ≡ level_of r + 1 → o.work ≡ put_frame w (level_of r + 1) (opened t.forms (eqb b 0x7B))
+  pub sound-opens : level_of o.reader ≡ level_of r + 1 → o.work ≡ put_frame w (level_of r + 1) (opened t.forms (form_opened b))
   sound-opens q = work-fed r t w b s ∙ opens-of-task t (memory_of r w) next b step.ends task told (sym level-fed ∙ q)
 
   -- a sound byte that closes a value finishes it in the value that it stands in

@@ -4,7 +4,7 @@ use mathlib.Core.Bool.{Bool, true, false, cond}
 use mathlib.Core.Path.{◌≡◌, refl, sym, ◌∙◌}
 use Prim.Native.Nat.{ℕ, ◌+◌, ◌-◌}
 use native.Mathlib.Omega.{arith}
-use lib.Dec.{eqb, ltb}
+use lib.Dec.{ltb}
 use Rattle.laws.proofs.TestLaws.{true-neq-false, cond-elim}
 use Rattle.json_text.specs.declared.lexer.Act.{Act}
 use Rattle.json_text.specs.declared.lexer.Act.TheVariants as A
@@ -19,7 +19,7 @@ use Rattle.progress.specs.declared.Task.{Task}
 use Rattle.progress.specs.declared.Task.TheVariants as To
 use Rattle.progress.specs.Act.{open_fault, open_level, first_fault, level_after, key_task, task_of}
 use Rattle.progress.specs.Memory.{Mem, value_at, rules_at, close_at, perform}
-use Rattle.stream.specs.Lent.{with_value, rules_of}
+use Rattle.stream.specs.Lent.{with_value, rules_of, form_opened}
 use Rattle.stream.proofs.LexerLaws.{OpensBy, Between}
 use Rattle.stream.proofs.SpareLaws.{with_value-none}
 
@@ -36,16 +36,16 @@ LevelBy (To.Finish s) l k = k ≡ l
 LevelBy To.Close l k = k ≡ l - 1
 LevelBy (To.FinishClose s) l k = k ≡ l - 1
 
--- what a byte opens: `{` an object, any other opening byte an array
-abbrev pub ObjectBy : Task → ℕ → Type 0
-ObjectBy To.Idle b = Unit {0}
-ObjectBy To.Begin b = Unit {0}
-ObjectBy (To.Put c) b = Unit {0}
-ObjectBy To.Named b = Unit {0}
-ObjectBy (To.Open o) b = o ≡ eqb b 0x7B
-ObjectBy (To.Finish s) b = Unit {0}
-ObjectBy To.Close b = Unit {0}
-ObjectBy (To.FinishClose s) b = Unit {0}
+-- a byte that opens a value opens one of the task's form
+abbrev pub FormBy : Task → ℕ → Type 0
+FormBy To.Idle b = Unit {0}
+FormBy To.Begin b = Unit {0}
+FormBy (To.Put c) b = Unit {0}
+FormBy To.Named b = Unit {0}
+FormBy (To.Open o) b = o ≡ form_opened b
+FormBy (To.Finish s) b = Unit {0}
+FormBy To.Close b = Unit {0}
+FormBy (To.FinishClose s) b = Unit {0}
 
 -- a number and its value are finished at once only where the byte ends a number
 abbrev pub EndsBy : Task → Bool → Type 0
@@ -61,7 +61,7 @@ EndsBy (To.FinishClose s) e = e ≡ true
 -- what a task tells at level l, where the level is `next` after it and e says whether the byte b ends a number
 pub record Told (k : Task) (b l next : ℕ) (e : Bool) : Type 0 where
   pub level : LevelBy k l next
-  pub object : ObjectBy k b
+  pub form : FormBy k b
   pub ends : EndsBy k e
 
 -- a byte without a fault opens a level where there is a frame for it
@@ -76,26 +76,26 @@ open_level-of-sound l n = go (ltb l n)
 module _ (b l n : ℕ) (d : Decimal) (len c : ℕ) where
   pub told-of-act : (a : Act) (e : Bool) → first_fault a l n ≡ None → OpensBy a b → Told (task_of a e d len c) b l (level_after a l n) e
   unfolding key_task
-  told-of-act A.Fault e f o = record { level = refl; object = tt; ends = tt }
-  told-of-act A.Pass true f o = record { level = refl; object = tt; ends = tt }
-  told-of-act A.Pass false f o = record { level = refl; object = tt; ends = tt }
-  told-of-act A.OpenArray e f o = record { level = open_level-of-sound l n f; object = sym o; ends = tt }
-  told-of-act A.OpenObject e f o = record { level = open_level-of-sound l n f; object = sym o; ends = tt }
-  told-of-act A.Close true f o = record { level = refl; object = tt; ends = refl }
-  told-of-act A.Close false f o = record { level = refl; object = tt; ends = tt }
-  told-of-act A.KeyStart e f o = record { level = refl; object = tt; ends = tt }
+  told-of-act A.Fault e f o = record { level = refl; form = tt; ends = tt }
+  told-of-act A.Pass true f o = record { level = refl; form = tt; ends = tt }
+  told-of-act A.Pass false f o = record { level = refl; form = tt; ends = tt }
+  told-of-act A.OpenArray e f o = record { level = open_level-of-sound l n f; form = rw o; ends = tt }
+  told-of-act A.OpenObject e f o = record { level = open_level-of-sound l n f; form = rw o; ends = tt }
+  told-of-act A.Close true f o = record { level = refl; form = tt; ends = refl }
+  told-of-act A.Close false f o = record { level = refl; form = tt; ends = tt }
+  told-of-act A.KeyStart e f o = record { level = refl; form = tt; ends = tt }
   told-of-act A.KeyChar e f o =
       let P : Task → Type 0 = λ k. Told k b l l e in
       cond-elim P (ltb len 32)
-      (λ _. cond-elim P (ltb c 128) (λ _. record { level = refl; object = tt; ends = tt }) (λ _. record { level = refl; object = tt; ends = tt }))
-      (λ _. record { level = refl; object = tt; ends = tt })
-  told-of-act A.KeyEnd e f o = record { level = refl; object = tt; ends = tt }
-  told-of-act A.TextStart e f o = record { level = refl; object = tt; ends = tt }
-  told-of-act A.TextChar e f o = record { level = refl; object = tt; ends = tt }
-  told-of-act A.TextEnd e f o = record { level = refl; object = tt; ends = tt }
-  told-of-act A.NumberStart e f o = record { level = refl; object = tt; ends = tt }
-  told-of-act A.NumberByte e f o = record { level = refl; object = tt; ends = tt }
-  told-of-act (A.WordEnd v) e f o = record { level = refl; object = tt; ends = tt }
+      (λ _. cond-elim P (ltb c 128) (λ _. record { level = refl; form = tt; ends = tt }) (λ _. record { level = refl; form = tt; ends = tt }))
+      (λ _. record { level = refl; form = tt; ends = tt })
+  told-of-act A.KeyEnd e f o = record { level = refl; form = tt; ends = tt }
+  told-of-act A.TextStart e f o = record { level = refl; form = tt; ends = tt }
+  told-of-act A.TextChar e f o = record { level = refl; form = tt; ends = tt }
+  told-of-act A.TextEnd e f o = record { level = refl; form = tt; ends = tt }
+  told-of-act A.NumberStart e f o = record { level = refl; form = tt; ends = tt }
+  told-of-act A.NumberByte e f o = record { level = refl; form = tt; ends = tt }
+  told-of-act (A.WordEnd v) e f o = record { level = refl; form = tt; ends = tt }
 
 -- a task that finishes no key and no scalar alone
 abbrev pub NoFinish : Task → Type 0
@@ -136,12 +136,12 @@ module _ (t : Table) (m : Mem) (y : Progress) (b : ℕ) (e : Bool) where
 
   -- a level more
   pub opens-of-task : (k : Task) → Told k b l y.level e → y.level ≡ l + 1
-      → (perform k t m y).work ≡ put_frame m.work (l + 1) (opened t.forms (eqb b 0x7B))
+      → (perform k t m y).work ≡ put_frame m.work (l + 1) (opened t.forms (form_opened b))
   opens-of-task To.Idle i q = absurd (omega (arith, i.level))
   opens-of-task To.Begin i q = absurd (omega (arith, i.level))
   opens-of-task (To.Put c) i q = absurd (omega (arith, i.level))
   opens-of-task To.Named i q = absurd (omega (arith, i.level))
-  opens-of-task (To.Open o) i q = rw (q, i.object)
+  opens-of-task (To.Open o) i q = rw (q, i.form)
   opens-of-task (To.Finish s) i q = absurd (omega (arith, i.level))
   opens-of-task To.Close i q = absurd (omega (arith, i.level))
   opens-of-task (To.FinishClose s) i q = absurd (omega (arith, i.level))

@@ -2,7 +2,7 @@
 -- bytes, RS and close; and that nothing is written past the frames or in the frame of a level that is not open. Each sentence is about `feed_of` and
 -- `close_of`, for every reader, table, buffer and byte, made-up readers and refused calls too. Stated; `lent` of `LentLaws` proves all of `Lent`.
 -- Assumes nothing.
-use Rattle.std.specs.Prelude.{None, Bool, true, false, List, [], ◌∷◌, ◌++◌, ◌⊎◌, ◌↔◌, ◌≡◌, ℕ, ◌+◌, ◌*◌, ◌-◌, ◌<◌, ◌≤◌, eqb, length, get_or, Ok, Err, Some}
+use Rattle.std.specs.Prelude.{None, Bool, true, false, cond, List, [], ◌∷◌, ◌++◌, ◌⊎◌, ◌↔◌, ◌≡◌, ℕ, ◌+◌, ◌*◌, ◌-◌, ◌<◌, ◌≤◌, eqb, length, get_or, Ok, Err, Some}
 use Rattle.json_text.specs.Numbers.{Number}
 use Rattle.json_text.specs.declared.string.StringMode.{StringMode}
 use Rattle.json_text.specs.declared.number.NumberMode.{NumberMode}
@@ -14,6 +14,8 @@ use Rattle.json_text.specs.declared.lexer.Mode.TheVariants as M
 use Rattle.whole.specs.Whole.{Whole}
 use Rattle.table.specs.Table.{Table}
 use Rattle.table.specs.Keys.{key_found}
+use Rattle.table.specs.declared.kind.Form.{Form}
+use Rattle.table.specs.declared.kind.Form.TheVariants.{Object, Array}
 use Rattle.table.specs.declared.kind.Scalar.{Scalar}
 use Rattle.table.specs.declared.kind.Scalar.TheVariants as K
 use Rattle.table.specs.declared.kind.Finished.{Finished}
@@ -114,11 +116,15 @@ byte_fed r t w b = feed_of r t w (b ∷ [])
 abbrev pub EndsToken : ℕ → Outcome → Type 0
 EndsToken b o = (eqb b 0x1E ≡ false) × (is_in_token (mode_of o.reader) ≡ false)
 
+-- what an opening byte opens: an object at `{`, else an array
+abbrev pub form_opened : ℕ → Form
+form_opened b = cond (eqb b 0x7B) Object Array
+
 -- what the byte b writes, where o is the outcome
 pub record ByteWrites (r : Reader) (t : Table) (w : List ℕ) (b : ℕ) (o : Outcome) : Type 0 where
   -- opening writes all 96 bytes of the frame of the new level, an object's at `{`, and no byte outside
   pub opens : level_of o.reader ≡ level_of r + 1
-      → (frame_at o.work (level_of r + 1) ≡ opened t.forms (eqb b 0x7B)) × Spares (Outside (level_of r + 1)) w o.work
+      → (frame_at o.work (level_of r + 1) ≡ opened t.forms (form_opened b)) × Spares (Outside (level_of r + 1)) w o.work
   -- closing finishes the closed value in its parent, whose level is the open one then; it writes only there
   pub closes : is_in_token (mode_of r) ≡ false → eqb b 0x1E ≡ false → level_of r ≡ level_of o.reader + 1
       → (o.work ≡ with_value t w (level_of o.reader) (Done.Rules (rules_of t w (level_of r)))) × Spares (Outside (level_of o.reader)) w o.work

@@ -1,12 +1,19 @@
--- Value kinds and what fits them: REQUIREMENT.md, sections 3 (value) and 4. Stated. The codes are only how a table stores kinds: `kind_of-code_of` and
--- `code_of-kind_of` of `KindLaws` show that code and kind tell each other. Assumes nothing.
+-- Forms, value kinds and what fits them: REQUIREMENT.md, sections 3 (form, value), 4 and 5. Stated. The codes are only how a table stores kinds:
+-- `kind_of-code_of` and `code_of-kind_of` of `KindLaws` show that code and kind tell each other. Assumes nothing.
 use Rattle.std.specs.Prelude.{Bool, true, false, cond, ℕ, ◌+◌, ◌-◌, ◌/◌, ◌%◌, ◌^◌, eqb, ltb}
+use Rattle.table.specs.declared.kind.Form.{Form}
+use Rattle.table.specs.declared.kind.Form.TheVariants.{Object, Array}
 use Rattle.table.specs.declared.kind.Scalar.{Scalar}
 use Rattle.table.specs.declared.kind.Scalar.TheVariants.{Null, True, False, Str, Num, Int}
 use Rattle.table.specs.declared.kind.ValueKind.{ValueKind}
 use Rattle.table.specs.declared.kind.ValueKind.TheVariants.{Plain, Rule}
 use Rattle.table.specs.declared.kind.Finished.{Finished}
 use Rattle.table.specs.declared.kind.Finished.TheVariants as Done
+
+-- the number of a form, of a rule in a table and of an open value in its frame: 1 for `obj` and an object, 2 for `arr` and an array
+abbrev pub form_number : Form → ℕ
+form_number Object = 1
+form_number Array = 2
 
 -- the kind with a code: the plain kinds 0 to 5, rule N at 6 + N
 unfoldable pub kind_of : ℕ → ValueKind

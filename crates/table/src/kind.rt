@@ -1,6 +1,15 @@
-// Value kinds: REQUIREMENT.md, sections 3 and 4. A table stores each by its code.
+// Forms and value kinds: REQUIREMENT.md, sections 3 to 5. A table stores each form by its number, and each value kind by its code.
 ghost use Rattle.std.specs.Prelude.{◌≡◌};
-ghost use Rattle.table.specs.Kind.{kind_of, code_of, scalar_fits, rule_fits, fits_kind};
+ghost use Rattle.table.specs.Kind.{form_number, kind_of, code_of, scalar_fits, rule_fits, fits_kind};
+
+// The form of a rule, which tells what values it is for, and of an open value: an object or an array. Only a value of a rule's form may fit the rule.
+#[derive(Clone, Copy, PartialEq, Eq)]
+pub enum Form {
+    // an object; of a rule, `obj`
+    Object = 1,
+    // an array; of a rule, `arr`
+    Array = 2,
+}
 
 // A plain kind of value. Of a finished number, Int says that its value is whole.
 #[derive(Clone, Copy, PartialEq, Eq)]
@@ -25,6 +34,16 @@ pub enum ValueKind {
 pub enum Finished {
     Scalar(Scalar),
     Rules(u32),
+}
+
+impl Form {
+    // The number of a form: a table has it for each rule with lines, and a frame for its value.
+    // Ruled out: a program that numbers the forms from 0, which a table has for a rule without lines; one that gives an array the number of an object.
+    pub fn number(self) -> u8
+        ensures { result ≡ form_number self }
+    {
+        self as u8
+    }
 }
 
 impl Scalar {

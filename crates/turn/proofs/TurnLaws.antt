@@ -13,9 +13,9 @@ use Rattle.table.proofs.LimitLaws.{within_limits-sound}
 use Rattle.laws.proofs.TestLaws.{T-of-true}
 use Rattle.table.specs.declared.kind.Finished.TheVariants as Done
 use Rattle.table.specs.Kind.{rule_fits}
-use Rattle.frame.specs.declared.Kind.TheVariants.{Object, Array}
-use Rattle.frame.specs.Frame.{frame_at, put_frame, kind_in}
-use Rattle.frame.proofs.KindLaws.{object-of-kind, array-of-kind}
+use Rattle.table.specs.declared.kind.Form.TheVariants.{Object, Array}
+use Rattle.frame.specs.Frame.{frame_at, put_frame, form_in}
+use Rattle.frame.proofs.FormLaws.{object-of-form, array-of-form}
 use Rattle.frame.specs.Edges.{edges_of}
 use Rattle.frame.specs.Ops.{valued, closed}
 use Rattle.progress.specs.declared.Advanced.{Advanced}
@@ -35,13 +35,13 @@ pub top-bare : (w : List ℕ) (l : ℕ) → l ≡ 0 → Is.Bare ≡ top_at w l
 unfolding top_at
 top-bare w l e = rw (eq-eqb l 0 e)
 
-pub top-object : (w : List ℕ) (l : ℕ) → (l ≡ 0 → ⊥) → Object ≡ kind_in (frame_at w l) → Is.Object ≡ top_at w l
+pub top-object : (w : List ℕ) (l : ℕ) → (l ≡ 0 → ⊥) → Object ≡ form_in (frame_at w l) → Is.Object ≡ top_at w l
 unfolding top_at
-top-object w l n e = simp (ne_eqb l 0 n, object-of-kind (frame_at w l) e)
+top-object w l n e = simp (ne_eqb l 0 n, object-of-form (frame_at w l) e)
 
-pub top-array : (w : List ℕ) (l : ℕ) → (l ≡ 0 → ⊥) → Array ≡ kind_in (frame_at w l) → Is.Array ≡ top_at w l
+pub top-array : (w : List ℕ) (l : ℕ) → (l ≡ 0 → ⊥) → Array ≡ form_in (frame_at w l) → Is.Array ≡ top_at w l
 unfolding top_at
-top-array w l n e = simp (ne_eqb l 0 n, array-of-kind (frame_at w l) e)
+top-array w l n e = simp (ne_eqb l 0 n, array-of-form (frame_at w l) e)
 
 -- ---- closing
 

@@ -8,12 +8,11 @@ ghost use Rattle.progress.specs.declared.Progress.{Progress};
 ghost use Rattle.progress.specs.Memory.{mem, top_at, perform};
 ghost use Rattle.turn.specs.Turn.{ClosedTo, memory, turned};
 
-use frame::Kind;
 use json_text::lexer::{Step, Top};
 use progress::{Progress, Task, act, key};
 use rules::Rules;
 use table::flat::Table;
-use table::kind::{Finished, ValueKind};
+use table::kind::{Finished, Form, ValueKind};
 
 // The open record between two bytes, its key and its frames aside.
 // Stays: the key apart, since an array that is read by index keeps the whole record in memory, which costs 4 in 100 instructions.
@@ -31,9 +30,9 @@ pub fn top_of(work: &[u8], level: usize) -> Top
     if level == 0 {
         return Top::Bare;
     }
-    match frame::kind_at(work, level) {
-        Kind::Object => Top::Object,
-        Kind::Array => Top::Array,
+    match frame::form_at(work, level) {
+        Form::Object => Top::Object,
+        Form::Array => Top::Array,
     }
 }
 
@@ -68,7 +67,7 @@ impl Record {
                 let number = table.number(key, self.progress.len);
                 frame::key_level(work, level, number);
             }
-            Task::Open(object) => frame::open_level(work, up, object, table),
+            Task::Open(form) => frame::open_level(work, up, form, table),
             Task::Finish(s) => frame::value_level(work, level, table, Finished::Scalar(s)),
             Task::Close => self.root = close_value(work, level, self.root, table),
             Task::FinishClose(s) => {

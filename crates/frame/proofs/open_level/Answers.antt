@@ -4,4 +4,4 @@ use Rattle.frame.specs.Ops.{opened}
 use Rattle.frame.proofs.open_level.Goals as goal
 
 pub returns : goal.returns
-returns c = c.change_frame.ensures (λ f. opened c.args.table.now.forms c.args.object) (λ f g p. search rules)
+returns c = c.change_frame.ensures (λ f. opened c.args.table.now.forms c.args.form) (λ f g p. search rules)

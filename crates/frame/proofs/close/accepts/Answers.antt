@@ -2,10 +2,10 @@
 use Rattle.frame.specs.Ops.{accepting}
 use Rattle.frame.proofs.close.accepts.Goals as goal
 
-pub returns-then-is_of_kind : goal.returns-then-is_of_kind
+pub returns-then-has_form : goal.returns-then-has_form
 unfolding accepting
-returns-then-is_of_kind c = rw (← c.is_of_kind.ensures, c.if-is_of_kind.true) c.has_end.ensures
+returns-then-has_form c = rw (← c.has_form.ensures, c.if-has_form.true) c.has_end.ensures
 
-pub returns-else-is_of_kind : goal.returns-else-is_of_kind
+pub returns-else-has_form : goal.returns-else-has_form
 unfolding accepting
-returns-else-is_of_kind c = rw (← c.is_of_kind.ensures, c.if-is_of_kind.false)
+returns-else-has_form c = rw (← c.has_form.ensures, c.if-has_form.false)

@@ -1,6 +1,6 @@
 -- `close::rule_set` meets its contract. Assumes nothing.
 use Rattle.std.proofs.Common.{◌≡◌, ◌+◌, ◌*◌, ◌∙◌, sym, arith, refl}
-use Rattle.frame.specs.Frame.{number_of}
+use Rattle.table.specs.Kind.{form_number}
 use Rattle.frame.specs.Ops.{rule_set}
 use Rattle.frame.proofs.QuietLaws.{rule_set-quiet}
 use Rattle.frame.proofs.close.rule_set.Goals as goal
@@ -19,5 +19,5 @@ loop-i-preserved c =
     rw e (elim c.if-not-quiet.branch [
       | then-not-quiet w ↦ w.set-is ∙ w.with_four-set.ensures
       | else-not-quiet w ↦ w.set-is ∙ c.loop-i.invariant
-          ∙ sym (rule_set-quiet t.forms t.ends (number_of a.kind) a.states.now (4 * i) (λ k l. let q : 2 * (4 * i) + k ≡ 8 * i + k = omega arith in rw q (c.quiet.ensures w.if-not-quiet.false k l)))
+          ∙ sym (rule_set-quiet t.forms t.ends (form_number a.form) a.states.now (4 * i) (λ k l. let q : 2 * (4 * i) + k ≡ 8 * i + k = omega arith in rw q (c.quiet.ensures w.if-not-quiet.false k l)))
     ])

@@ -6,4 +6,4 @@ use Rattle.frame.proofs.open.add_eight.Goals as goal
 
 pub loop-r-preserved : goal.loop-r-preserved
 loop-r-preserved c = λ xs e.
-    set_all-more _ _ _ _ _ _ _ _ (c.loop-r.invariant xs e) c.is_of_kind.ensures refl (rw c.from.ensures (first-state c.loop-r.states c.loop-r.r c.is_of_kind.result))
+    set_all-more _ _ _ _ _ _ _ _ (c.loop-r.invariant xs e) c.has_form.ensures refl (rw c.from.ensures (first-state c.loop-r.states c.loop-r.r c.has_form.result))

@@ -2,8 +2,8 @@
 use Rattle.std.proofs.Common.{◌≡◌, ◌*◌}
 use Rattle.laws.specs.Bits.{set_all}
 use Rattle.frame.specs.Edges.{has_form}
-use Rattle.frame.specs.Frame.{number_of}
+use Rattle.table.specs.Kind.{form_number}
 use Rattle.frame.proofs.open.add_starts.Given as goal
 
 abbrev pub invariant-loop-i : goal.invariant-loop-i
-invariant-loop-i l = l.states ≡ set_all (has_form l.table.forms (number_of l.kind)) (λ r. 16 * r) (8 * l.i) l.initial.states
+invariant-loop-i l = l.states ≡ set_all (has_form l.table.forms (form_number l.form)) (λ r. 16 * r) (8 * l.i) l.initial.states

@@ -4,11 +4,11 @@ use mathlib.Core.List.{append-nil}
 use Rattle.frame.specs.Ops.{opened, start_states}
 use Rattle.frame.proofs.open.open_frame.Goals as goal
 
-pub returns-then-object : goal.returns-then-object
+pub returns-in-Object : goal.returns-in-Object
 unfolding opened
-returns-then-object c = rw (c.number.ensures, c.if-object.true)
+returns-in-Object c = rw (c.number.ensures, c.in-Object.is)
 
-pub returns-else-object : goal.returns-else-object
+pub returns-in-Array : goal.returns-in-Array
 unfolding opened start_states
-returns-else-object c =
-    rw (c.add_starts.ensures, c.number-else-object.ensures, c.if-object.false) (ap (λ (s : List ℕ). 2 ∷ (replicate 31 0 ++ s)) (append-nil _))
+returns-in-Array c =
+    rw (c.add_starts.ensures, c.number.ensures, c.in-Array.is) (ap (λ (s : List ℕ). 2 ∷ (replicate 31 0 ++ s)) (append-nil _))

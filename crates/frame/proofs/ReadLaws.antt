@@ -40,9 +40,9 @@ module _ (fits : ℕ → Bool) (rules states kinds forms f : List ℕ) (e v : �
     unfolding stepping
     stepping-obj h = rw (ap fits (sym q) ∙ sym p ∙ t, ap (has_form forms 2) (sym qx) ∙ sym pb ∙ h)
 
-    pub stepping-hit : (n : ℕ) (r : Bool) → b ≡ true → n ≡ state_number rules states e → r ≡ bit_at f (256 + n) → r ≡ stepping fits rules states kinds forms f e
-    unfolding stepping held_in
-    stepping-hit n r h w z = rw (ap fits (sym q) ∙ sym p ∙ t, ap (has_form forms 2) (sym qx) ∙ sym pb ∙ h) (z ∙ ap (λ (i : ℕ). bit_at f (256 + i)) w)
+    pub stepping-hit : (n : ℕ) (r : Bool) → b ≡ true → n ≡ state_number rules states e → r ≡ held_in f n → r ≡ stepping fits rules states kinds forms f e
+    unfolding stepping
+    stepping-hit n r h w z = rw (ap fits (sym q) ∙ sym p ∙ t, ap (has_form forms 2) (sym qx) ∙ sym pb ∙ h) (z ∙ ap (held_in f) w)
 
 -- ---- an edge of an object
 module _ (rules states keys f s : List ℕ) (k e x : ℕ) (q : x ≡ get_or keys e 0) where
@@ -50,13 +50,13 @@ module _ (rules states keys f s : List ℕ) (k e x : ℕ) (q : x ≡ get_or keys
   unfolding walking
   walking-miss h = rw (ne_eqb (get_or keys e 0) k (λ z. h (q ∙ z)))
 
-  module _ (h : x ≡ k) (b : Bool) (pb : b ≡ bit_at f (256 + e)) where
+  module _ (h : x ≡ k) (b : Bool) (pb : b ≡ held_in f e) where
     pub walking-out : b ≡ false → false ≡ walking rules states keys f s k e
-    unfolding walking held_in
+    unfolding walking
     walking-out z = rw (eq-eqb (get_or keys e 0) k (sym q ∙ h), sym pb ∙ z)
 
     pub walking-hit : (n : ℕ) (r : Bool) → b ≡ true → n ≡ state_number rules states e → r ≡ bit_at s n → r ≡ walking rules states keys f s k e
-    unfolding walking held_in
+    unfolding walking
     walking-hit n r z w y = rw (eq-eqb (get_or keys e 0) k (sym q ∙ h), sym pb ∙ z) (y ∙ ap (bit_at s) w)
 
 -- ---- rules of a form with an end state

@@ -55,7 +55,6 @@ fn has_end<'a>(states: &'a States, table: &'a Table, r: usize) -> bool
 
 // Rule r is of a form, and has an end state among the states.
 fn accepts<'a>(states: &'a States, table: &'a Table, form: Form, r: usize) -> bool
-    requires { r < 32 }
     ensures { result ≡ accepting_in table.now (form_number form) states.now r }
 {
     edge::has_form(table, r, form) && has_end(states, table, r)

@@ -1,8 +1,9 @@
 // Edges of a table: how many count, the tests of one of them, and the states that some lead to.
-ghost use Rattle.std.specs.Prelude.{Bool, ◌≡◌, ℕ, ◌+◌, ◌*◌, ◌<◌, ◌≤◌, replicate};
+ghost use Rattle.std.specs.Prelude.{Bool, ◌≡◌, ℕ, ◌+◌, ◌*◌, replicate};
 ghost use Rattle.laws.specs.Bits.{set_all};
 ghost use Rattle.table.specs.Kind.{form_number};
 ghost use Rattle.frame.specs.Edges.{edge_count, has_form};
+ghost use Rattle.frame.specs.Frame.{held_in};
 ghost use Rattle.frame.specs.InTable.{leaves, leads_to, fitting_in, stepping_in, walking_in};
 
 use crate::{Frame, States, mask};
@@ -19,45 +20,41 @@ pub fn count(table: &Table) -> usize
 
 // The number of a rule's state.
 fn state_number(rule: u8, state: u8) -> usize
-    ensures { (result ≡ 16 * rule + state) × (result ≤ 4335) }
+    ensures { result ≡ 16 * rule + state }
 {
     16 * usize::from(rule) + usize::from(state)
 }
 
 // The number of the state that edge e leaves.
 fn state_of(table: &Table, e: usize) -> usize
-    requires { e < 512 }
-    ensures { (result ≡ leaves table.now e) × (result ≤ 4335) }
+    ensures { result ≡ leaves table.now e }
 {
     state_number(table.rule(e), table.state(e))
 }
 
 // The number of the state that edge e leads to.
 fn next_state(table: &Table, e: usize) -> usize
-    requires { e < 512 }
     ensures { result ≡ leads_to table.now e }
 {
     state_number(table.rule(e), table.next(e))
 }
 
-// Rule r is of a form.
+// Rule r is of a form; one above 31 is of none.
 pub fn has_form(table: &Table, r: usize, form: Form) -> bool
-    requires { r < 32 }
     ensures { result ≡ has_form table.now.forms (form_number form) r }
 {
-    table.form(r) == form.number()
+    r < 32 && table.form(r) == form.number()
 }
 
-// A rule is an arr rule; one above 31 is not.
-fn is_arr(table: &Table, rule: u8) -> bool
-    ensures { result ≡ has_form table.now.forms 2 rule }
+// The frame has an edge of its object, or a state of its array.
+fn holds(frame: &Frame, i: usize) -> bool
+    ensures { result ≡ held_in frame.now i }
 {
-    rule < 32 && has_form(table, usize::from(rule), Form::Array)
+    bits::get_bit(&frame[32..], i)
 }
 
 // Edge e is one of the key, and the mask has its kind.
 pub fn fitting(table: &Table, e: usize, key: u8, m: u64) -> bool
-    requires { e < 512 }
     ensures { result ≡ fitting_in table.now m key e }
 {
     table.key(e) == key && mask::mask_has(m, table.kind(e))
@@ -65,12 +62,11 @@ pub fn fitting(table: &Table, e: usize, key: u8, m: u64) -> bool
 
 // The mask has the kind of edge e, its rule is an arr rule, and its state is one of the frame's.
 pub fn stepping<'a>(table: &'a Table, frame: &'a Frame, e: usize, m: u64) -> bool
-    requires { e < 512 }
     ensures { result ≡ stepping_in table.now m frame.now e }
 {
     mask::mask_has(m, table.kind(e))
-        && is_arr(table, table.rule(e))
-        && bits::get_bit(frame, 256 + state_of(table, e))
+        && has_form(table, usize::from(table.rule(e)), Form::Array)
+        && holds(frame, state_of(table, e))
 }
 
 // Edge e is one of the key, is among the frame's fitting edges, and its state is one of the states.
@@ -81,18 +77,17 @@ pub fn walking<'a>(
     e: usize,
     key: u8,
 ) -> bool
-    requires { e < 512 }
     ensures { result ≡ walking_in table.now frame.now states.now key e }
 {
     table.key(e) == key
-        && bits::get_bit(frame, 256 + e)
+        && holds(frame, e)
         && bits::get_bit(states, state_of(table, e))
 }
 
 // The states that those edges lead to which are taken.
 pub fn led_to<F: Fn(usize) -> bool>(table: &Table, taken: F) -> States
-    requires { (e : ℕ) → e < 512 → F.pre taken e }
-    ensures { (p : ℕ → Bool) → ((e : ℕ) (b : Bool) → e < 512 → F.post taken e b → b ≡ p e) → result ≡ set_all p (leads_to table.now) (edge_count table.now.edges) (replicate 64 0) }
+    requires { F.IsAlwaysCallable taken }
+    ensures { (p : ℕ → Bool) → ((e : ℕ) (b : Bool) → F.post taken e b → b ≡ p e) → result ≡ set_all p (leads_to table.now) (edge_count table.now.edges) (replicate 64 0) }
 {
     let mut states = [0; 64];
     for e in 0..count(table) {

@@ -8,8 +8,7 @@ use Rattle.book.specs.Entry.{Form, obj, arr, Entry, edge, end_state}
 use Rattle.book.specs.Line.{Said, bad, good, say_fields, small, entry_of, is_kind, is_key, word_obj, word_end, dash}
 use Rattle.line.specs.declared.Fault.{Fault}
 use Rattle.line.specs.declared.Fault.TheVariants.{Malformed, AboveLimit, TooMany, FormChanged, Repeated}
-use Rattle.line.specs.declared.Sort.{Sort}
-use Rattle.line.specs.declared.Sort.TheVariants.{End, Edge}
+use Rattle.line.specs.declared.EdgeLine.{EdgeLine}
 use Rattle.line.specs.declared.Line.{Line}
 use Rattle.line.specs.declared.Fields.{Fields}
 
@@ -26,14 +25,14 @@ abbrev pub form_in : CodeForm → Form
 form_in Object = obj
 form_in Array = arr
 
--- the entry of a line by what it is: rule, form and state
-abbrev pub entry_as : Sort → ℕ → Form → ℕ → Entry
-entry_as End r f q = end_state r f q
-entry_as (Edge e) r f q = edge r f q e.key.now e.kind e.next
+-- the entry of a line by its edge, where there is one: rule, form and state
+abbrev pub entry_as : Option EdgeLine → ℕ → Form → ℕ → Entry
+entry_as None r f q = end_state r f q
+entry_as (Some e) r f q = edge r f q e.key.now e.kind e.next
 
 -- the entry of a line
 abbrev pub entry_in : Line → Entry
-entry_in l = entry_as l.sort l.rule (form_in l.form) l.state
+entry_in l = entry_as l.edge l.rule (form_in l.form) l.state
 
 -- what the code's answer says
 abbrev pub said : Result Line Fault → Said

@@ -27,20 +27,13 @@ pub struct EdgeLine<'a> {
     pub next: u8,
 }
 
-// What a line is.
-#[derive(Clone, Copy)]
-pub enum Sort<'a> {
-    End,
-    Edge(EdgeLine<'a>),
-}
-
-// What a line says.
+// What a line says: an edge, or an end state where there is none.
 #[derive(Clone, Copy)]
 pub struct Line<'a> {
     pub rule: u8,
     pub form: Form,
     pub state: u8,
-    pub sort: Sort<'a>,
+    pub edge: Option<EdgeLine<'a>>,
 }
 
 // The six fields of a line.
@@ -157,7 +150,7 @@ fn small_line<'a>(f: &Fields<'a>) -> Option<Line<'a>>
             rule,
             form,
             state,
-            sort: Sort::End,
+            edge: None,
         });
     }
     let kind = scan::kind_in(f.value)?;
@@ -167,7 +160,7 @@ fn small_line<'a>(f: &Fields<'a>) -> Option<Line<'a>>
         rule,
         form,
         state,
-        sort: Sort::Edge(EdgeLine { key, kind, next }),
+        edge: Some(EdgeLine { key, kind, next }),
     })
 }
 

@@ -14,14 +14,13 @@ fn dangles(table: &Table, kind: ValueKind) -> bool
 {
     match kind {
         ValueKind::Plain(_) => false,
-        ValueKind::Rule(r) => table.form_of(r) == 0,
+        ValueKind::Rule(r) => table.form(usize::from(r)) == 0,
     }
 }
 
 // The first edge that refers to a rule without lines.
 #[tactic(auto, unfolding(crate::specs::Check::dangles_at, crate::specs::Check::dangling))]
 fn dangling(table: &Table) -> Option<usize>
-    requires { table.now.edges ≤ 512 }
     ensures { result ≡ dangling table.now }
 {
     (0..table.edges()).find(|e| dangles(table, ValueKind::from(table.kind(*e))))
@@ -30,20 +29,18 @@ fn dangling(table: &Table) -> Option<usize>
 // Edge a leads to edge b, and the keys do not rise.
 #[tactic(auto, unfolding(crate::specs::Check::clash_at, crate::specs::Check::clash_codes))]
 fn clash_at(table: &Table, a: usize, b: usize) -> bool
-    requires { (a < 512) × (b < 512) }
     ensures { result ≡ clash_at table.now a b }
 {
     let first = table.cell(a);
     let second = table.cell(b);
     let rising = first.key < second.key;
-    (table.form_of(first.rule) == Form::Object.number())
+    (table.form(usize::from(first.rule)) == Form::Object.number())
         & ((first.rule == second.rule) & ((first.next == second.state) & !rising))
 }
 
 // Edges a and b clash, the one way or the other.
 #[tactic(auto, unfolding(crate::specs::Check::clashes_at))]
 fn clashes_at(table: &Table, b: usize, a: usize) -> bool
-    requires { (a < 512) × (b < 512) }
     ensures { result ≡ clashes_at table.now b a }
 {
     clash_at(table, a, b) | clash_at(table, b, a)
@@ -52,7 +49,6 @@ fn clashes_at(table: &Table, b: usize, a: usize) -> bool
 // Edge b clashes with an edge up to it.
 #[tactic(auto, unfolding(crate::specs::Check::late_at))]
 fn late_at(table: &Table, b: usize) -> bool
-    requires { b < 512 }
     ensures { result ≡ late_at table.now b }
 {
     (0..b + 1).any(|a| clashes_at(table, b, a))
@@ -61,7 +57,6 @@ fn late_at(table: &Table, b: usize) -> bool
 // The first edge that clashes with one up to it.
 #[tactic(auto, unfolding(crate::specs::Check::clashing))]
 fn clashing(table: &Table) -> Option<usize>
-    requires { table.now.edges ≤ 512 }
     ensures { result ≡ clashing table.now }
 {
     (0..table.edges()).find(|b| late_at(table, *b))
@@ -69,7 +64,6 @@ fn clashing(table: &Table) -> Option<usize>
 
 // The table, or refusals 8 and 9.
 pub fn check_table(table: &mut Table) -> Result<(), Refusal>
-    requires { table.old.edges ≤ 512 }
     ensures { loaded_as result table.new ≡ check_table table.old }
 {
     if let Some(e) = dangling(table) {

@@ -62,13 +62,13 @@ impl Refusal {
         match self {
             Refusal::Size | Refusal::NoRoot => 0,
             Refusal::Names => 1,
-            Refusal::Malformed(n) => n,
-            Refusal::AboveLimit(n) => n,
-            Refusal::TooMany(n) => n,
-            Refusal::FormChanged(n) => n,
-            Refusal::Repeated(n) => n,
-            Refusal::NoRule(n) => n,
-            Refusal::NotAscending(n) => n,
+            Refusal::Malformed(n)
+            | Refusal::AboveLimit(n)
+            | Refusal::TooMany(n)
+            | Refusal::FormChanged(n)
+            | Refusal::Repeated(n)
+            | Refusal::NoRule(n)
+            | Refusal::NotAscending(n) => n,
         }
     }
 }

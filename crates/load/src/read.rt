@@ -2,7 +2,6 @@
 ghost use Rattle.std.specs.Prelude.{◌≡◌, ◌≤◌, length};
 ghost use Rattle.book.specs.Text.{split};
 ghost use Rattle.table.specs.Flat.{empty_table};
-ghost use Rattle.table.specs.Limits.{WithinLimits};
 ghost use Rattle.book.specs.Line.{say_line};
 ghost use Rattle.line.specs.Line.{fault_number};
 ghost use Rattle.store.specs.Store.{taken, fault_in};
@@ -38,7 +37,6 @@ fn line_refusal(fault: Fault, n: usize) -> Refusal
 
 // A line without its LF, as line n.
 fn take_line(table: &mut Table, n: u16, l: &[u8]) -> Result<(), Fault>
-    requires { WithinLimits table.old }
     ensures { taken (fault_in result) table.new ≡ take_said n table.old (say_line l.now) }
 {
     match line::judge(l) {

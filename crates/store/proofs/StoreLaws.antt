@@ -11,12 +11,10 @@ use Rattle.table.specs.Table.{Table}
 use Rattle.table.specs.Kind.{form_number, code_of}
 use Rattle.table.specs.declared.kind.Form.{Form}
 use Rattle.table.specs.declared.kind.Form.TheVariants.{Object, Array}
-use Rattle.std.proofs.Common.{Option, unwrap_or}
+use Rattle.std.proofs.Common.{Option, Some, None, unwrap_or}
 use Rattle.table.specs.Keys.{table_keys, key_index}
-use Rattle.table.proofs.KeyLaws.{key_index-or, number_of-le, length-table_keys}
+use Rattle.table.proofs.KeyLaws.{key_index-or}
 use Rattle.book.specs.Holds.{key_number, form_code}
-use Rattle.line.specs.declared.Sort.{Sort}
-use Rattle.line.specs.declared.Sort.TheVariants.{End, Edge}
 use Rattle.line.specs.declared.Line.{Line}
 use Rattle.line.specs.declared.EdgeLine.{EdgeLine}
 use Rattle.line.specs.Line.{form_in, entry_as, entry_in}
@@ -34,11 +32,6 @@ pub key_number-some : (t : Table) (k : List ℕ) (o : Option ℕ) → (length k 
 unfolding key_number
 key_number-some t [] o e q = absurd (e refl)
 key_number-some t (x ∷ k) o e q = rw q (key_index-or t (x ∷ k))
-
-pub key_number-le : (t : Table) (k : List ℕ) → t.keys ≤ 128 → key_number (table_keys t) k ≤ 128
-unfolding key_number
-key_number-le t [] h = omega arith
-key_number-le t (x ∷ k) h = omega (arith, number_of-le (table_keys t) (x ∷ k), length-table_keys t)
 
 -- ---- end lines
 module _ (t : Table) (r f q : ℕ) (b : Bool) (p : b ≡ bit_at t.ends (16 * r + q)) where
@@ -96,18 +89,18 @@ module _ (n : ℕ) (t : Table) (l : Line) (f : ℕ) (qf : f ≡ form_number l.fo
 
   pub take_entry-form : b ≡ true → taken 6 t ≡ take_entry n t (entry_in l)
   unfolding take_entry
-  take_entry-form e = go l.sort
+  take_entry-form e = go l.edge
     where
-      go : (s : Sort) → taken 6 t ≡ take_entry n t (entry_as s l.rule (form_in l.form) l.state)
-      go End = rw (test-form e)
-      go (Edge v) = rw (test-form e)
+      go : (s : Option EdgeLine) → taken 6 t ≡ take_entry n t (entry_as s l.rule (form_in l.form) l.state)
+      go None = rw (test-form e)
+      go (Some v) = rw (test-form e)
 
   module _ (nb : b ≡ false) where
-    pub take_entry-edge : (v : EdgeLine) (m c : ℕ) (w : Taken) → l.sort ≡ Edge v → m ≡ key_number (table_keys t) v.key.now → c ≡ code_of v.kind
+    pub take_entry-edge : (v : EdgeLine) (m c : ℕ) (w : Taken) → l.edge ≡ Some v → m ≡ key_number (table_keys t) v.key.now → c ≡ code_of v.kind
         → w ≡ take_edge n t f (record { rule = l.rule; state = l.state; key = m; kind = c; next = v.next }) v.key.now → w ≡ take_entry n t (entry_in l)
     unfolding take_entry
     take_entry-edge v m c w is qm qc e = e ∙ rw (is, test-form nb, qc, sym qm, code)
 
-    pub take_entry-end : (w : Taken) → l.sort ≡ End → w ≡ take_end t l.rule f l.state → w ≡ take_entry n t (entry_in l)
+    pub take_entry-end : (w : Taken) → l.edge ≡ None → w ≡ take_end t l.rule f l.state → w ≡ take_entry n t (entry_in l)
     unfolding take_entry
     take_entry-end w is e = e ∙ rw (is, test-form nb, code)

@@ -2,14 +2,13 @@
 #![tactic(auto)]
 
 ghost use Rattle.std.specs.Prelude.{◌&&◌, ◌≡◌, ◌+◌, ◌*◌, ◌<◌, ◌≤◌, eqb, length};
-ghost use Rattle.table.specs.Limits.{WithinLimits};
 ghost use Rattle.table.specs.Keys.{table_keys};
 ghost use Rattle.book.specs.Holds.{key_number};
 ghost use Rattle.line.specs.Line.{entry_in};
 ghost use Rattle.store.specs.Proper.{Proper};
 ghost use Rattle.store.specs.Store.{has_cell, is_new, form_changes, taken, fault_in, take_edge, take_end, take_entry};
 
-use line::{Fault, Line, Sort};
+use line::{Fault, Line};
 use table::flat::{Cell, Table};
 
 // ---- edges
@@ -17,7 +16,6 @@ use table::flat::{Cell, Table};
 // One of the edges has the numbers of the cell.
 #[tactic(auto, unfolding(crate::specs::Store::has_cell))]
 fn has_cell(table: &Table, c: Cell) -> bool
-    requires { table.now.edges ≤ 512 }
     ensures { result ≡ has_cell table.now c }
 {
     (0..table.edges()).any(|e| c == table.cell(e))
@@ -27,9 +25,8 @@ fn has_cell(table: &Table, c: Cell) -> bool
 
 // The number that a cell has for a key: how many keys there are, for a new one; 128 for none.
 // Stays: a number, since it is the byte that the table holds of the key, and 128 is that byte for none.
-fn key_number(table: &Table, key: &[u8]) -> usize
-    requires { table.now.keys ≤ 128 }
-    ensures { (result ≡ key_number (table_keys table.now) key.now) × (result ≤ 128) }
+fn key_number(table: &Table, key: &[u8]) -> u8
+    ensures { result ≡ key_number (table_keys table.now) key.now }
 {
     if key.is_empty() {
         return 128;
@@ -39,7 +36,7 @@ fn key_number(table: &Table, key: &[u8]) -> usize
 
 // A key of n bytes with number k is new after m keys.
 #[tactic(auto, unfolding(crate::specs::Store::is_new))]
-fn is_new(n: usize, k: usize, m: usize) -> bool
+fn is_new(n: usize, k: u8, m: u8) -> bool
     ensures { result ≡ is_new n k m }
 {
     n != 0 && k == m
@@ -69,7 +66,7 @@ fn take_end(table: &mut Table, rule: u8, form: u8, state: u8) -> Result<(), Faul
 
 // An edge whose key has the number in its cell; or the fault of it, and the table as it was.
 fn take_edge(table: &mut Table, line: u16, form: u8, c: Cell, key: &[u8]) -> Result<(), Fault>
-    requires { WithinLimits table.old × (c.rule < 32) × (length key.now ≤ 32) }
+    requires { (c.rule < 32) × (length key.now ≤ 32) }
     ensures { taken (fault_in result) table.new ≡ take_edge line table.old form c key.now }
 {
     let edges = table.edges();
@@ -80,7 +77,7 @@ fn take_edge(table: &mut Table, line: u16, form: u8, c: Cell, key: &[u8]) -> Res
     if 512 <= edges {
         return Err(Fault::TooMany);
     }
-    if is_new(key.len(), c.key as usize, keys) {
+    if is_new(key.len(), c.key, keys) {
         if 128 <= keys {
             return Err(Fault::TooMany);
         }
@@ -94,20 +91,20 @@ fn take_edge(table: &mut Table, line: u16, form: u8, c: Cell, key: &[u8]) -> Res
 
 // The entry of a line; or the fault of it, and the table as it was.
 pub fn take_entry(table: &mut Table, n: u16, l: &Line) -> Result<(), Fault>
-    requires { WithinLimits table.old × Proper (entry_in l.now) }
+    requires { Proper (entry_in l.now) }
     ensures { taken (fault_in result) table.new ≡ take_entry n table.old (entry_in l.now) }
 {
     let form = l.form.number();
-    if form_changes(table.form_of(l.rule), form) {
+    if form_changes(table.form(usize::from(l.rule)), form) {
         return Err(Fault::FormChanged);
     }
-    match l.sort {
-        Sort::End => take_end(table, l.rule, form, l.state),
-        Sort::Edge(e) => {
+    match l.edge {
+        None => take_end(table, l.rule, form, l.state),
+        Some(e) => {
             let c = Cell {
                 rule: l.rule,
                 state: l.state,
-                key: key_number(table, e.key) as u8,
+                key: key_number(table, e.key),
                 kind: e.kind.code() as u8,
                 next: e.next,
             };

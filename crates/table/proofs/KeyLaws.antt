@@ -1,17 +1,17 @@
 -- The number of a key: its search, key by key, and what it is in a frame. Assumes nothing.
-use mathlib.Core.Bool.{Bool, true, false, not, cond}
+use mathlib.Core.Bool.{Bool, true, false, cond}
 use mathlib.Core.List.{List, [], ◌∷◌}
 use mathlib.Core.Path.{◌≡◌, refl, sym, ap, ◌∙◌}
 use Prim.Native.Nat.{ℕ, zero, suc, ◌+◌, ◌*◌, ◌-◌, ◌<◌, ◌≤◌, min}
 use native.Mathlib.Numerals.{add-one}
+use native.Mathlib.Decide.{dec_lt}
 use native.Mathlib.Omega.{arith}
 use lib.Dec.{ltb}
-use lib.ListN.{length, get_or, take, drop}
+use lib.ListN.{length, get_or, take, drop, length-take, get_or-eq_default}
 use lib.Seq.{drop-drop}
-use Rattle.std.proofs.Common.{nat_eq, Option, Some, None, position, unwrap_or}
+use Rattle.std.proofs.Common.{nat_eq, Option, Some, None, find, unwrap_or}
 use Rattle.std.specs.Cmp.Lexicographic.{pointwise}
-use Rattle.std.specs.List.{position_or_len, range_with_len}
-use Rattle.std.proofs.lemmas.List.FromFn.{length-range_with_len}
+use Rattle.std.specs.List.{range_with_len}
 use borrow.Author.Tests.{lt-ltb, le-ltb, ltb-true, ltb-false}
 use Rattle.laws.specs.Lists.{same}
 use Rattle.laws.specs.Tab.{tab}
@@ -57,14 +57,24 @@ drop-take (suc b) (suc n) (x ∷ l) = let e : suc n - suc b ≡ n - b = omega ar
 part-part : (l : List ℕ) (a n b m : ℕ) → take (min m (n - b)) (drop (a + b) l) ≡ take m (drop b (take n (drop a l)))
 part-part l a n b m = take_min m (n - b) (drop (a + b) l) ∙ sym (rw (drop-take b n (drop a l), drop-drop b a l))
 
--- the bytes of key i, of which x are told and e is the end
-pub key-in-place : (l : List ℕ) (t : Table) (i x e : ℕ) → table_in l ≡ t → i < 128 → x ≡ get_or t.key_len i 0 → e ≡ min (3600 + 32 * i + x) 7696
-    → take (e - (3600 + 32 * i)) (drop (3600 + 32 * i) l) ≡ key_at t.key_bytes t.key_len i
+-- the bytes of key i, which begin 32 j bytes behind those of key 0, of which x are told and e is the end; a key past the last has none
+pub key-in-place : (l : List ℕ) (t : Table) (i j x e : ℕ) → table_in l ≡ t → j ≡ min i 128 → x ≡ get_or t.key_len i 0 → e ≡ min (3600 + 32 * j + x) 7696
+    → take (e - (3600 + 32 * j)) (drop (3600 + 32 * j) l) ≡ key_at t.key_bytes t.key_len i
 unfolding table_in part
-key-in-place l t i x e is h q w =
-    let u : e - (3600 + 32 * i) ≡ min x (4096 - 32 * i) = omega arith in
-    let k : x ≡ get_or (table_in l).key_len i 0 = q ∙ ap (λ (v : Table). get_or v.key_len i 0) (sym is) in
-    rw (← is) (rw u (part-part l 3600 4096 (32 * i) x) ∙ ap (λ (m : ℕ). take m (drop (32 * i) (take 4096 (drop 3600 l)))) k)
+key-in-place l t i j x e is m q w = rw (← is) (go (dec_lt i 128))
+  where
+    k : x ≡ get_or (table_in l).key_len i 0
+    k = q ∙ ap (λ (v : Table). get_or v.key_len i 0) (sym is)
+
+    go : Dec (i < 128) → take (e - (3600 + 32 * j)) (drop (3600 + 32 * j) l) ≡ key_at (table_in l).key_bytes (table_in l).key_len i
+    go (yes h) =
+        let a : j ≡ i = omega arith in
+        let u : e - (3600 + 32 * i) ≡ min x (4096 - 32 * i) = omega arith in
+        rw a (rw u (part-part l 3600 4096 (32 * i) x) ∙ ap (λ (n : ℕ). take n (drop (32 * i) (take 4096 (drop 3600 l)))) k)
+    go (no h) =
+        let z : get_or (take 128 (drop 7696 l)) i 0 ≡ 0 = get_or-eq_default (take 128 (drop 7696 l)) 0 {n = i} (omega (arith, length-take 128 (drop 7696 l))) in
+        let u : e - (3600 + 32 * j) ≡ 0 = omega (arith, k, z) in
+        rw (u, z)
 
 -- ---- the search
 
@@ -76,31 +86,32 @@ same_pointwise [] (b ∷ t) = refl
 same_pointwise (a ∷ s) [] = refl
 same_pointwise (a ∷ s) (b ∷ t) = rw (same_pointwise s t)
 
--- the place of the first of the strings f a, f (a + 1), .., n of them, that is the same as k
-number-place : (f : ℕ → List ℕ) (k : List ℕ) (a n : ℕ) → position_or_len (λ i. pointwise nat_eq (f i) k) (range_with_len a n) ≡ number_of (tab f a n) k
-unfolding number_of
-number-place f k a zero = refl
-number-place f k a (suc n) = rw (same_pointwise (f a) k, add-one, number-place f k (suc a) n) (go (same (f a) k))
+suc-ltb : (m n : ℕ) → ltb (suc m) (suc n) ≡ ltb m n
+suc-ltb m n = go (ltb m n) refl
   where
-    go : (b : Bool) → cond (not b) (1 + number_of (tab f (suc a) n) k) 0 ≡ cond b 0 (suc (number_of (tab f (suc a) n) k))
-    go true = refl
-    go false = omega arith
+    go : (b : Bool) → ltb m n ≡ b → ltb (suc m) (suc n) ≡ b
+    go true e = let h = ltb-true m n e in lt-ltb (suc m) (suc n) (omega arith)
+    go false e = let h = ltb-false m n e in le-ltb (suc m) (suc n) (omega arith)
 
-pub place-of-key : (t : Table) (k : List ℕ) (n : ℕ) (r : Option ℕ) → n ≡ t.keys
-    → r ≡ position (λ i. pointwise nat_eq (key_at t.key_bytes t.key_len i) k) (range_with_len 0 n) → r ≡ key_index t k
+-- the first of the strings f a, f (a + 1), .., n of them, that is the same as k
+find-number : (f : ℕ → List ℕ) (k : List ℕ) (a n : ℕ)
+    → find (λ i. pointwise nat_eq (f i) k) (range_with_len a n) ≡ cond (ltb (number_of (tab f a n) k) n) (Some (a + number_of (tab f a n) k)) None
+unfolding number_of
+find-number f k a zero = refl
+find-number f k a (suc n) = rw (same_pointwise (f a) k, add-one, find-number f k (suc a) n) (go (same (f a) k) (number_of (tab f (suc a) n) k))
+  where
+    go : (b : Bool) (m : ℕ) → cond b (Some a) (cond (ltb m n) (Some (suc a + m)) None) ≡ cond (ltb (cond b 0 (suc m)) (suc n)) (Some (a + cond b 0 (suc m))) None
+    go true m = let e : a + 0 ≡ a = omega arith in rw (lt-ltb 0 (suc n) (omega arith), e)
+    go false m = let e : a + suc m ≡ suc a + m = omega arith in rw (suc-ltb m n, e)
+
+pub found-key : (t : Table) (k : List ℕ) (r : Option ℕ)
+    → r ≡ find (λ i. pointwise nat_eq (key_at t.key_bytes t.key_len i) k) (range_with_len 0 t.keys) → r ≡ key_index t k
 unfolding key_index table_keys
-place-of-key t k n r e q = q ∙ rw (length-range_with_len 0 n, number-place (key_at t.key_bytes t.key_len) k 0 n, e)
+found-key t k r q =
+    let z : 0 + number_of (tab (key_at t.key_bytes t.key_len) 0 t.keys) k ≡ number_of (tab (key_at t.key_bytes t.key_len) 0 t.keys) k = omega arith in
+    q ∙ find-number (key_at t.key_bytes t.key_len) k 0 t.keys ∙ rw z
 
 -- ---- the number in a frame
-
--- a key with a number has one below how many keys there are
-pub key_index-lt : (t : Table) (k : List ℕ) (i : ℕ) → key_index t k ≡ Some i → i < t.keys
-unfolding key_index
-key_index-lt t k i = go (number_of (table_keys t) k) (ltb (number_of (table_keys t) k) t.keys) refl
-  where
-    go : (n : ℕ) (b : Bool) → ltb n t.keys ≡ b → cond b (Some n) None ≡ Some i → i < t.keys
-    go n true h e = let q : n ≡ i = cc in rw (← q) (ltb-true n t.keys h)
-    go n false h e = absurd (cc)
 
 -- the number of a key, and how many keys there are where it has none
 pub key_index-or : (t : Table) (k : List ℕ) → unwrap_or (key_index t k) t.keys ≡ number_of (table_keys t) k

@@ -3,14 +3,13 @@ use mathlib.Core.Bool.{Bool, true, false, cond}
 use mathlib.Core.List.{List, [], ◌∷◌, ◌++◌}
 use mathlib.Core.Path.{◌≡◌, refl, sym, ap, ◌∙◌, fun_ext}
 use Prim.Native.Nat.{ℕ, zero, suc, ◌+◌, ◌*◌, ◌-◌, ◌%◌, ◌/◌, ◌^◌, ◌<◌, ◌≤◌}
-use native.Mathlib.Decide.{dec_lt}
 use native.Mathlib.Omega.{arith}
 use lib.Bits.{bit_or}
 use lib.Dec.{eqb}
-use lib.ListN.{length, get_or, set, take, drop, replicate, length-replicate, length-set, length-take, get_or-eq_default}
+use lib.ListN.{length, get_or, set, take, drop, replicate, length-replicate, length-set}
 use lib.Seq.{get_or-set_same, get_or-set_other, drop-set-lt, take-suc-set, drop-drop}
 use Rattle.std.proofs.lemmas.List.{append_assoc, take-append-drop}
-use Rattle.laws.specs.Bits.{bit_at, set_bit}
+use Rattle.laws.specs.Bits.{set_bit}
 use Rattle.table.specs.Table.{Table}
 use Rattle.table.specs.Flat.{part, table_in, empty_table}
 use Rattle.table.specs.Slots.{slot_size, slot_start, slots, table_with, put_at}
@@ -150,14 +149,6 @@ key-in-place l w t k at is long q room m e0 = table_in-slots _ ∙ ap table_with
 
 -- ---- one end state more
 
--- a bit of the end states is a bit of the table's bytes
-pub bit_at-ends : (l : List ℕ) (t : Table) (i : ℕ) (b : Bool) → table_in l ≡ t → i < 512 → b ≡ bit_at l (62592 + i) → b ≡ bit_at t.ends i
-unfolding bit_at table_in
-bit_at-ends l t i b is h e =
-    let q : (62592 + i) / 8 ≡ 7824 + i / 8 = omega arith in
-    let m : (62592 + i) % 8 ≡ i % 8 = omega arith in
-    rw (← is) (e ∙ rw (q, m, get_d_part l 7824 64 (i / 8) (omega arith)))
-
 set_bit-ends : (l : List ℕ) (i : ℕ) → i < 512 → set_bit l (62592 + i) ≡ set l (7824 + i / 8) (bit_or (get_or (slots l 10) (i / 8) 0) (2 ^ (i % 8)))
 unfolding set_bit slots
 set_bit-ends l i h =
@@ -189,19 +180,7 @@ no_forms l t r q is h f e k u =
     let a : 7888 + r + k ≡ 7888 + (r + k) = omega arith in
     rw (← is) (sym (get_d_part l 7888 32 (r + k) (omega arith)) ∙ ap (λ (i : ℕ). get_or l i 0) (sym a) ∙ f e k u)
 
--- the byte of a form, and none past the forms
-pub form-in-place : (l : List ℕ) (t : Table) (r : ℕ) → table_in l ≡ t → length l ≡ 7920 → get_or l (7888 + r) 0 ≡ get_or t.forms r 0
-unfolding table_in part
-form-in-place l t r is long = rw (← is) (go (dec_lt r 32))
-  where
-    go : Dec (r < 32) → get_or l (7888 + r) 0 ≡ get_or (table_in l).forms r 0
-    go (yes h) = get_d_part l 7888 32 r h
-    go (no h) =
-        get_or-eq_default l 0 {n = 7888 + r} (omega arith)
-        ∙ sym (get_or-eq_default (take 32 (drop 7888 l)) 0 {n = r} (omega (arith, length-take 32 (drop 7888 l))))
-
 -- a line of two bytes
-pub line-in-place : (l : List ℕ) (t : Table) (e a b : ℕ) → table_in l ≡ t → length l ≡ 7920 → e < 512 → a ≡ get_or (part l 2576 512) e 0
+pub line-in-place : (l : List ℕ) (t : Table) (e a b : ℕ) → table_in l ≡ t → length l ≡ 7920 → a ≡ get_or (part l 2576 512) e 0
     → b ≡ get_or (part l 3088 512) e 0 → a + 256 * b ≡ get_or t.edge_line e 0
-line-in-place l t e a b is long h p q =
-    rw (← is) (line_read l e a b long h (p ∙ sym (get_d_part l 2576 512 e h)) (q ∙ sym (get_d_part l 3088 512 e h)))
+line-in-place l t e a b is long p q = rw (← is) (line_read l e a b long p q)

@@ -107,12 +107,11 @@ get_d-paired (a ∷ ls) (h ∷ hs) zero e = refl
 get_d-paired (a ∷ ls) (h ∷ hs) (suc i) e = get_d-paired ls hs i (omega arith)
 
 -- a number of two bytes
-pub line_read : (l : List ℕ) (e a b : ℕ) → length l ≡ 7920 → e < 512 → a ≡ get_or l (2576 + e) 0 → b ≡ get_or l (3088 + e) 0
+pub line_read : (l : List ℕ) (e a b : ℕ) → length l ≡ 7920 → a ≡ get_or (part l 2576 512) e 0 → b ≡ get_or (part l 3088 512) e 0
     → a + 256 * b ≡ get_or (table_in l).edge_line e 0
 unfolding table_in
-line_read l e a b h u p q =
-    rw (p, q, get_d_part l 2576 512 e u, get_d_part l 3088 512 e u)
-    (get_d-paired (part l 2576 512) (part l 3088 512) e (length_part l 2576 512 (omega arith) ∙ sym (length_part l 3088 512 (omega arith))))
+line_read l e a b u p q =
+    rw (p, q) (get_d-paired (part l 2576 512) (part l 3088 512) e (length_part l 2576 512 (omega arith) ∙ sym (length_part l 3088 512 (omega arith))))
 
 -- ---- the empty table
 zeros : ℕ → List ℕ

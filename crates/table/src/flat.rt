@@ -81,19 +81,13 @@ pub struct Cell {
     pub next: u8,
 }
 
-// The byte at a place; 0 past the end.
-fn byte_at(bytes: &[u8; SIZE], at: usize) -> u8
-    ensures { result ≡ get_or bytes.now at 0 }
-{
-    bytes.get(at).copied().unwrap_or(0)
-}
-
-// Byte i of the N bytes from place AT on.
+// Byte i of the N bytes from place AT on; 0 past the last of them.
+#[tactic(auto, unfolding(crate::specs::Flat::part))]
 fn byte_in<const AT: usize, const N: usize>(bytes: &[u8; SIZE], i: usize) -> u8
-    requires { (i < N) × (AT + N ≤ 7920) }
+    requires { AT + N ≤ 7920 }
     ensures { result ≡ get_or (part bytes.now AT N) i 0 }
 {
-    bytes[AT + i]
+    bytes[AT..AT + N].get(i).copied().unwrap_or(0)
 }
 
 impl Table {
@@ -121,63 +115,57 @@ impl Table {
         self.bytes[0] as usize + 256 * self.bytes[1] as usize
     }
 
-    pub fn keys(&self) -> usize
+    pub fn keys(&self) -> u8
         ensures { result ≡ self.now.keys }
     {
-        self.bytes[2] as usize
+        self.bytes[2]
     }
 
     pub fn rule(&self, e: usize) -> u8
-        requires { e < 512 }
         ensures { result ≡ get_or self.now.edge_rule e 0 }
     {
         byte_in::<RULE, 512>(&self.bytes, e)
     }
 
     pub fn state(&self, e: usize) -> u8
-        requires { e < 512 }
         ensures { result ≡ get_or self.now.edge_state e 0 }
     {
         byte_in::<STATE, 512>(&self.bytes, e)
     }
 
     pub fn key(&self, e: usize) -> u8
-        requires { e < 512 }
         ensures { result ≡ get_or self.now.edge_key e 0 }
     {
         byte_in::<KEY, 512>(&self.bytes, e)
     }
 
     pub fn kind(&self, e: usize) -> u8
-        requires { e < 512 }
         ensures { result ≡ get_or self.now.edge_kind e 0 }
     {
         byte_in::<KIND, 512>(&self.bytes, e)
     }
 
     pub fn next(&self, e: usize) -> u8
-        requires { e < 512 }
         ensures { result ≡ get_or self.now.edge_next e 0 }
     {
         byte_in::<NEXT, 512>(&self.bytes, e)
     }
 
+    // The form of a rule; 0 for a rule past the forms.
+    // Stays: a number, since the table's byte is one, which may be any, and 0 there means no lines.
     pub fn form(&self, r: usize) -> u8
-        requires { r < 32 }
         ensures { result ≡ get_or self.now.forms r 0 }
     {
         byte_in::<FORM, 32>(&self.bytes, r)
     }
 
     pub fn end(&self, i: usize) -> u8
-        requires { i < 64 }
         ensures { result ≡ get_or self.now.ends i 0 }
     {
         byte_in::<END, 64>(&self.bytes, i)
     }
 
     pub fn len(&self, k: usize) -> u8
-        requires { k < 128 }
         ensures { result ≡ get_or self.now.key_len k 0 }
     {
         byte_in::<KEY_LEN, 128>(&self.bytes, k)
@@ -185,17 +173,8 @@ impl Table {
 }
 
 impl Table {
-    // The form of a rule; 0 for a rule past the forms.
-    // Stays: a number, since the table's byte is one, which may be any, and 0 there means no lines.
-    pub fn form_of(&self, rule: u8) -> u8
-        ensures { result ≡ get_or self.now.forms rule 0 }
-    {
-        byte_at(&self.bytes, FORM + rule as usize)
-    }
-
     // The line of the book that an edge stands on.
     pub fn line(&self, e: usize) -> usize
-        requires { e < 512 }
         ensures { result ≡ get_or self.now.edge_line e 0 }
     {
         let low = byte_in::<LINE_LOW, 512>(&self.bytes, e) as usize;
@@ -205,7 +184,6 @@ impl Table {
 
     // The numbers of an edge.
     pub fn cell(&self, e: usize) -> Cell
-        requires { e < 512 }
         ensures { result ≡ cell_at self.now e }
     {
         Cell {
@@ -219,13 +197,13 @@ impl Table {
 
     // Bit i of the end states: state q of rule r is one, at i = 16 r + q.
     pub fn is_end(&self, i: usize) -> bool
-        requires { i < 512 }
         ensures { result ≡ bit_at self.now.ends i }
     {
-        bits::get_bit(&self.bytes, 8 * END + i)
+        bits::get_bit(&self.bytes[END..FORM], i)
     }
 
     // The eight rules from r on have no form: one test for all of them, so that loops can pass over them.
+    // Stays: eight rules that the table has, since what is past them would cost each call a test that no caller needs.
     pub fn no_forms(&self, r: usize) -> bool
         requires { r + 8 ≤ 32 }
         ensures { result ≡ true → (k : ℕ) → k < 8 → get_or self.now.forms (r + k) 0 ≡ 0 }
@@ -233,17 +211,17 @@ impl Table {
         bits::quiet(&self.bytes, FORM + r)
     }
 
-    // The bytes of a key, which end with those of all keys.
+    // The bytes of a key, which end with those of all keys. A key past the last has none.
     pub fn key_text(&self, k: usize) -> &[u8]
-        requires { k < 128 }
         ensures { result.now ≡ key_at self.now.key_bytes self.now.key_len k }
     {
-        let a = KEY_BYTES + 32 * k;
+        let a = KEY_BYTES + 32 * cmp::min(k, 128);
         let e = cmp::min(a + self.len(k) as usize, KEY_LEN);
         &self.bytes[a..e]
     }
 
     // One edge more.
+    // Stays: room for it, and a rule that the table has, since the memory is fixed: `store::take_edge` tests the count.
     pub fn with_edge(&mut self, form: u8, c: Cell, line: u16)
         requires { (self.old.edges < 512) × (c.rule < 32) }
         ensures { self.new ≡ with_edge self.old form c line }
@@ -263,11 +241,12 @@ impl Table {
     }
 
     // One key more.
+    // Stays: room for it, since the memory is fixed: `store::take_edge` tests the count.
     pub fn with_key(&mut self, key: &[u8])
         requires { (self.old.keys < 128) × (length key.now ≤ 32) }
         ensures { self.new ≡ with_key self.old key.now }
     {
-        let at = self.keys();
+        let at = self.keys() as usize;
         let a = KEY_BYTES + 32 * at;
         self.bytes[a..a + key.len()].copy_from_slice(key);
         self.bytes[KEY_LEN + at] = key.len() as u8;
@@ -275,6 +254,7 @@ impl Table {
     }
 
     // One end state more.
+    // Stays: a rule and a state that the table has, since the memory is fixed.
     pub fn with_end(&mut self, rule: u8, form: u8, state: u8)
         requires { (rule < 32) × (state < 16) }
         ensures { self.new ≡ with_end self.old rule form state }

@@ -1,45 +1,40 @@
 // Keys of a table: the number of a key.
-ghost use Rattle.std.specs.Prelude.{◌≡◌, ◌+◌, ◌*◌, ◌<◌, ◌≤◌, true, false, Bool, min, position, nat_eq, length, get_or};
+ghost use Rattle.std.specs.Prelude.{◌≡◌, ◌*◌, Bool, find, nat_eq};
 ghost use Rattle.std.specs.List.{range_with_len};
 ghost use Rattle.std.specs.Cmp.Lexicographic.{pointwise};
-ghost use Rattle.table.specs.Keys.{key_at, table_keys, number_of, key_index, known_key, key_found};
+ghost use Rattle.table.specs.Keys.{key_at, key_index, known_key, key_found};
 
 use crate::flat::Table;
 
 impl Table {
-    // The place of the first key that is the same.
-    fn place(&self, key: &[u8]) -> Option<usize>
-        requires { self.now.keys ≤ 128 }
-        ensures { result ≡ position (λ k. pointwise nat_eq (key_at self.now.key_bytes self.now.key_len k) key.now) (range_with_len 0 self.now.keys) }
+    // The number of the first key that is the same.
+    fn first(&self, key: &[u8]) -> Option<u8>
+        ensures { result ≡ find (λ k. pointwise nat_eq (key_at self.now.key_bytes self.now.key_len k) key.now) (range_with_len 0 self.now.keys) }
     {
-        (0..self.keys()).position(|k| self.key_text(k) == key)
+        (0..self.keys()).find(|k| self.key_text(usize::from(*k)) == key)
     }
 
     // The number of a key among the keys of the table, where it is one of them.
-    pub fn find(&self, key: &[u8]) -> Option<usize>
-        requires { self.now.keys ≤ 128 }
+    pub fn find(&self, key: &[u8]) -> Option<u8>
         ensures { result ≡ key_index self.now key.now }
     {
-        self.place(key)
+        self.first(key)
     }
 
     // The number of the key of which `len` characters are kept, where it is a key of the table.
     fn known(&self, key: &[u8; 32], len: u8) -> Option<u8>
-        requires { self.now.keys ≤ 128 }
         ensures { result ≡ known_key self.now key.now len }
     {
         let n = len as usize;
         if 32 < n {
             return None;
         }
-        let k = self.find(&key[..n])?;
-        Some(k as u8)
+        self.find(&key[..n])
     }
 
     // That number as a frame stores it: 255 stands for a key that the table doesn't have.
     // Stays: a number, since a frame's byte holds it, and 255 is what it holds for such a key.
     pub fn number(&self, key: &[u8; 32], len: u8) -> u8
-        requires { self.now.keys ≤ 128 }
         ensures { result ≡ key_found self.now key.now len }
     {
         self.known(key, len).unwrap_or(255)

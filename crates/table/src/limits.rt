@@ -7,7 +7,7 @@ use crate::flat::Table;
 // How many edges and keys a table has at most.
 const MOST_EDGES: usize = 512;
 
-const MOST_KEYS: usize = 128;
+const MOST_KEYS: u8 = 128;
 
 // The counts of edges and keys are within their limits.
 #[tactic(auto, unfolding(crate::specs::Limits::within_limits))]

@@ -2,19 +2,14 @@
 use mathlib.Core.Path.{◌≡◌, ◌∙◌, ap}
 use lib.ListN.{length}
 use Rattle.std.proofs.Common.{unwrap_or}
-use Rattle.table.specs.Keys.{table_keys}
-use Rattle.book.specs.Holds.{key_number}
-use Rattle.store.proofs.StoreLaws.{key_number-none, key_number-some, key_number-le}
+use Rattle.store.proofs.StoreLaws.{key_number-none, key_number-some}
 use borrow.Author.Rules.{rules}
 use Rattle.store.proofs.key_number.Goals as goal
 
 pub returns-then-is_empty : goal.returns-then-is_empty
-returns-then-is_empty c = (key_number-none _ _ (search rules), search rules)
+returns-then-is_empty c = key_number-none _ _ (search rules)
 
 pub returns : goal.returns
 returns c =
-    let t = c.args.table.now in
     let some : length c.args.key.now ≡ 0 → ⊥ = search rules in
-    let e : c.unwrap_or.result ≡ key_number (table_keys t) c.args.key.now =
-    c.unwrap_or.ensures ∙ ap (unwrap_or c.find.result) c.keys.ensures ∙ key_number-some _ _ _ some c.find.ensures in
-    (e, rw e (key_number-le _ _ c.requires))
+    c.unwrap_or.ensures ∙ ap (unwrap_or c.find.result) c.keys.ensures ∙ key_number-some _ _ _ some c.find.ensures

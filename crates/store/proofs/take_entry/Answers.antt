@@ -6,8 +6,8 @@ use Rattle.store.proofs.take_entry.Goals as goal
 pub returns-then-form_changes : goal.returns-then-form_changes
 returns-then-form_changes c = search (rules, take_entry-form)
 
-pub returns-in-End : goal.returns-in-End
-returns-in-End c = search (rules, take_entry-end)
+pub returns-in-None : goal.returns-in-None
+returns-in-None c = search (rules, take_entry-end)
 
-pub returns-in-Edge : goal.returns-in-Edge
-returns-in-Edge c = search (rules, take_entry-edge)
+pub returns-in-Some : goal.returns-in-Some
+returns-in-Some c = search (rules, take_entry-edge)

@@ -6,4 +6,4 @@ use Rattle.frame.proofs.close.key_states.Goals as goal
 
 pub returns : goal.returns
 unfolding key_states
-returns c = let a = c.args in c.led_to.ensures (walking_in a.table.now a.frame.now a.from.now a.key) (λ e b l p. search rules)
+returns c = let a = c.args in c.led_to.ensures (walking_in a.table.now a.frame.now a.from.now a.key) (λ e b p. search rules)

@@ -13,7 +13,7 @@ loop-e-init g c = λ p same. refl
 
 pub loop-e-preserved : goal.loop-e-preserved
 loop-e-preserved g c = λ p same.
-    let more = λ (i : ℕ) (zs : List ℕ). set_all-more p _ c.loop-e.e i c.taken.result _ c.loop-e.states zs (c.loop-e.invariant p same) (same _ _ (omega arith) c.taken.ensures) in
+    let more = λ (i : ℕ) (zs : List ℕ). set_all-more p _ c.loop-e.e i c.taken.result _ c.loop-e.states zs (c.loop-e.invariant p same) (same _ _ c.taken.ensures) in
     elim c.if-taken.branch [
       | then-taken w ↦ more _ _ w.next_state.ensures (rw w.if-taken.true (w.states-is ∙ w.set_if.ensures))
       | else-taken w ↦ more _ _ refl (rw w.if-taken.false w.states-is)

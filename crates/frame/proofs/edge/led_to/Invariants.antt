@@ -6,4 +6,4 @@ use Rattle.frame.proofs.edge.led_to.Given as goal
 
 abbrev pub invariant-loop-e : goal.invariant-loop-e
 invariant-loop-e g l =
-    (p : ℕ → Bool) → ((e : ℕ) (b : Bool) → e < 512 → goal.F-post g l.taken e b → b ≡ p e) → l.states ≡ set_all p (leads_to l.table) l.e (replicate 64 0)
+    (p : ℕ → Bool) → ((e : ℕ) (b : Bool) → goal.F-post g l.taken e b → b ≡ p e) → l.states ≡ set_all p (leads_to l.table) l.e (replicate 64 0)

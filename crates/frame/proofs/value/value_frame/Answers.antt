@@ -18,4 +18,4 @@ returns-in-Array c =
     let a = c.args in
     let f = a.frame.now in
     valued-array _ _ _ _ f (mask_has c.mask_of-m.result) _ c.led_to-states.result c.mask_of-m.ensures (array-of-form f c.in-Array.ensures)
-    (c.led_to-states.ensures (stepping_in a.table.now c.mask_of-m.result f) (λ e b l p. search rules)) (rw c.copy_from_slice.ensures.after (put-states f c.led_to-states.result c.told-frame))
+    (c.led_to-states.ensures (stepping_in a.table.now c.mask_of-m.result f) (λ e b p. search rules)) (rw c.copy_from_slice.ensures.after (put-states f c.led_to-states.result c.told-frame))

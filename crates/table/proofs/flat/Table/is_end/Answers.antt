@@ -1,7 +1,10 @@
 -- `Table::is_end` meets its contract. Assumes nothing.
-use Rattle.table.proofs.PlaceLaws.{bit_at-ends}
-use borrow.Author.Rules.{rules}
+use mathlib.Core.Path.{ap, ◌∙◌}
+use Rattle.laws.specs.Bits.{bit_at}
+use Rattle.table.specs.Table.{Table}
+use Rattle.table.specs.Flat.{part, table_in}
 use Rattle.table.proofs.flat.Table.is_end.Goals as goal
 
 pub returns : goal.returns
-returns c = search (rules, bit_at-ends)
+unfolding part table_in
+returns c = c.get_bit.ensures ∙ ap (λ (t : Table). bit_at t.ends c.args.i) c.self.view_is

@@ -4,4 +4,4 @@ use Rattle.table.proofs.KeyLaws.{key-in-place}
 use Rattle.table.proofs.flat.Table.key_text.Goals as goal
 
 pub returns : goal.returns
-returns c = key-in-place _ _ _ _ _ c.self.view_is c.requires c.len.ensures (search rules)
+returns c = key-in-place _ _ _ c.min.result _ _ c.self.view_is (search rules) c.len.ensures (search rules)

@@ -23,12 +23,6 @@ use Rattle.progress.specs.Progress.{advanced}
 use Rattle.progress.specs.Memory.{Mem, top_at, value_at, rules_at, perform, step_mem}
 use Rattle.turn.specs.Turn.{ClosedTo, turned}
 
--- ---- what the test of a table tells
-
--- a table that passes the test has at most 128 keys
-pub keys_le : (t : Table) → within_limits t ≡ true → t.keys ≤ 128
-keys_le t e = (within_limits-sound t (T-of-true (within_limits t) e)).keys
-
 -- ---- the innermost open value
 
 pub top-bare : (w : List ℕ) (l : ℕ) → l ≡ 0 → Is.Bare ≡ top_at w l

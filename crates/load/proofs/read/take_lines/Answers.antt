@@ -5,9 +5,6 @@ use Rattle.load.proofs.ReadLaws.{lines_end, lines-open, lines-bad, lines_more, f
 use borrow.Author.Rules.{rules}
 use Rattle.load.proofs.read.take_lines.Goals as goal
 
-pub loop-l-init : goal.loop-l-init
-loop-l-init c = (search rules, rw c.empty.ensures)
-
 pub returns-in-Err : goal.returns-in-Err
 returns-in-Err c = lines-bad _ _ _ _ c.loop-l.invariant.1 _ _ c.in-Some.ensures _ _ c.in-Err.ensures _ _ (fault-some c.in-Err.fault) c.line_refusal.ensures c.refusal.ensures
 

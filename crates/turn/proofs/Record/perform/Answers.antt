@@ -1,5 +1,4 @@
 -- `Record::perform` meets its contract: each task is done as its definition says. Assumes nothing.
-use borrow.Author.Rules.{rules}
 use Rattle.progress.specs.Memory.{value_at, close_at}
 use Rattle.turn.proofs.Record.perform.Goals as goal
 

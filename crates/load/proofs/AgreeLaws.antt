@@ -22,7 +22,6 @@ use Rattle.load.specs.declared.Refusal.{Refusal}
 use Rattle.load.specs.declared.Refusal.TheVariants.{Size, Names, Malformed, AboveLimit, TooMany, FormChanged, Repeated, NoRule, NoRoot, NotAscending}
 use Rattle.load.specs.BookAnswer.{Numbered, number_line, refused_as, numbered, answer_for}
 use Rattle.store.specs.Proper.{ProperSaid}
-use Rattle.load.specs.Ranges.{Ranges}
 use Rattle.store.specs.Store.{take_entry, table_from, table_of}
 use Rattle.load.specs.Step.{Loaded, take_said, line_refusal, loaded, refusal, take_on, take_lines, take_book}
 use Rattle.load.specs.Check.{check_table}
@@ -157,14 +156,6 @@ book-agrees b = go (is_empty b || ltb 65536 (length b)) (same (take 31 b) names_
     go true y = (Size, refl, record { is = refl; has = refl }, λ z. omega arith)
     go false false = (Names, refl, record { is = refl; has = refl }, λ z. omega arith)
     go false true = lines-agree 2 [] (split 10 (drop 31 b)) refl kept-none
-
--- the numbers of what was read are in their ranges
-pub book-ranges : (b : List ℕ) (r : Loaded) → r ≡ take_book b → Ranges r.table
-book-ranges b r q = rw q (go (read_book b) (book-agrees b))
-  where
-    go : (p : Read) → Agree (take_book b) p → Ranges (take_book b).table
-    go (refused k n) a = rw a.1 kept-empty.ranges
-    go (entries es) a = rw a.0 a.1.ranges
 
 -- ---- the checks
 

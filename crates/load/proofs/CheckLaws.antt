@@ -1,34 +1,35 @@
 -- The checks of a table, by the tests on the way: each law takes their results and gives the answer there. Assumes nothing.
-use mathlib.Core.Bool.{Bool, true, false, cond}
-use mathlib.Core.Path.{◌≡◌, sym, ◌∙◌}
-use Prim.Native.Nat.{ℕ, zero, suc, ◌+◌, ◌<◌, ◌≤◌}
+use mathlib.Core.Bool.{Bool, true, false, ◌||◌}
+use mathlib.Core.Path.{◌≡◌, refl, sym, ◌∙◌}
+use Prim.Native.Nat.{ℕ, zero, suc, ◌+◌}
+use native.Mathlib.Numerals.{add-one}
 use native.Mathlib.Omega.{arith}
 use lib.ListN.{get_or}
 use borrow.Author.Tests.{eq-eqb, ne_eqb}
-use Rattle.std.proofs.Common.{Option, Some, None, find}
-use Rattle.std.specs.List.{range_with_len}
+use Rattle.std.proofs.Common.{Option, Some, None}
 use Rattle.table.specs.Table.{Table}
 use Rattle.load.specs.declared.Refusal.TheVariants.{NoRule, NoRoot, NotAscending}
 use Rattle.load.specs.Step.{Loaded, loaded, refusal}
-use Rattle.load.specs.Check.{late_at, dangles_at, dangling, clashing, check_table}
+use Rattle.store.specs.Store.{some}
+use Rattle.load.specs.Check.{late_at, clashes_at, dangling, clashing, check_table}
 
--- ---- an edge that is found is one of the edges
-found-below : (f : ℕ → Bool) (i n e : ℕ) → find f (range_with_len i n) ≡ Some e → e < i + n
-found-below f i zero e q = absurd (cc)
-found-below f i (suc n) e q = go (f i) q (found-below f (i + 1) n e)
+-- ---- an edge and those before it
+some-one-more : (f : ℕ → Bool) (i n : ℕ) → some f i (suc n) ≡ (some f i n || f (i + n))
+some-one-more f i zero = let e : i + 0 ≡ i = omega arith in rw e (go (f i))
   where
-    go : (b : Bool) → cond b (Some i) (find f (range_with_len (i + 1) n)) ≡ Some e → (find f (range_with_len (i + 1) n) ≡ Some e → e < i + 1 + n) → e < i + suc n
-    go true p h = let z : i ≡ e = cc in omega arith
-    go false p h = let z = h p in omega arith
+    go : (b : Bool) → (b || false) ≡ b
+    go true = refl
+    go false = refl
+some-one-more f i (suc n) = let e : i + suc n ≡ i + 1 + n = omega arith in rw (e, some-one-more f (i + 1) n) (go (f i))
+  where
+    go : (b : Bool) → (b || (some f (i + 1) n || f (i + 1 + n))) ≡ ((b || some f (i + 1) n) || f (i + 1 + n))
+    go true = refl
+    go false = refl
 
-module _ (t : Table) (o : Option ℕ) (e : ℕ) (few : t.edges ≤ 512) where
-  pub dangling-below : o ≡ dangling t → o ≡ Some e → e < 512
-  unfolding dangling
-  dangling-below q p = let z = found-below (dangles_at t) 0 t.edges e (sym q ∙ p) in omega arith
-
-  pub clashing-below : o ≡ clashing t → o ≡ Some e → e < 512
-  unfolding clashing
-  clashing-below q p = let z = found-below (late_at t) 0 t.edges e (sym q ∙ p) in omega arith
+-- an edge clashes with one up to it where it does with one before it, or with itself
+pub late_split : (t : Table) (b : ℕ) → late_at t b ≡ (some (clashes_at t b) 0 b || clashes_at t b b)
+unfolding late_at
+late_split t b = let e : 0 + b ≡ b = omega arith in rw add-one (rw e at (some-one-more (clashes_at t b) 0 b))
 
 -- ---- a table
 module _ (t : Table) (v : Loaded) (o : Option ℕ) (q : o ≡ dangling t) where

@@ -1,7 +1,7 @@
 -- The numbers of a table stay in their ranges as entries are taken. Assumes nothing.
 use mathlib.Core.Bool.{Bool, true, false, cond}
 use mathlib.Core.List.{List, [], ◌∷◌}
-use mathlib.Core.Path.{◌≡◌, refl, ap}
+use mathlib.Core.Path.{◌≡◌, refl}
 use Prim.Native.Nat.{ℕ, zero, suc, ◌+◌, ◌*◌, ◌<◌, ◌≤◌}
 use native.Mathlib.Omega.{arith}
 use lib.Dec.{leb}
@@ -16,15 +16,12 @@ use Rattle.table.specs.Keys.{table_keys}
 use Rattle.table.proofs.KeyLaws.{number_of-le, length-table_keys}
 use Rattle.table.proofs.SlotLaws.{empty_table-parts}
 use Rattle.book.specs.Entry.{Form, obj, arr, Entry, edge, end_state}
-use Rattle.book.specs.Line.{Said, bad, good, say_line}
 use Rattle.book.specs.Holds.{key_number, form_code}
 use Rattle.table.specs.declared.flat.Cell.{Cell}
-use Rattle.store.specs.Proper.{Proper, ProperSaid}
+use Rattle.store.specs.Proper.{Proper}
 use Rattle.load.specs.Ranges.{Ranges}
 use Rattle.table.specs.Cells.{with_end, with_edge, with_key}
-use Rattle.store.specs.Store.{Taken, has_cell, is_new, form_changes, taken, cell_for, take_edge, take_end, take_entry}
-use Rattle.load.specs.Step.{take_said}
-use Rattle.load.proofs.ProperLaws.{say_line-proper}
+use Rattle.store.specs.Store.{has_cell, is_new, form_changes, taken, cell_for, take_edge, take_end, take_entry}
 
 -- the ranges of the counts are their limits
 pub within_limits-of-ranges : (t : Table) → Ranges t → WithinLimits t
@@ -144,14 +141,3 @@ ranges-take_entry n t (end_state r f q) w p = go (form_changes (get_or t.forms r
     go : (b : Bool) → Ranges (cond b (taken 6 t) (take_end t r (form_code f) q)).table
     go true = w
     go false = ranges-take_end t w r (form_code f) q (form_code-le f)
-
-ranges-take_said : (n : ℕ) (t : Table) (s : Said) → Ranges t → ProperSaid s → Ranges (take_said n t s).table
-unfolding take_said
-ranges-take_said n t (bad k) w p = w
-ranges-take_said n t (good e) w p = ranges-take_entry n t e w p
-
--- taking a line keeps the numbers of a table in their ranges
-pub ranges-line : (n : ℕ) (t : Table) (l : List ℕ) (x : ℕ) (y : Table) → taken x y ≡ take_said n t (say_line l) → Ranges t → Ranges y
-ranges-line n t l x y q w =
-    let d : y ≡ (take_said n t (say_line l)).table = ap (λ (v : Taken). v.table) q in
-    rw d (ranges-take_said n t (say_line l) w (say_line-proper l))

@@ -46,12 +46,11 @@ fn clashes_at(table: &Table, b: usize, a: usize) -> bool
     clash_at(table, a, b) | clash_at(table, b, a)
 }
 
-// Edge b clashes with an edge up to it.
-#[tactic(auto, unfolding(crate::specs::Check::late_at))]
+// Edge b clashes with an edge before it, or with itself.
 fn late_at(table: &Table, b: usize) -> bool
     ensures { result ≡ late_at table.now b }
 {
-    (0..b + 1).any(|a| clashes_at(table, b, a))
+    (0..b).any(|a| clashes_at(table, b, a)) | clashes_at(table, b, b)
 }
 
 // The first edge that clashes with one up to it.

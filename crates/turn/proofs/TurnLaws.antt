@@ -1,16 +1,13 @@
 -- What the parts of a turn tell is what the definitions say: laws in the form of the code's needs, and `turned-step_mem`. Assumes nothing.
-use mathlib.Core.Bool.{Bool, true}
+use mathlib.Core.Bool.{Bool}
 use mathlib.Core.List.{List}
 use mathlib.Core.Path.{◌≡◌, ap, ◌∙◌}
-use Prim.Native.Nat.{ℕ, ◌-◌, ◌≤◌}
+use Prim.Native.Nat.{ℕ, ◌-◌}
 use borrow.Author.Tests.{eq-eqb, ne_eqb}
 use Rattle.json_text.specs.Lexer.{step_of}
 use Rattle.json_text.specs.declared.lexer.Top.TheVariants as Is
 use Rattle.json_text.specs.declared.lexer.Step.{Step}
 use Rattle.table.specs.Table.{Table}
-use Rattle.table.specs.Limits.{within_limits}
-use Rattle.table.proofs.LimitLaws.{within_limits-sound}
-use Rattle.laws.proofs.TestLaws.{T-of-true}
 use Rattle.table.specs.declared.kind.Finished.TheVariants as Done
 use Rattle.table.specs.Kind.{rule_fits}
 use Rattle.table.specs.declared.kind.Form.TheVariants.{Object, Array}
@@ -22,12 +19,6 @@ use Rattle.progress.specs.declared.Advanced.{Advanced}
 use Rattle.progress.specs.Progress.{advanced}
 use Rattle.progress.specs.Memory.{Mem, top_at, value_at, rules_at, perform, step_mem}
 use Rattle.turn.specs.Turn.{ClosedTo, turned}
-
--- ---- what the test of a table tells
-
--- a table that passes the test has at most 128 keys
-pub keys_le : (t : Table) → within_limits t ≡ true → t.keys ≤ 128
-keys_le t e = (within_limits-sound t (T-of-true (within_limits t) e)).keys
 
 -- ---- the innermost open value
 

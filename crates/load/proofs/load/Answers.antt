@@ -4,12 +4,9 @@ use Rattle.std.proofs.Common.{Err}
 use Rattle.std.proofs.lemmas.Result.{err_from_is_err_and}
 use Rattle.load.specs.Loads.{LoadsAs}
 use Rattle.load.specs.Step.{loaded_as}
-use Rattle.load.proofs.AgreeLaws.{book-ranges, load-checked, load-refused, refusal-some}
+use Rattle.load.proofs.AgreeLaws.{load-checked, load-refused, refusal-some}
 use Rattle.load.proofs.BlankLaws.{loads-blank}
 use Rattle.load.proofs.load.Goals as goal
-
-pub check_table-requires : goal.check_table-requires
-check_table-requires c = (book-ranges _ _ c.take_book.ensures).edges
 
 pub returns : goal.returns
 returns c =

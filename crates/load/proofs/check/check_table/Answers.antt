@@ -1,19 +1,13 @@
 -- `check::check_table` meets its contract. Assumes nothing.
-use Rattle.load.proofs.CheckLaws.{dangling-below, clashing-below, check-dangling, check-root, check-clash, check-good}
+use Rattle.load.proofs.CheckLaws.{check-dangling, check-root, check-clash, check-good}
 use borrow.Author.Rules.{rules}
 use Rattle.load.proofs.check.check_table.Goals as goal
-
-pub line-line-requires : goal.line-line-requires
-line-line-requires c = dangling-below _ _ _ c.requires c.dangling.ensures c.in-Some.is
 
 pub returns-in-Some : goal.returns-in-Some
 returns-in-Some c = check-dangling _ _ _ c.dangling.ensures _ _ c.in-Some.is c.line-line.ensures c.refusal.ensures
 
 pub returns-then-form-eq0 : goal.returns-then-form-eq0
 returns-then-form-eq0 c = search (rules, check-root)
-
-pub line-later-requires : goal.line-later-requires
-line-later-requires c = clashing-below _ _ _ c.requires c.clashing.ensures c.in-Some-clashing.is
 
 pub returns-in-Some-clashing : goal.returns-in-Some-clashing
 returns-in-Some-clashing c = search (rules, check-clash)

@@ -1,10 +1,9 @@
 -- `read::take_line` meets its contract. Assumes nothing.
 use Rattle.load.proofs.ReadLaws.{line-proper, line-entry, line-fault}
-use borrow.Author.Rules.{rules}
 use Rattle.load.proofs.read.take_line.Goals as goal
 
 pub take_entry-requires : goal.take_entry-requires
-take_entry-requires c = (search rules, line-proper _ _ c.in-Ok.ensures)
+take_entry-requires c = line-proper _ _ c.in-Ok.ensures
 
 pub returns-in-Ok : goal.returns-in-Ok
 returns-in-Ok c = line-entry _ _ _ _ _ c.in-Ok.ensures c.take_entry.ensures

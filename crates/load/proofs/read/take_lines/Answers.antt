@@ -2,25 +2,21 @@
 use mathlib.Core.Path.{refl}
 use native.Mathlib.Omega.{arith}
 use Rattle.load.proofs.ReadLaws.{lines_end, lines-open, lines-bad, lines_more, fault-some}
-use Rattle.load.proofs.RangeLaws.{ranges-line, ranges-empty}
 use borrow.Author.Rules.{rules}
 use Rattle.load.proofs.read.take_lines.Goals as goal
 
-pub loop-l-init : goal.loop-l-init
-loop-l-init c = (search rules, rw c.empty.ensures ranges-empty, rw c.empty.ensures)
-
 pub returns-in-Err : goal.returns-in-Err
-returns-in-Err c = lines-bad _ _ _ _ c.loop-l.invariant.2 _ _ c.in-Some.ensures _ _ c.in-Err.ensures _ _ (fault-some c.in-Err.fault) c.line_refusal.ensures c.refusal.ensures
+returns-in-Err c = lines-bad _ _ _ _ c.loop-l.invariant.1 _ _ c.in-Some.ensures _ _ c.in-Err.ensures _ _ (fault-some c.in-Err.fault) c.line_refusal.ensures c.refusal.ensures
 
 pub loop-l-preserved : goal.loop-l-preserved
 loop-l-preserved c =
     let s = c.in-Some.ensures in
     let p = s.shorter in
     let e = c.in_default-take_line.ensures in
-    (omega (arith, p), ranges-line _ _ _ _ _ e c.loop-l.invariant.1, lines_more _ _ _ _ c.loop-l.invariant.2 _ _ s _ _ e refl)
+    (omega (arith, p), lines_more _ _ _ _ c.loop-l.invariant.1 _ _ s _ _ e refl)
 
 pub returns-then-not-is_empty : goal.returns-then-not-is_empty
-returns-then-not-is_empty c = lines-open _ _ _ _ c.loop-l.invariant.2 _ (search rules) c.in_default.ensures c.refusal-then-not-is_empty.ensures
+returns-then-not-is_empty c = lines-open _ _ _ _ c.loop-l.invariant.1 _ (search rules) c.in_default.ensures c.refusal-then-not-is_empty.ensures
 
 pub returns : goal.returns
-returns c = lines_end _ _ _ _ c.loop-l.invariant.2 (search rules)
+returns c = lines_end _ _ _ _ c.loop-l.invariant.1 (search rules)

@@ -1,11 +1,6 @@
 -- `Record::perform` meets its contract: each task is done as its definition says. Assumes nothing.
-use borrow.Author.Rules.{rules}
 use Rattle.progress.specs.Memory.{value_at, close_at}
-use Rattle.turn.proofs.TurnLaws.{keys_le}
 use Rattle.turn.proofs.Record.perform.Goals as goal
-
-pub number-number-requires : goal.number-number-requires
-number-number-requires c = keys_le _ c.args.rules.in_limits
 
 pub returns-in-Finish-clause-performed : goal.returns-in-Finish-clause-performed
 unfolding value_at

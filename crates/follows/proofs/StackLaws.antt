@@ -1,6 +1,6 @@
 -- The frames of a buffer show the machine's stack: what the innermost frame is, and what each task leaves. Work at one level leaves the frames of
 -- the other levels. Assumes nothing.
-use mathlib.Core.Bool.{Bool, true, false, cond}
+use mathlib.Core.Bool.{Bool, false, cond}
 use mathlib.Core.List.{List}
 use mathlib.Core.Path.{◌≡◌, refl, sym, ◌∙◌}
 use Prim.Native.Nat.{ℕ, suc, ◌*◌, ◌≤◌, ◌<◌}

@@ -11,6 +11,7 @@ use table::flat::Table;
 use table::kind::Form;
 
 // The states that the object's fitting edges of the key lead to.
+#[tactic(auto, unfolding(crate::specs::Ops::key_states))]
 fn key_states<'a>(frame: &'a Frame, from: &'a States, table: &'a Table, key: u8) -> States
     ensures { result ≡ key_states (edges_in table.now) frame.now from.now key }
 {
@@ -18,6 +19,7 @@ fn key_states<'a>(frame: &'a Frame, from: &'a States, table: &'a Table, key: u8)
 }
 
 // Goes on from some states over the seen keys of byte 16 + i, ascending; a key that was not seen changes nothing.
+// Stays: one of the 16 bytes of the keys seen, since the frame is read by index.
 fn walk_byte<'a>(states: &mut States, frame: &'a Frame, table: &'a Table, i: u8)
     requires { i < 16 }
     ensures { states.new ≡ walked (edges_in table.now) frame.now (8 * i) states.old 8 }
@@ -46,6 +48,7 @@ fn walk<'a>(frame: &'a Frame, table: &'a Table) -> States
 }
 
 // Rule r has an end state among the states: its 16 states are two bytes.
+// Stays: a rule that the states have, since their array is read by index; `accepts` has tested it.
 fn has_end<'a>(states: &'a States, table: &'a Table, r: usize) -> bool
     requires { r < 32 }
     ensures { result ≡ has_end table.now.ends states.now r }
@@ -54,6 +57,7 @@ fn has_end<'a>(states: &'a States, table: &'a Table, r: usize) -> bool
 }
 
 // Rule r is of a form, and has an end state among the states.
+#[tactic(auto, unfolding(crate::specs::Edges::has_form, crate::specs::Ops::accepting))]
 fn accepts<'a>(states: &'a States, table: &'a Table, form: Form, r: usize) -> bool
     ensures { result ≡ accepting_in table.now (form_number form) states.now r }
 {

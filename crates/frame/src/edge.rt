@@ -26,6 +26,7 @@ fn state_number(rule: u8, state: u8) -> usize
 }
 
 // The number of the state that edge e leaves.
+#[tactic(auto, unfolding(crate::specs::Edges::state_number))]
 fn state_of(table: &Table, e: usize) -> usize
     ensures { result ≡ leaves table.now e }
 {
@@ -33,6 +34,7 @@ fn state_of(table: &Table, e: usize) -> usize
 }
 
 // The number of the state that edge e leads to.
+#[tactic(auto, unfolding(crate::specs::Edges::state_number))]
 fn next_state(table: &Table, e: usize) -> usize
     ensures { result ≡ leads_to table.now e }
 {
@@ -40,6 +42,7 @@ fn next_state(table: &Table, e: usize) -> usize
 }
 
 // Rule r is of a form; one above 31 is of none.
+#[tactic(auto, unfolding(crate::specs::Edges::has_form))]
 pub fn has_form(table: &Table, r: usize, form: Form) -> bool
     ensures { result ≡ has_form table.now.forms (form_number form) r }
 {
@@ -54,6 +57,7 @@ fn holds(frame: &Frame, i: usize) -> bool
 }
 
 // Edge e is one of the key, and the mask has its kind.
+#[tactic(auto, unfolding(crate::specs::Edges::fitting))]
 pub fn fitting(table: &Table, e: usize, key: u8, m: u64) -> bool
     ensures { result ≡ fitting_in table.now m key e }
 {
@@ -61,6 +65,7 @@ pub fn fitting(table: &Table, e: usize, key: u8, m: u64) -> bool
 }
 
 // The mask has the kind of edge e, its rule is an arr rule, and its state is one of the frame's.
+#[tactic(auto, unfolding(crate::specs::Edges::state_number, crate::specs::Edges::stepping))]
 pub fn stepping<'a>(table: &'a Table, frame: &'a Frame, e: usize, m: u64) -> bool
     ensures { result ≡ stepping_in table.now m frame.now e }
 {
@@ -70,6 +75,7 @@ pub fn stepping<'a>(table: &'a Table, frame: &'a Frame, e: usize, m: u64) -> boo
 }
 
 // Edge e is one of the key, is among the frame's fitting edges, and its state is one of the states.
+#[tactic(auto, unfolding(crate::specs::Edges::state_number, crate::specs::Edges::walking))]
 pub fn walking<'a>(
     table: &'a Table,
     frame: &'a Frame,
@@ -79,9 +85,7 @@ pub fn walking<'a>(
 ) -> bool
     ensures { result ≡ walking_in table.now frame.now states.now key e }
 {
-    table.key(e) == key
-        && holds(frame, e)
-        && bits::get_bit(states, state_of(table, e))
+    table.key(e) == key && holds(frame, e) && bits::get_bit(states, state_of(table, e))
 }
 
 // The states that those edges lead to which are taken.

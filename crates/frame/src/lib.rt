@@ -78,6 +78,7 @@ fn change_frame<F: FnOnce(&mut Frame)>(work: &mut [u8], level: usize, change: F)
 }
 
 // The form of the value that a frame is of: any number but that of an object counts as that of an array.
+#[tactic(auto, unfolding(crate::specs::Frame::form_in, crate::specs::Frame::is_object))]
 fn form_of(frame: &Frame) -> Form
     ensures { result ≡ form_in frame.now }
 {
@@ -90,6 +91,7 @@ fn form_of(frame: &Frame) -> Form
 
 // The form of the value that is open at a level: an object or an array.
 // Ruled out: a program that hands out the byte as it stands; one that reads the frame of the level below.
+#[tactic(auto, unfolding(crate::specs::Frame::form_in, crate::specs::Frame::is_object))]
 pub fn form_at(work: &[u8], level: usize) -> Form
     ensures { result ≡ form_in (frame_at work.now level) }
 {

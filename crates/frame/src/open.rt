@@ -33,6 +33,7 @@ pub fn add_starts(states: &mut [u8], table: &Table, form: Form)
 }
 
 // Writes all 96 bytes of a fresh frame.
+#[tactic(auto, unfolding(crate::specs::Ops::opened, crate::specs::Ops::start_states))]
 pub fn open_frame(frame: &mut Frame, form: Form, table: &Table)
     ensures { frame.new ≡ opened table.now.forms form }
 {

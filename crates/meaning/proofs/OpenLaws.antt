@@ -1,5 +1,5 @@
 -- An opened frame, and one after a finished key, show what `runs` keeps of the open value. Assumes nothing.
-use mathlib.Core.Bool.{Bool, true, false, not, cond, ◌&&◌, ◌||◌, or_comm, or-true}
+use mathlib.Core.Bool.{Bool, not, cond, ◌&&◌, ◌||◌, or_comm, or-true}
 use mathlib.Core.List.{List}
 use mathlib.Core.Path.{◌≡◌, sym, ap, ◌∙◌}
 use Prim.Native.Nat.{ℕ, ◌<◌, ◌≤◌}

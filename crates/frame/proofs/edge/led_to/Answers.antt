@@ -3,7 +3,6 @@ use Rattle.laws.specs.Bits.{set_all}
 use Rattle.laws.proofs.BitLaws.{set_all-more}
 use Rattle.std.proofs.Common.{List, ℕ}
 use mathlib.Core.Path.{refl, ◌∙◌}
-use native.Mathlib.Omega.{arith}
 use Rattle.frame.proofs.edge.led_to.Goals as goal
 use Rattle.frame.proofs.edge.led_to.Goals.{then-taken, else-taken}
 

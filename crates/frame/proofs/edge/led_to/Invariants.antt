@@ -1,5 +1,5 @@
 -- `edge::led_to` meets its contract. The loop has set the states of the edges below e. Assumes nothing.
-use Rattle.std.proofs.Common.{Bool, ◌≡◌, ℕ, ◌<◌, replicate}
+use Rattle.std.proofs.Common.{Bool, ◌≡◌, ℕ, replicate}
 use Rattle.laws.specs.Bits.{set_all}
 use Rattle.frame.specs.InTable.{leads_to}
 use Rattle.frame.proofs.edge.led_to.Given as goal

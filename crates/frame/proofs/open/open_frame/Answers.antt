@@ -4,10 +4,6 @@ use mathlib.Core.List.{append-nil}
 use Rattle.frame.specs.Ops.{opened, start_states}
 use Rattle.frame.proofs.open.open_frame.Goals as goal
 
-pub returns-in-Object : goal.returns-in-Object
-unfolding opened
-returns-in-Object c = rw (c.number.ensures, c.in-Object.is)
-
 pub returns-in-Array : goal.returns-in-Array
 unfolding opened start_states
 returns-in-Array c =

@@ -1,20 +1,26 @@
 -- `edge::stepping` meets its contract. Assumes nothing.
+use lib.Dec.{ltb}
 use mathlib.Core.Path.{sym, ◌∙◌}
-use Rattle.frame.proofs.ReadLaws.{stepping-hit, stepping-obj, stepping-miss}
+use Rattle.frame.specs.Edges.{stepping}
+use Rattle.frame.proofs.MaskLaws.{mask_has-apart, last-tested, before-missed}
 use Rattle.frame.proofs.edge.stepping.Goals as goal
-use Rattle.frame.proofs.edge.stepping.Goals.{then-mask_has, else-mask_has}
+use Rattle.frame.proofs.edge.stepping.Goals.{then-has_last_bits, else-has_last_bits}
 
-pub returns-then-has_form : goal.returns-then-has_form
-returns-then-has_form c =
-    elim c.if-mask_has.branch [
-      | then-mask_has w ↦ stepping-hit _ _ _ _ _ _ _ _ _ c.kind.ensures c.mask_has.ensures _ _ w.if-mask_has.true (w.from.ensures ∙ w.rule.ensures) w.has_form.ensures _ _ (sym w.value-is ∙ c.if-has_form.true) c.state_of.ensures c.holds.ensures
-      | else-mask_has w ↦ cc
-    ]
+pub returns-then-leaves_state : goal.returns-then-leaves_state
+unfolding stepping
+returns-then-leaves_state c =
+    rw (mask_has-apart, ← c.kind-kind.ensures, ← c.has_last_bits.ensures)
+    (elim c.if-has_last_bits.branch [
+      | then-has_last_bits w ↦ rw (← w.leaves_state.ensures) (last-tested _ _ _ w.if-has_last_bits.true (sym w.value-is ∙ c.if-leaves_state.true))
+      | else-has_last_bits w ↦ cc
+    ])
 
-pub returns-else-has_form : goal.returns-else-has_form
-returns-else-has_form c =
-    c.if-has_form.false
-    ∙ elim c.if-mask_has.branch [
-      | then-mask_has w ↦ stepping-obj _ _ _ _ _ _ _ _ _ c.kind.ensures c.mask_has.ensures _ _ w.if-mask_has.true (w.from.ensures ∙ w.rule.ensures) w.has_form.ensures (sym w.value-is ∙ c.if-has_form.false)
-      | else-mask_has w ↦ stepping-miss _ _ _ _ _ _ _ _ _ c.kind.ensures c.mask_has.ensures w.if-mask_has.false
-    ]
+pub returns-else-leaves_state : goal.returns-else-leaves_state
+unfolding stepping
+returns-else-leaves_state c =
+    rw (mask_has-apart, ← c.kind-kind.ensures, ← c.has_last_bits.ensures)
+    (c.if-leaves_state.false
+    ∙ elim c.if-has_last_bits.branch [
+      | then-has_last_bits w ↦ rw (← w.leaves_state.ensures) (before-missed c.has_last_bits.result _ (ltb c.kind-kind.result 64) (sym w.value-is ∙ c.if-leaves_state.false))
+      | else-has_last_bits w ↦ rw w.if-has_last_bits.false
+    ])

@@ -1,13 +1,13 @@
 -- A mask has the code of each kind that the value fits, and no other. Assumes nothing.
-use mathlib.Core.Bool.{Bool, true, false, cond, beq}
-use mathlib.Core.Path.{◌≡◌, sym, ap, ◌∙◌}
+use mathlib.Core.Bool.{Bool, true, false, cond, beq, ◌&&◌}
+use mathlib.Core.Path.{◌≡◌, refl, sym, ap, ◌∙◌}
 use Prim.Native.Nat.{ℕ, zero, suc, ◌+◌, ◌-◌, ◌*◌, ◌/◌, ◌%◌, ◌^◌, ◌<◌, ◌≤◌}
 use native.Mathlib.Decide.{dec_lt}
 use native.Mathlib.Nat.{div-eq_of_lt, lt_of_lt_of_le, mod-eq_of_lt}
 use native.Mathlib.Omega.{arith}
 use lib.Dec.{T, eqb, ltb}
 use lib.Pow.{shl_exact, shl-shr, shr-shr, pow_mono}
-use borrow.Author.Tests.{lt-ltb, le-ltb, eq-eqb, ne_eqb}
+use borrow.Author.Tests.{lt-ltb, le-ltb, eq-eqb, ne_eqb, eqb-true, eqb-false}
 use Rattle.laws.specs.Tab.{every}
 use Rattle.laws.proofs.TestLaws.{eq-of-beq}
 use Rattle.laws.proofs.TabLaws.{T-of-every}
@@ -18,7 +18,7 @@ use Rattle.table.specs.declared.kind.Scalar.TheVariants.{Null, True, False, Str,
 use Rattle.table.specs.declared.kind.ValueKind.TheVariants.{Plain, Rule}
 use Rattle.table.specs.declared.kind.Finished.TheVariants as Done
 use Rattle.frame.specs.Edges.{fits_code}
-use Rattle.frame.specs.Mask.{mask_has, bit_if_fits, scalar_mask}
+use Rattle.frame.specs.Mask.{mask_has, has_last_bits, bit_if_fits, scalar_mask}
 
 -- ---- the test of a code, first by its last six bits
 
@@ -39,6 +39,28 @@ mask_has-none m c h = go (dec_lt c 64)
     go : Dec (c < 64) → false ≡ cond (ltb c 64) (eqb (m / 2 ^ c % 2) 1) false
     go (yes l) = rw (lt-ltb c 64 l) (sym (ne_eqb (m / 2 ^ c % 2) 1 (λ e. h (rw (mod-eq_of_lt l) e))))
     go (no l) = rw (le-ltb c 64 (omega arith))
+
+-- a code is the mask's where its last six bits are, and it has no others
+pub mask_has-apart : (m c : ℕ) → mask_has m c ≡ (has_last_bits m c && ltb c 64)
+unfolding has_last_bits
+mask_has-apart m c = go (eqb (m / 2 ^ (c % 64) % 2) 1) refl
+  where
+    go : (v : Bool) → eqb (m / 2 ^ (c % 64) % 2) 1 ≡ v → mask_has m c ≡ (v && ltb c 64)
+    go true h = sym (mask_has-low m c (eqb-true _ 1 h))
+    go false h = sym (mask_has-none m c (eqb-false _ 1 h))
+
+-- three tests, of which the code below 64 comes last
+pub last-tested : (a r t : Bool) → a ≡ true → r ≡ true → t ≡ ((a && t) && r)
+last-tested true true true h k = refl
+last-tested true true false h k = refl
+last-tested true false t h k = cc
+last-tested false r t h k = cc
+
+pub before-missed : (a r t : Bool) → r ≡ false → false ≡ ((a && t) && r)
+before-missed a true t h = cc
+before-missed true false true h = refl
+before-missed true false false h = refl
+before-missed false false t h = refl
 
 -- a code from 6 on is that of a rule
 pub kind_of-rule : (c : ℕ) → 6 ≤ c → kind_of c ≡ Rule (c - 6)

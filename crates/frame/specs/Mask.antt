@@ -11,6 +11,10 @@ use Rattle.table.specs.declared.kind.Finished.TheVariants as Done
 unfoldable pub mask_has : ℕ → ℕ → Bool
 mask_has mask c = cond (ltb c 64) (eqb (mask / 2 ^ c % 2) 1) false
 
+-- the last six bits of c are a bit of a mask
+unfoldable pub has_last_bits : ℕ → ℕ → Bool
+has_last_bits mask c = eqb (mask / 2 ^ (c % 64) % 2) 1
+
 -- the bit of a plain kind's code, where a scalar fits the kind
 unfoldable pub bit_if_fits : Scalar → Scalar → ℕ
 bit_if_fits k s = cond (fits_kind (Plain k) (Done.Scalar s)) (2 ^ code_of (Plain k)) 0

@@ -1,5 +1,5 @@
 // Edges of a table: how many count, the tests of one of them, and the states that some lead to.
-ghost use Rattle.std.specs.Prelude.{Bool, ◌≡◌, ℕ, ◌+◌, ◌*◌, replicate};
+ghost use Rattle.std.specs.Prelude.{Bool, ◌&&◌, get_or, ◌≡◌, ℕ, ◌+◌, ◌*◌, replicate};
 ghost use Rattle.laws.specs.Bits.{set_all};
 ghost use Rattle.table.specs.Kind.{form_number};
 ghost use Rattle.frame.specs.Edges.{edge_count, has_form};
@@ -64,14 +64,21 @@ pub fn fitting(table: &Table, e: usize, key: u8, m: u64) -> bool
     table.key(e) == key && mask::mask_has(m, table.kind(e))
 }
 
-// The mask has the kind of edge e, its rule is an arr rule, and its state is one of the frame's.
-#[tactic(auto, unfolding(crate::specs::Edges::state_number, crate::specs::Edges::stepping))]
+// The rule of edge e is an arr rule, and its state is one of the frame's.
+#[tactic(auto, unfolding(crate::specs::Edges::state_number))]
+fn leaves_state<'a>(table: &'a Table, frame: &'a Frame, e: usize) -> bool
+    ensures { result ≡ (has_form table.now.forms 2 (get_or table.now.edge_rule e 0) && held_in frame.now (leaves table.now e)) }
+{
+    has_form(table, usize::from(table.rule(e)), Form::Array) && holds(frame, state_of(table, e))
+}
+
+// The mask has the kind of edge e, its rule is an arr rule, and its state is one of the frame's. Most edges fail the first test; few codes have more
+// than six bits, which is why that is tested last.
 pub fn stepping<'a>(table: &'a Table, frame: &'a Frame, e: usize, m: u64) -> bool
     ensures { result ≡ stepping_in table.now m frame.now e }
 {
-    mask::mask_has(m, table.kind(e))
-        && has_form(table, usize::from(table.rule(e)), Form::Array)
-        && holds(frame, state_of(table, e))
+    let kind = table.kind(e);
+    mask::has_last_bits(m, kind) && leaves_state(table, frame, e) && kind < 64
 }
 
 // Edge e is one of the key, is among the frame's fitting edges, and its state is one of the states.

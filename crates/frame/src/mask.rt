@@ -1,7 +1,7 @@
 // The kinds that a finished value fits, as one number: bit c is set where the value fits the kind with code c.
 ghost use Rattle.std.specs.Prelude.{◌≡◌, ℕ, ◌≤◌};
 ghost use Rattle.frame.specs.Edges.{fits_code};
-ghost use Rattle.frame.specs.Mask.{mask_has, bit_if_fits, scalar_mask};
+ghost use Rattle.frame.specs.Mask.{mask_has, has_last_bits, bit_if_fits, scalar_mask};
 
 use table::kind::{Finished, Scalar, ValueKind};
 
@@ -38,9 +38,17 @@ pub fn mask_of(v: Finished) -> u64
     }
 }
 
-// The mask has a code: it has its last six bits, which most codes fail first, and the code has no others.
+// The mask has the last six bits of a code as its bit.
+#[tactic(auto, unfolding(crate::specs::Mask::has_last_bits))]
+pub fn has_last_bits(mask: u64, code: u8) -> bool
+    ensures { result ≡ has_last_bits mask code }
+{
+    (mask >> (code % 64)) % 2 == 1
+}
+
+// The mask has a code: it has its last six bits, and the code has no others.
 pub fn mask_has(mask: u64, code: u8) -> bool
     ensures { result ≡ mask_has mask code }
 {
-    (mask >> (code % 64)) % 2 == 1 && code < 64
+    has_last_bits(mask, code) && code < 64
 }

@@ -1,5 +1,5 @@
 -- The walk from its first byte to the verdict, in the form of the code's needs. Assumes nothing.
-use Rattle.std.specs.Prelude.{Option, None, Some, Result, Ok, Err}
+use Rattle.std.specs.Prelude.{Option, None, Result, Ok, Err}
 use mathlib.Core.Bool.{Bool, true, false, cond}
 use mathlib.Core.List.{List, [], ◌∷◌}
 use mathlib.Core.Path.{◌≡◌, refl, sym, ap, subst, ◌∙◌}
@@ -35,7 +35,7 @@ use Rattle.stream.proofs.FreshLaws.{feed-of-RS}
 use Rattle.corners.specs.Numbers.{numbers_of}
 use Rattle.boundary.specs.Exact.{entries, is_valid, valid_b, unfit_in, filled}
 use Rattle.boundary.specs.Walk.{Walked}
-use Rattle.boundary.specs.Steps.{begun, Stands, WalkedAll, says_valid, ReadsAs}
+use Rattle.boundary.specs.Steps.{begun, Stands, says_valid, ReadsAs}
 use Rattle.boundary.specs.declared.walk.Walk.{Walk}
 use Rattle.boundary.specs.declared.walk.Numbers.{Numbers}
 use Rattle.boundary.proofs.BookLaws.{book-b, limits-b}
@@ -68,11 +68,6 @@ walked_start {t} {s} {w} e f =
     }
 
 -- ---- over the text
-
--- all is fed
-pub all-on : {t : Table} {s : List ℕ} {w : Walk} {l : List ℤ} → Stands t s w l → length s ≤ w.at → WalkedAll t s (Some tt) w l
-all-on {t} {s} {w} {l} x h =
-    let e : w.at ≡ length s = omega (arith, x.inside) in subst (λ (i : ℕ). Walked t s i w.reader w.work w.taken w.unfit l) e x
 
 -- ---- a reader behind an RS
 

@@ -1,14 +1,13 @@
 -- The calls, in the form of the code's needs. Assumes nothing.
-use mathlib.Core.Bool.{Bool, true, false, cond, ◌&&◌, ◌||◌}
+use mathlib.Core.Bool.{Bool, true, false, cond, ◌||◌}
 use mathlib.Core.List.{List, [], ◌∷◌}
-use mathlib.Core.Path.{◌≡◌, refl, sym, ap, subst, ◌∙◌}
+use mathlib.Core.Path.{◌≡◌, refl, sym, ap, ◌∙◌}
 use Prim.Native.Nat.{ℕ, zero, suc, ◌/◌, ◌≤◌, ◌<◌}
 use native.Mathlib.Decide.{dec_lt}
 use native.Mathlib.Omega.{arith}
-use lib.Dec.{ltb, leb, leb→le, leb-suc-suc}
-use lib.IntN.{ℤ, pos, negsuc, nat_abs}
+use lib.Dec.{ltb, leb, leb→le}
+use lib.IntN.{ℤ, pos, nat_abs}
 use lib.ListN.{length, get_or, replicate}
-use lib.Signed.{le_z}
 use mir.Facts.{to_z-of_z}
 use mir.Syntax.{w32}
 use mir.Val.{SFits, to_z, of_z}
@@ -34,14 +33,6 @@ use Rattle.boundary.specs.Steps.{ReadsAs}
 use Rattle.boundary.specs.Calls.{LoadsB, bound_by, ReadOf, QueryOf}
 
 -- ---- the range of a point
-
-pub range-test : (z : ℤ) → (le_z (negsuc 999999) z && le_z z (pos 1000000)) ≡ leb (nat_abs z) 1000000
-range-test (pos n) = refl
-range-test (negsuc n) = and-true (leb n 999999) ∙ sym (leb-suc-suc n 999999)
-  where
-    and-true : (v : Bool) → (v && true) ≡ v
-    and-true true = refl
-    and-true false = refl
 
 -- ---- the memory holds the corners
 
@@ -162,6 +153,3 @@ module _ {s : List ℕ} {b : Result ℕ Refusal} {l : List ℤ} {t : Table} {p :
   unfolding query_of
   query-refused e =
       record { answer = ap (λ (z : Result ℕ Refusal). answer_by z (left_corners s) p) (sym e ∙ x.boundary); corners_left = x.corners_left; table_left = x.table_left }
-
-pub held-corners : {s : List ℕ} {b : Result ℕ Refusal} {l : List ℤ} {t : Table} {n : ℕ} → ReadOf s b l t → b ≡ Ok n → Held l n
-held-corners {l = l} x e = subst (λ (z : Result ℕ Refusal). HeldBy z l) e x.held

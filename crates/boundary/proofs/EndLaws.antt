@@ -35,7 +35,7 @@ use Rattle.stream.proofs.FreshLaws.{feed-of-RS}
 use Rattle.corners.specs.Numbers.{numbers_of}
 use Rattle.boundary.specs.Exact.{entries, is_valid, valid_b, unfit_in, filled}
 use Rattle.boundary.specs.Walk.{Walked}
-use Rattle.boundary.specs.Steps.{says_valid, ReadsAs}
+use Rattle.boundary.specs.Steps.{begun, Stands, says_valid, ReadsAs}
 use Rattle.boundary.specs.declared.walk.Walk.{Walk}
 use Rattle.boundary.specs.declared.walk.Numbers.{Numbers}
 use Rattle.boundary.proofs.BookLaws.{book-b, limits-b}
@@ -45,20 +45,20 @@ use Rattle.boundary.proofs.StepLaws.{valid-is}
 
 -- ---- before the first byte
 
-pub walked_start : {t : Table} {s : List ℕ} {r : Reader} {w : List ℕ} {l : List ℤ} → r ≡ fresh_reader 3 false zero_tally → length w ≡ 288 → l ≡ replicate 2048 (pos 0)
-    → Walked t s 0 r w 0 false l
+pub walked_start : {t : Table} {s : List ℕ} {w : Walk} {l : List ℤ} → w ≡ begun → l ≡ replicate 2048 (pos 0) → Stands t s w l
 unfolding unfit_in numbers_of any
-walked_start {t} {s} {r} {w} e h f =
+walked_start {t} {s} {w} e f =
+    rw e
     record {
       inside = omega arith;
       plain = tt;
       cut = λ x _. absurd (omega arith);
-      first = w;
-      room = h;
-      frames = ap (λ (y : Reader). y.frames) e;
-      level = rw e (omega arith);
-      len = rw e (omega arith);
-      memory = ap (λ (y : Reader). memory_of y w) e;
+      first = replicate 288 0;
+      room = refl;
+      frames = refl;
+      level = omega arith;
+      len = omega arith;
+      memory = refl;
       numbers = [];
       found = λ q j x. refl;
       few = omega arith;
@@ -68,12 +68,6 @@ walked_start {t} {s} {r} {w} e h f =
     }
 
 -- ---- over the text
-
--- all is fed
-pub all-on : {t : Table} {s : List ℕ} {r : Walk} {w : List ℕ} {l : List ℤ} → Walked t s r.at r.reader w r.taken r.unfit l → length s ≤ r.at
-    → Walked t s (length s) r.reader w r.taken r.unfit l
-all-on {t} {s} {r} {w} {l} x h =
-    let e : r.at ≡ length s = omega (arith, x.inside) in subst (λ (i : ℕ). Walked t s i r.reader w r.taken r.unfit l) e x
 
 -- ---- a reader behind an RS
 
@@ -121,12 +115,12 @@ module _ {t : Table} {s : List ℕ} {r : Reader} {w : List ℕ} {n : ℕ} {u : B
       ap (λ (m : Mem). judged m.progress m.root) memory-all
       ∙ judged-part (carries-of-book (book-b b)) (plain-of-book (book-b b)) 3 (omega arith) x.first s (omega (arith, x.room)) plain-all
 
-  begun : ltb 0 r.progress.pos ≡ nonempty s
-  begun = ap (λ (m : Mem). ltb 0 m.progress.pos) memory-all ∙ pos-part t 3 false x.first s plain-all
+  begun-as : ltb 0 r.progress.pos ≡ nonempty s
+  begun-as = ap (λ (m : Mem). ltb 0 m.progress.pos) memory-all ∙ pos-part t 3 false x.first s plain-all
 
   valid-all : says_valid (close_of r t w).answer ≡ valid_b s
   unfolding close_of closing valid_b track_end verdict_of
-  valid-all = rw (open-close, begun) (go s refl)
+  valid-all = rw (open-close, begun-as) (go s refl)
     where
       go : (p : List ℕ) → p ≡ s
           → says_valid (cond (nonempty p) (ending r (memory_of r w) 0 true) (record { reader = fresh_reader r.frames true r.tally; count = 0; answer = Ok None; work = w })).answer

@@ -83,16 +83,17 @@ walked-off {s} {i} {j} {k} h g d e =
 
 -- ---- a piece
 
-module _ {t : Table} {s : List ℕ} {i : ℕ} {r : Reader} {w : List ℕ} {n : ℕ} {u : Bool} {l : List ℤ} {j k : ℕ} (x : Piece t s i r w n u l j k) {o : Reader} {v : List ℕ} {c : ℕ}
-    {a : Answer} (f : record { reader = o; count = c; answer = a; work = v } ≡ feed_of r t w (part s i k)) {z : Bool} (e : z ≡ takes o.progress) where
-  past : i < k
+module _ {t : Table} {s : List ℕ} {w : Walk} {l : List ℤ} {j k : ℕ} (x : Piece t s w l j k) {o : Reader} {v : List ℕ} {c : ℕ} {a : Answer}
+    (f : record { reader = o; count = c; answer = a; work = v } ≡ feed_of w.reader t w.work (part s w.at k)) {z : Bool} (e : z ≡ takes o.progress) where
+  past : w.at < k
   past = omega (arith, x.gap.low, x.run.low, x.more)
 
-  pub walked_on : z ≡ false → WentOn t s i (record { reader = o; at = k; taken = n; unfit = u }) v l
+  pub walked_on : z ≡ false → WentOn t s w.at (record { reader = o; work = v; at = k; taken = w.taken; unfit = w.unfit }) l
   walked_on q = record { walked = walked-past x.walked x.table x.gap x.run x.more f (sym e ∙ q); further = past }
 
-  pub walked-told : {m : List ℤ} {h : Walk} → z ≡ true → h ≡ record { reader = o; at = k; taken = n + 1; unfit = u || is_unfit (coordinate_of (part s j k)) }
-      → m ≡ put_at l n (coordinate_of (part s j k)) → WentOn t s i h v m
+  pub walked-told : {m : List ℤ} {h : Walk} → z ≡ true
+      → h ≡ record { reader = o; work = v; at = k; taken = w.taken + 1; unfit = w.unfit || is_unfit (coordinate_of (part s j k)) }
+      → m ≡ put_at l w.taken (coordinate_of (part s j k)) → WentOn t s w.at h m
   walked-told {m} {h} q y p =
       rw y
       record {

@@ -1,49 +1,69 @@
--- A stretch of bytes that pass a test, found byte by byte. Assumes nothing.
-use mathlib.Core.Bool.{Bool, true, false}
-use mathlib.Core.List.{List, [], ◌∷◌, ◌++◌}
-use mathlib.Core.Path.{◌≡◌, refl, sym, ap, ◌∙◌}
+-- A stretch of bytes that pass a test, up to the first that does not. Assumes nothing.
+use Rattle.std.specs.Prelude.{Option, Some, None, position, unwrap_or}
+use Rattle.std.specs.List.{position_or_len}
+use Rattle.std.proofs.lemmas.List.Sums.{prefix_len-le-length, passes_at_first}
+use mathlib.Core.Bool.{Bool, true, false, cond, not}
+use mathlib.Core.List.{List, [], ◌∷◌}
+use mathlib.Core.Path.{◌≡◌, refl, sym, ap, subst, ◌∙◌}
 use Prim.Native.Nat.{ℕ, suc, ◌+◌, ◌-◌, ◌≤◌, ◌<◌}
 use native.Mathlib.Omega.{arith}
-use lib.Dec.{T}
-use lib.ListN.{length, get_or, drop, length-drop}
-use lib.Seq.{take-suc, get_or-drop}
+use lib.Dec.{T, ltb}
+use borrow.Author.Tests.{ltb-false}
+use lib.ListN.{length, get_or, take, drop, length-drop}
+use lib.Seq.{take_all, get_or-drop}
 use Rattle.laws.specs.Lists.{all}
-use Rattle.laws.proofs.TestLaws.{T_and, T-and-left, T-and-right, T-of-true}
+use Rattle.laws.proofs.TestLaws.{T_and, T-of-true}
 use Rattle.boundary.specs.Walk.{part, Stretch}
 
-all-last : (f : ℕ → Bool) (s : List ℕ) (b : ℕ) → T (all f s) → T (f b) → T (all f (s ++ (b ∷ [])))
+-- the bytes before the first that fails a test pass it
+lead : (f : ℕ → Bool) (s : List ℕ) → T (all f (take (position_or_len (λ (b : ℕ). not (f b)) s) s))
 unfolding all
-all-last f [] b h g = T_and (f b) true g tt
-all-last f (c ∷ s) b h g = T_and (f c) _ (T-and-left (f c) _ h) (all-last f s b (T-and-right (f c) _ h) g)
+lead f [] = tt
+lead f (b ∷ s) = go (f b) refl (lead f s)
+  where
+    go : (v : Bool) → f b ≡ v → T (all f (take (position_or_len (λ (b : ℕ). not (f b)) s) s))
+        → T (all f (take (cond (not (not v)) (1 + position_or_len (λ (b : ℕ). not (f b)) s) 0) (b ∷ s)))
+    go true e t =
+        let k : ℕ = position_or_len (λ (b : ℕ). not (f b)) s in
+        let z : suc k ≡ 1 + k = omega arith in subst (λ (n : ℕ). T (all f (take n (b ∷ s)))) z (T_and (f b) _ (T-of-true (f b) e) t)
+    go false e t = tt
 
--- one byte more
-pub part-more : (s : List ℕ) (i j : ℕ) → i ≤ j → j < length s → part s i (j + 1) ≡ part s i j ++ (get_or s j 0 ∷ [])
-part-more s i j h l =
-    let e : j + 1 - i ≡ suc (j - i) = omega arith in
-    let f : i + (j - i) ≡ j = omega arith in
-    let d : j - i < length (drop i s) = omega (arith, length-drop i s) in
-    rw e (take-suc (drop i s) (j - i) 0 d ∙ ap (λ (b : ℕ). part s i j ++ (b ∷ [])) (get_or-drop i s (j - i) 0 ∙ ap (λ (k : ℕ). get_or s k 0) f))
+false-of-not : (v : Bool) → not v ≡ true → v ≡ false
+false-of-not true e = sym e
+false-of-not false e = refl
 
-part_none : (s : List ℕ) (i : ℕ) → part s i i ≡ []
-part_none s i = let e : i - i ≡ 0 = omega arith in rw e refl
+module _ (f : ℕ → Bool) (s : List ℕ) (i : ℕ) (h : i ≤ length s) where
+  fails : ℕ → Bool
+  fails b = not (f b)
 
--- how far it goes so far
-pub record Stretching (f : ℕ → Bool) (s : List ℕ) (i j : ℕ) : Type 0 where
-  pub low : i ≤ j
-  pub high : j ≤ length s
-  pub bytes : T (all f (part s i j))
+  count : ℕ
+  count = position_or_len fails (drop i s)
 
-module _ (f : ℕ → Bool) (s : List ℕ) (i : ℕ) where
-  pub stretch-start : i ≤ length s → Stretching f s i i
-  unfolding all
-  stretch-start h = record { low = omega arith; high = h; bytes = rw (part_none s i) tt }
+  few : count ≤ length (drop i s)
+  unfolding count
+  few = prefix_len-le-length (λ b. not (fails b)) (drop i s)
 
-  pub stretch-on : (j : ℕ) (v : Bool) → Stretching f s i j → j < length s → v ≡ f (get_or s j 0) → v ≡ true → Stretching f s i (j + 1)
-  stretch-on j v x h e t =
-      record { low = omega (arith, x.low); high = omega arith; bytes = rw (part-more s i j x.low h) (all-last f (part s i j) (get_or s j 0) x.bytes (T-of-true (f (get_or s j 0)) (sym e ∙ t))) }
+  stops : i + count < length s → f (get_or s (i + count) 0) ≡ false
+  unfolding count fails
+  stops l = false-of-not _ (ap (λ (b : ℕ). not (f b)) (sym (get_or-drop i s count 0)) ∙ passes_at_first fails (drop i s) 0 (omega (arith, l, length-drop i s)))
 
-  pub stretch-stop : (j : ℕ) (v : Bool) → Stretching f s i j → v ≡ f (get_or s j 0) → v ≡ false → Stretch f s i j
-  stretch-stop j v x e t = record { low = x.low; high = x.high; bytes = x.bytes; stop = λ _. sym e ∙ t }
+  to-count : Stretch f s i (i + count)
+  unfolding count fails
+  to-count =
+      let e : i + count - i ≡ count = omega arith in
+      record { low = omega arith; high = omega (arith, few, length-drop i s); bytes = rw e (lead f (drop i s)); stop = stops }
 
-  pub stretch-end : (j : ℕ) → Stretching f s i j → length s ≤ j → Stretch f s i j
-  stretch-end j x h = record { low = x.low; high = x.high; bytes = x.bytes; stop = λ l. absurd (omega arith) }
+  rest-is : part s i (length s) ≡ drop i s
+  rest-is = take_all (length s - i) (drop i s) (omega (arith, length-drop i s))
+
+  pub stretch-of-position : (r : Option ℕ) (n : ℕ) → r ≡ position (λ (b : ℕ). not (f b)) (part s i (length s)) → n ≡ unwrap_or r (length (part s i (length s)))
+      → Stretch f s i (i + n)
+  unfolding count fails
+  stretch-of-position r n e u =
+      go (ltb count (length (drop i s))) refl
+      (u ∙ ap (λ (x : Option ℕ). unwrap_or x (length (part s i (length s)))) e
+        ∙ ap (λ (t : List ℕ). unwrap_or (position (λ (b : ℕ). not (f b)) t) (length t)) rest-is)
+    where
+      go : (v : Bool) → ltb count (length (drop i s)) ≡ v → n ≡ unwrap_or (cond v (Some count) None) (length (drop i s)) → Stretch f s i (i + n)
+      go true l m = rw m to-count
+      go false l m = let z : n ≡ count = omega (arith, few, m, ltb-false _ _ l) in rw z to-count

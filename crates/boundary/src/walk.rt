@@ -5,12 +5,10 @@ ghost use Rattle.book.specs.Examples.{book_b};
 ghost use Rattle.load.specs.Loads.{book_table};
 ghost use Rattle.coordinate.specs.Exact.{coordinate_of};
 ghost use Rattle.corners.specs.Numbers.{is_number_byte, in_number};
-ghost use Rattle.boundary.specs.Walk.{is_gap_byte, Tests, Stretch, takes, Walked};
-ghost use Rattle.boundary.specs.Steps.{Piece, WentOn, WalkedOn, WalkedAll, says_valid, ReadsAs};
+ghost use Rattle.boundary.specs.Walk.{is_gap_byte, Tests, Stretch, takes};
+ghost use Rattle.boundary.specs.Steps.{begun, Stands, Piece, WentOn, WalkedOn, WalkedAll, says_valid, ReadsAs};
 ghost use Rattle.boundary.specs.Exact.{is_unfit, put_at};
 ghost use Rattle.reader.specs.Machine.{close_of};
-ghost use Rattle.reader.specs.Start.{fresh_reader};
-ghost use Rattle.reader.specs.Tally.{zero_tally};
 
 use json_text::lexer::Mode;
 use progress::Progress;
@@ -38,12 +36,8 @@ fn run_end<F: Fn(u8) -> bool>(text: &[u8], from: usize, test: F) -> usize
     requires inside { from ≤ length text.now }
     ensures { (f : ℕ → Bool) → Tests (F.post test) f → Stretch f text.now from result }
 {
-    for i in from..text.len() {
-        if !test(text[i]) {
-            return i;
-        }
-    }
-    text.len()
+    let rest = &text[from..];
+    from + rest.iter().position(|b| !test(*b)).unwrap_or(rest.len())
 }
 
 fn in_number(m: Mode) -> bool
@@ -78,109 +72,6 @@ struct Source<'a> {
     ghost book: { table.now ≡ book_table book_b },
 }
 
-// Where the walk stands: the reader, the place in the text, how many numbers are taken, and whether one of them is unfit.
-#[derive(Clone, Copy)]
-struct Walk {
-    reader: Reader,
-    at: usize,
-    taken: usize,
-    unfit: bool,
-}
-
-impl Walk {
-    // Takes the number that a piece ends with.
-    fn take_number(self, next: Reader, end: usize, corners: &mut [i32; 2048], number: &[u8]) -> Walk
-        requires { self.taken < 18446744073709551615 }
-        ensures walk { result ≡ record { reader = next; at = end; taken = self.taken + 1; unfit = self.unfit || is_unfit (coordinate_of number.now) } }
-        ensures memory { corners.new ≡ put_at corners.old self.taken (coordinate_of number.now) }
-    {
-        let c = coordinate::read(number);
-        put(corners, self.taken, c);
-        Walk {
-            reader: next,
-            at: end,
-            taken: self.taken + 1,
-            unfit: self.unfit | c.is_none(),
-        }
-    }
-
-    // Feeds a piece: bytes between numbers, up to the place `from`, then bytes of numbers. Takes these where they are a number at level 3.
-    fn feed_piece(
-        self,
-        source: &Source,
-        work: &mut [u8],
-        corners: &mut [i32; 2048],
-        from: usize,
-        end: usize,
-    ) -> Walk
-        requires { Piece source.now.table.now source.now.text.now self.at self.reader work.old self.taken self.unfit corners.old from end }
-        ensures { WentOn source.now.table.now source.now.text.now self.at result work.new corners.new }
-    {
-        let text = source.text;
-        let mut reader = self.reader;
-        let _ = reader.feed(source.table, work, &text[self.at..end]);
-        if takes(reader.progress) {
-            return self.take_number(reader, end, corners, &text[from..end]);
-        }
-        Walk {
-            reader,
-            at: end,
-            ..self
-        }
-    }
-
-    // Feeds the bytes up to the end of the next bytes of numbers. The walk ends at an RS.
-    fn on(self, source: &Source, work: &mut [u8], corners: &mut [i32; 2048]) -> Option<Walk>
-        requires { Walked source.now.table.now source.now.text.now self.at self.reader work.old self.taken self.unfit corners.old × (self.at < length source.now.text.now) }
-        ensures { WalkedOn source.now.table.now source.now.text.now self.at result work.new corners.new }
-    {
-        let from = run_end(source.text, self.at, is_gap_byte);
-        let end = run_end(source.text, from, is_number_byte);
-        if end == self.at {
-            return None;
-        }
-        Some(self.feed_piece(source, work, corners, from, end))
-    }
-}
-
-// Feeds the whole text to a reader behind an RS; none where it has an RS itself.
-fn walk_all(r: Reader, source: &Source, work: &mut [u8], corners: &mut [i32; 2048]) -> Option<Walk>
-    requires { Walked source.now.table.now source.now.text.now 0 r work.old 0 false corners.old }
-    ensures { WalkedAll source.now.table.now source.now.text.now result work.new corners.new }
-{
-    let mut w = Walk {
-        reader: r,
-        at: 0,
-        taken: 0,
-        unfit: false,
-    };
-    // Stays: a turn feeds any number of bytes, so that no range counts the place.
-    while w.at < source.text.len() {
-        w = w.on(source, work, corners)?;
-    }
-    Some(w)
-}
-
-const RS: [u8; 1] = [0x1E];
-
-// A fresh reader, with the frames of a buffer of 288 bytes.
-fn started(source: &Source, work: &[u8]) -> Reader
-    requires { length work.now ≡ 288 }
-    ensures { result ≡ fresh_reader 3 true zero_tally }
-{
-    Reader::start(source.table, work).unwrap()
-}
-
-// A reader behind an RS.
-fn behind_rs(source: &Source, work: &mut [u8]) -> Reader
-    requires { length work.old ≡ 288 }
-    ensures { (result ≡ fresh_reader 3 false zero_tally) × (work.new ≡ work.old) }
-{
-    let mut reader = started(source, work);
-    let _ = reader.feed(source.table, work, &RS);
-    reader
-}
-
 // The call gives a record the verdict valid.
 fn says_valid(a: Answer) -> bool
     ensures { result ≡ says_valid a }
@@ -196,23 +87,103 @@ pub struct Numbers {
     pub unfit: bool,
 }
 
-// Ends the record that a text is: its numbers, where it is valid.
-fn close_text(w: Walk, source: &Source, work: &[u8]) -> Option<Numbers>
-    ensures { result ≡ then_some (says_valid (close_of w.reader source.now.table.now work.now).answer) (record { taken = w.taken; unfit = w.unfit }) }
-{
-    let mut reader = w.reader;
-    let answer = reader.close(source.table, work);
-    says_valid(answer).then_some(Numbers {
-        taken: w.taken,
-        unfit: w.unfit,
-    })
+// Where the walk stands: the reader with the work bytes of its three frames, the place in the text, how many numbers are taken, and whether one of
+// them is unfit.
+#[derive(Clone, Copy)]
+struct Walk {
+    reader: Reader,
+    work: [u8; 288],
+    at: usize,
+    taken: usize,
+    unfit: bool,
 }
 
-// 288 bytes of work: three frames.
-fn work_space() -> [u8; 288]
-    ensures { 288 ≡ length result }
-{
-    [0; 288]
+const RS: [u8; 1] = [0x1E];
+
+impl Walk {
+    // A walk that begins: its reader has the three frames of 288 bytes, and is behind an RS.
+    fn begun(source: &Source) -> Walk
+        ensures { result ≡ begun }
+    {
+        let mut work = [0; 288];
+        let mut reader = Reader::start(source.table, &work).unwrap();
+        let _ = reader.feed(source.table, &mut work, &RS);
+        Walk {
+            reader,
+            work,
+            at: 0,
+            taken: 0,
+            unfit: false,
+        }
+    }
+
+    // Takes the number that the bytes fed last are.
+    fn take_number(&mut self, corners: &mut [i32; 2048], number: &[u8])
+        requires { self.old.taken < 18446744073709551615 }
+        ensures walk { self.new ≡ record { reader = self.old.reader; work = self.old.work; at = self.old.at; taken = self.old.taken + 1; unfit = self.old.unfit || is_unfit (coordinate_of number.now) } }
+        ensures memory { corners.new ≡ put_at corners.old self.old.taken (coordinate_of number.now) }
+    {
+        let c = coordinate::read(number);
+        put(corners, self.taken, c);
+        self.taken += 1;
+        self.unfit |= c.is_none();
+    }
+
+    // Feeds a piece: bytes between numbers, up to the place `from`, then bytes of numbers. Takes these where they are a number at level 3.
+    fn feed_piece(
+        &mut self,
+        source: &Source,
+        corners: &mut [i32; 2048],
+        from: usize,
+        end: usize,
+    )
+        requires { Piece source.now.table.now source.now.text.now self.old corners.old from end }
+        ensures { WentOn source.now.table.now source.now.text.now self.old.at self.new corners.new }
+    {
+        let text = source.text;
+        let _ = self.reader.feed(source.table, &mut self.work, &text[self.at..end]);
+        self.at = end;
+        if takes(self.reader.progress) {
+            self.take_number(corners, &text[from..end]);
+        }
+    }
+
+    // Feeds the bytes up to the end of the next bytes of numbers. The walk ends at an RS.
+    fn on(&mut self, source: &Source, corners: &mut [i32; 2048]) -> Option<()>
+        requires { Stands source.now.table.now source.now.text.now self.old corners.old × (self.old.at < length source.now.text.now) }
+        ensures { WalkedOn source.now.table.now source.now.text.now self.old.at result self.new corners.new }
+    {
+        let from = run_end(source.text, self.at, is_gap_byte);
+        let end = run_end(source.text, from, is_number_byte);
+        if end == self.at {
+            return None;
+        }
+        self.feed_piece(source, corners, from, end);
+        Some(())
+    }
+
+    // Feeds the whole text; none where it has an RS itself.
+    fn all(&mut self, source: &Source, corners: &mut [i32; 2048]) -> Option<()>
+        requires { Stands source.now.table.now source.now.text.now self.old corners.old }
+        ensures { WalkedAll source.now.table.now source.now.text.now result self.new corners.new }
+    {
+        // Stays: a turn feeds any number of bytes, so that no range counts the place.
+        while self.at < source.text.len() {
+            self.on(source, corners)?;
+        }
+        Some(())
+    }
+
+    // Ends the record that a text is: its numbers, where it is valid.
+    fn close(mut self, source: &Source) -> Option<Numbers>
+        ensures { result ≡ then_some (says_valid (close_of self.reader source.now.table.now self.work).answer) (record { taken = self.taken; unfit = self.unfit }) }
+    {
+        let answer = self.reader.close(source.table, &self.work);
+        says_valid(answer).then_some(Numbers {
+            taken: self.taken,
+            unfit: self.unfit,
+        })
+    }
 }
 
 // Judges a text by book B and takes its numbers at level 3, in one walk over its bytes; none where the text is not valid.
@@ -221,8 +192,7 @@ pub fn read_text<'a>(text: &'a [u8], table: &'a Table, corners: &mut [i32; 2048]
     ensures { ReadsAs text.now result corners.new }
 {
     let source = Source { text, table };
-    let mut work = work_space();
-    let r = behind_rs(&source, &mut work);
-    let w = walk_all(r, &source, &mut work, corners)?;
-    close_text(w, &source, &work)
+    let mut walk = Walk::begun(&source);
+    walk.all(&source, corners)?;
+    walk.close(&source)
 }

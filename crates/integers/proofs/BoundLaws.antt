@@ -7,9 +7,9 @@ use native.Mathlib.Omega.{arith}
 use borrow.Author.Tests.{lt-ltb}
 use lib.Dec.{T, ltb, ltb→lt}
 use lib.IntN.{ℤ, pos, negsuc, nat_abs, neg_ℤ, sub_ℕ, ◌+ℤ◌, ◌-ℤ◌, ◌*ℤ◌}
-use lib.Signed.{mag, lt_z, nat_abs-le}
-use mir.Facts.{to_z-of_z, sfits_widen}
-use mir.Syntax.{Width, w32, w64}
+use lib.Signed.{mag, lt_z}
+use mir.Facts.{to_z-of_z}
+use mir.Syntax.{Width, w64}
 use mir.Val.{SFits, hbits, to_z, of_z}
 use Rattle.laws.proofs.TestLaws.{cond-elim}
 
@@ -121,11 +121,3 @@ pub reads-difference : {r s y z : ℤ} {k l : ℕ} → ReadsAs r y k → ReadsAs
 reads-difference {y} {z} a b t = reads-of-within (reads-result ◌-ℤ◌ a b) (difference-within y z a.within b.within) t
 
 -- ---- 32-bit numbers in 64 bits
-
--- what is read back from 32 bits fits 64 bits
-pub fits-of-narrow : {z : ℤ} → SFits w32 z → SFits w64 (to_z w32 (of_z w32 z))
-fits-of-narrow f = subst (SFits w64) (sym (to_z-of_z f)) (sfits_widen tt f)
-
--- a 32-bit number reads as itself from 64 bits
-pub reads-of-narrow : {z : ℤ} → SFits w32 z → ReadsAs (to_z w32 (of_z w32 z)) z (2 ^ 31)
-reads-of-narrow {z} f = reads-of-within (to_z-of_z f) (nat_abs-le z f.sfits) tt

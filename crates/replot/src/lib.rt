@@ -3,13 +3,13 @@
 
 ghost use Rattle.std.specs.Prelude.{◌≡◌, ◌<◌, map};
 ghost use Rattle.plane.specs.Lent.{corners_of};
-ghost use Rattle.replot.specs.Numbers.{place_number, answer_number, nearest_in};
+ghost use Rattle.replot.specs.Numbers.{answer_number, nearest_in};
 ghost use Rattle.replot.specs.Track.{point_of, with_answer};
 ghost use Rattle.replot.specs.Exact.{answered_by};
 ghost use Rattle.replot.specs.Calls.{ReplotOf};
 
 use boundary::Refusal;
-use geometry::{Located, Place, Point};
+use geometry::{Located, Point};
 use plane::Corners;
 use table::flat::Table;
 
@@ -24,22 +24,12 @@ pub struct TrackPoint {
     pub nearest: u32,
 }
 
-fn place_number(p: Place) -> u8
-    ensures { result ≡ place_number p }
-{
-    match p {
-        Place::Outside => 0,
-        Place::Inside => 1,
-        Place::Edge => 2,
-    }
-}
-
 // The number of an answer.
 pub fn answer_number(a: Result<Located, Refusal>) -> u8
     ensures { result ≡ answer_number a }
 {
     match a {
-        Ok(l) => place_number(l.place),
+        Ok(l) => l.place as u8,
         Err(k) => k.number(),
     }
 }
@@ -82,7 +72,7 @@ fn answered(corners: &Corners, p: TrackPoint) -> TrackPoint
 }
 
 // Answers each point of a track.
-pub fn answer_each(corners: &Corners, track: &mut [TrackPoint])
+fn answer_each(corners: &Corners, track: &mut [TrackPoint])
     ensures { track.new ≡ map (answered_by (corners_of corners.now)) track.old }
 {
     for p in track.iter_mut() {

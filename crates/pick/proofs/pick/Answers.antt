@@ -1,18 +1,11 @@
 -- `pick` meets its contract: what is left of the slice gives what the whole gives. Assumes nothing.
 use Rattle.std.proofs.Common.{rules}
-use lib.ListN.{length-drop}
-use Rattle.pick.proofs.ScanLaws.{inside, pick-behind, pick-found, pick-passed, pick-last, pick-none}
+use Rattle.pick.proofs.ScanLaws.{pick-behind, pick-found, pick-passed, pick-last, pick-none}
 use Rattle.pick.proofs.pick.Goals.{then-end-gt0+else-left-eq0, else-end-gt0}
 use Rattle.pick.proofs.pick.Goals as goal
 
-pub loop-end-init : goal.loop-end-init
-loop-end-init c = search rules
-
 pub returns-then-left-eq0 : goal.returns-then-left-eq0
 returns-then-left-eq0 c = search (rules, pick-found)
-
-pub loop-end-smaller : goal.loop-end-smaller
-loop-end-smaller c = search (rules, length-drop, inside)
 
 pub loop-end-preserved : goal.loop-end-preserved
 loop-end-preserved c =

@@ -1,10 +1,12 @@
--- `walk::run_end` meets its contract: the stretch grows byte by byte. Assumes nothing.
-use Rattle.boundary.proofs.StretchLaws.{stretch-start, stretch-on}
+-- `walk::run_end` meets its contract: the first byte that fails the test. Assumes nothing.
+use Rattle.std.proofs.Common.{rules, not}
+use Rattle.std.proofs.lemmas.Iterator.{YieldsList-from_slice}
+use Rattle.std.proofs.lemmas.Iterator.Search.{position_from_yields_List}
+use Rattle.boundary.proofs.StretchLaws.{stretch-of-position}
 use Rattle.boundary.proofs.walk.run_end.Goals as goal
 
-pub loop-i-init : goal.loop-i-init
-loop-i-init g c = λ f h. stretch-start f _ _ c.requires.inside
-
-pub loop-i-preserved : goal.loop-i-preserved
-loop-i-preserved g c =
-    λ f h. stretch-on f _ _ _ c.test.result (c.loop-i.invariant f h) c.loop-i-test.true (h _ _ (c.type_inv.text c.loop-i.i).fits c.test.ensures) c.if-not-test.false
+pub returns : goal.returns
+returns g c =
+    λ f h. stretch-of-position f _ _ c.requires.inside c.position.result _
+    (position_from_yields_List (λ b. not (f b)) _ _ c.position.result c.position.ensures.ran (YieldsList-from_slice _ c.iter.ensures.rest) (λ x b q z. search (rules, h)))
+    c.unwrap_or.ensures

@@ -6,5 +6,5 @@ use Rattle.boundary.proofs.walk.Walk.feed_piece.Goals as goal
 pub returns-then-takes : goal.returns-then-takes
 returns-then-takes c = search (rules, walked-told)
 
-pub returns : goal.returns
-returns c = search (rules, walked_on)
+pub returns-else-takes : goal.returns-else-takes
+returns-else-takes c = search (rules, walked_on)

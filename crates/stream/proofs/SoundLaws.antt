@@ -76,8 +76,8 @@ not-faulty r t w h f =
     (λ _. judged-not-faulty r.progress r.root h f) (λ _. refl))
 
 -- a close tells of the fault of a malformed record of which a byte is read
-pub faulty-of-malformed : (r : Reader) (t : Table) (w : List ℕ) → gate_of r t w ≡ let_in → ltb 0 r.progress.pos ≡ true → r.progress.head ≡ false
-    → r.progress.fault ≡ Some F.Malformed → faulty_in r t w ≡ true
+pub faulty-of-malformed : (r : Reader) (t : Table) (w : List ℕ) {p : ℕ} → gate_of r t w ≡ let_in → ltb 0 r.progress.pos ≡ true → r.progress.head ≡ false
+    → r.progress.fault ≡ Some (F.Malformed p) → faulty_in r t w ≡ true
 unfolding close_of closing judged
 faulty-of-malformed r t w g p h f = rw (g, p, h, f)
 

@@ -65,7 +65,7 @@ module _ (r : Reader) (t : Table) (w : List ℕ) (b : ℕ) (n : NumberMode) wher
   module _ (s : IsSound inside t w b) (e : is_in_token (mode_of (byte_fed inside t w b).reader) ≡ false) where
     ended : number_move n b ≡ NM.End
     ended =
-        number-ended (number_move n b) (top_at w (level_of r)) b (level_of r) r.frames s.first
+        number-ended (number_move n b) (top_at w (level_of r)) b (level_of r) r.frames r.progress.pos s.first
         (ap (λ (x : Progress). is_in_token x.mode) (sym (progress-fed inside t w b s)) ∙ e)
 
     step-inside : step_at inside w b ≡ ended_before (after_value (top_at w (level_of r)) b)

@@ -199,14 +199,11 @@ fn tail_bits(bits: u32, b: u8) -> u32
     bits % 0x8000 * 64 + u32::from(b) % 64
 }
 
-// Four more bits, of a hexadecimal digit; another byte is a fault, and leaves them.
+// Four more bits, of a hexadecimal digit; another byte, which is a fault, counts as 0.
 fn hex_bits(bits: u32, h: Option<u8>) -> u32
     ensures { result ≡ hex_bits bits h }
 {
-    match h {
-        Some(h) => bits % 0x1000 * 16 + u32::from(h),
-        None => bits,
-    }
+    bits % 0x1000 * 16 + u32::from(h.unwrap_or(0))
 }
 
 // The character of a high and a low surrogate.
@@ -223,7 +220,8 @@ pub fn bits_after(s: StringMode, bits: u32, b: u8) -> u32
     match s {
         StringMode::Char => u32::from(lead_bits(b)),
         StringMode::Escape | StringMode::LowBackslash | StringMode::LowU => bits,
-        StringMode::Unit1 | StringMode::Low1 => hex_bits(0, hex_of(b)),
+        // the first digit; another byte, which is a fault, counts as 16
+        StringMode::Unit1 | StringMode::Low1 => u32::from(hex_of(b).unwrap_or(16)),
         StringMode::Unit2
         | StringMode::UnitD
         | StringMode::Unit3

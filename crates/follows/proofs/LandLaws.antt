@@ -1,7 +1,8 @@
 -- Where a byte leaves the memory: after each task the memory tracks the state after the machine's act. Assumes nothing.
+use Rattle.std.specs.Prelude.{Some}
 use mathlib.Core.Bool.{Bool, false}
 use mathlib.Core.List.{List}
-use mathlib.Core.Path.{◌≡◌, refl, sym, ◌∙◌}
+use mathlib.Core.Path.{◌≡◌, refl, sym, ap, ◌∙◌}
 use Prim.Native.Nat.{ℕ, suc, ◌*◌, ◌-◌, ◌≤◌, ◌<◌}
 use native.Mathlib.Omega.{arith}
 use lib.ListN.{length}
@@ -58,28 +59,28 @@ module _ (es : List Entry) where
 module _ (es : List Entry) (n : ℕ) {i : ℕ} where
   -- a byte that brings a fault
   pub lands-malformed : (x : Progress) (root : Bool) (key w : List ℕ) → x.head ≡ false → x.pos ≡ i
-      → Tracks es n (mem (faulted x F.Malformed).progress root key w) (track_to es n fault i)
-  lands-malformed x root key w h e = rw (track_to-fault es n fault i refl) (off_track {v = Is.Malformed i} h (refl, e) (one-le-bump x.pos))
+      → Tracks es n (mem (faulted x (F.Malformed x.pos)).progress root key w) (track_to es n fault i)
+  lands-malformed x root key w h e = rw (track_to-fault es n fault i refl) (off_track {v = Is.Malformed i} h (ap (λ (p : ℕ). Some (F.Malformed p)) e) (one-le-bump x.pos))
 
   -- a byte that opens one level too many
   pub lands-deep : (x : Progress) (root : Bool) (key w : List ℕ) (m : Mode) (g : Token (judging es)) (k : Stack (judging es)) → x.head ≡ false → x.pos ≡ i
-      → n < depth (judging es) k → Tracks es n (mem (faulted x F.TooDeep).progress root key w) (track_to es n (at m g k) i)
+      → n < depth (judging es) k → Tracks es n (mem (faulted x (F.TooDeep x.pos)).progress root key w) (track_to es n (at m g k) i)
   lands-deep x root key w m g k h e l =
-      rw (track_to-deep es n (at m g k) i refl l) (off_track {v = Is.TooDeep i} h (refl, e) (one-le-bump x.pos))
+      rw (track_to-deep es n (at m g k) i refl l) (off_track {v = Is.TooDeep i} h (ap (λ (p : ℕ). Some (F.TooDeep p)) e) (one-le-bump x.pos))
 
   -- a byte that is no fault
-  pub lands : {m : Mode} {g : Token (judging es)} {k : Stack (judging es)} {level place bits high : ℕ} {d : Decimal} {len : ℕ} {root : Bool} {key w : List ℕ} → i < longest
+  pub lands : {m : Mode} {g : Token (judging es)} {k : Stack (judging es)} {level bits high : ℕ} {d : Decimal} {len : ℕ} {root : Bool} {key w : List ℕ} → i < longest
       → level ≡ depth (judging es) k → bits ≡ g.bits → high ≡ g.high → Shown es n m g k (suc i) d len root key w
-      → Tracks es n (mem (lex_at m level (bump i) place bits high d len) root key w) (track_to es n (at m g k) i)
+      → Tracks es n (mem (lex_at m level (bump i) bits high d len) root key w) (track_to es n (at m g k) i)
   lands {m} {g} {k} h e eb eh s = rw (e, eb, eh, bump-below i (omega arith), track_to-sound es n (at m g k) i refl s.room) (on_track (follows s))
 
-module _ {t : Table} {es : List Entry} (kept : Carries t es) (n : ℕ) (few : n ≤ 64) (i : ℕ) (h : i < longest) (place : ℕ) (d : Decimal) (len : ℕ) (root : Bool) (key : List ℕ)
+module _ {t : Table} {es : List Entry} (kept : Carries t es) (n : ℕ) (few : n ≤ 64) (i : ℕ) (h : i < longest) (d : Decimal) (len : ℕ) (root : Bool) (key : List ℕ)
     (keyLong : length key ≡ 32) (g : Token (judging es)) (level bits high : ℕ) (eb : bits ≡ g.bits) (eh : high ≡ g.high) (w : List ℕ)
     (long : 96 * n ≤ length w) where
   -- a scalar is finished
   pub lands-finished : (k : Stack (judging es)) → level ≡ depth (judging es) k → depth (judging es) k ≤ n → ShowsStack es w k → (s : Scalar) (p : Awaited)
       → ProperAt (judging es) (M.At p) (finish (judging es) (of_scalar s) k) → ShowsRoot es (M.At p) root (finish (judging es) (of_scalar s) k)
-      → Tracks es n (mem (lex_at (M.At p) level (bump i) place bits high d len) root key (value_at t w level (Done.Scalar s)))
+      → Tracks es n (mem (lex_at (M.At p) level (bump i) bits high d len) root key (value_at t w level (Done.Scalar s)))
       (track_to es n (at (M.At p) g (finish (judging es) (of_scalar s) k)) i)
   lands-finished k e room stack s p y r =
       lands es n h (e ∙ sym (depth-finish es (of_scalar s) k)) eb eh
@@ -99,7 +100,7 @@ module _ {t : Table} {es : List Entry} (kept : Carries t es) (n : ℕ) (few : n 
   lands-joined : (k : Stack (judging es)) → depth (judging es) k ≤ n → ShowsStack es w k → (v : ValueKind → Bool)
       → ShowsValue (Done.Rules (rules_at t w (suc (depth (judging es) k)))) v → NoRoot es root k
       → ProperAt (judging es) (M.At P.After) (finish (judging es) v k)
-      → Tracks es n (close_at t (lex_at (M.At P.After) (suc (depth (judging es) k) - 1) (bump i) place bits high d len) root key w (suc (depth (judging es) k)))
+      → Tracks es n (close_at t (lex_at (M.At P.After) (suc (depth (judging es) k) - 1) (bump i) bits high d len) root key w (suc (depth (judging es) k)))
       (track_to es n (at (M.At P.After) g (finish (judging es) v k)) i)
   unfolding close_at
   lands-joined k room stack v s r y =
@@ -120,7 +121,7 @@ module _ {t : Table} {es : List Entry} (kept : Carries t es) (n : ℕ) (few : n 
   -- the innermost open value is closed
   pub lands-closed : (k : Stack (judging es)) → level ≡ depth (judging es) k → depth (judging es) k ≤ n → ShowsStack es w k → NoRoot es root k
       → Opened (judging es) k → ProperAt (judging es) (M.At P.After) (close (judging es) k)
-      → Tracks es n (close_at t (lex_at (M.At P.After) (level - 1) (bump i) place bits high d len) root key w level)
+      → Tracks es n (close_at t (lex_at (M.At P.After) (level - 1) (bump i) bits high d len) root key w level)
       (track_to es n (at (M.At P.After) g (close (judging es) k)) i)
   lands-closed bare e room stack r o y = absurd o
   lands-closed (whole v) e room stack r o y = absurd o

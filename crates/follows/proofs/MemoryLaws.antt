@@ -48,7 +48,7 @@ module _ (x : Progress) (n b : ℕ) where
   counts-by_fault : (f : Option Fault) (st : Step) → Counts x (advanced_by_fault f x n b st).progress
   unfolding sound
   counts-by_fault None st =
-      cond-elim (λ (a : Advanced). Counts x a.progress) (ltb x.pos longest) (λ _. counts-acted_by (first_fault st.act x.level n) st.act st.ends st.mode)
+      cond-elim (λ (a : Advanced). Counts x a.progress) (ltb x.pos longest) (λ _. counts-acted_by (first_fault st.act x.level n x.pos) st.act st.ends st.mode)
       (λ _. record { pos = refl; head = refl })
   counts-by_fault (Some f) st = record { pos = refl; head = refl }
 

@@ -112,9 +112,9 @@ opened-finish es v (in_object x k) o = tt
 -- ---- one step of the lexer
 
 -- the memory at mode m, the state after a step, and the claim that the one tracks the other
-module _ (t : Table) (es : List Entry) (n : ℕ) (g : Token (judging es)) (k : Stack (judging es)) (i place : ℕ) (d : Decimal) (len : ℕ) (root : Bool) (key w : List ℕ) (b : ℕ) (m : Mode) where
+module _ (t : Table) (es : List Entry) (n : ℕ) (g : Token (judging es)) (k : Stack (judging es)) (i : ℕ) (d : Decimal) (len : ℕ) (root : Bool) (key w : List ℕ) (b : ℕ) (m : Mode) where
   abbrev before : Progress
-  before = lex_at m (depth (judging es) k) i place g.bits g.high d len
+  before = lex_at m (depth (judging es) k) i g.bits g.high d len
 
   abbrev behind : Step → State (judging es)
   behind st = take (judging es) st (char_in (judging es) m g b) b g (gather (judging es) m g b) k
@@ -126,16 +126,16 @@ module _ (t : Table) (es : List Entry) (n : ℕ) (g : Token (judging es)) (k : S
       (track_to es n (behind st) i)
 
 module _ {t : Table} {es : List Entry} (kept : Carries t es) (plain : PlainKeys es) (n : ℕ) (few : n ≤ 64) (g : Token (judging es)) (k : Stack (judging es))
-    (i place : ℕ) (d : Decimal) (len : ℕ) (root : Bool) (key w : List ℕ) (b : ℕ) (h : i < longest) where
+    (i : ℕ) (d : Decimal) (len : ℕ) (root : Bool) (key w : List ℕ) (b : ℕ) (h : i < longest) where
   -- what is known of the state and the memory at mode m
   abbrev Known : Mode → Type 0
   Known m = Shown es n m g k i d len root key w
 
   abbrev Tracked : Mode → Step → Type 0
-  Tracked m st = StepTracked t es n g k i place d len root key w b m st
+  Tracked m st = StepTracked t es n g k i d len root key w b m st
 
   abbrev lexer : Mode → Progress
-  lexer m = before t es n g k i place d len root key w b m
+  lexer m = before t es n g k i d len root key w b m
 
   -- a fault
   step-fault : (m m' : Mode) (e : Bool) → Tracked m (record { mode = m'; ends = e; act = A.Fault })
@@ -145,7 +145,7 @@ module _ {t : Table} {es : List Entry} (kept : Carries t es) (plain : PlainKeys 
   step_stays : (m m' : Mode) (g' : Token (judging es)) {d' : Decimal} {len' : ℕ} {key' : List ℕ} → Known m → (gather (judging es) m g b).bits ≡ g'.bits
       → (gather (judging es) m g b).high ≡ g'.high → length key' ≡ 32 → ProperAt (judging es) m' k → ShowsRoot es m' root k
       → ShowsText m' key' len' g'.string → ShowsNumber m' d' g'.number (suc i)
-      → Tracks es n (mem (lex_at m' (depth (judging es) k) (bump i) place (bits_in m g.bits b) (high_in m g.bits g.high b) d' len') root key' w)
+      → Tracks es n (mem (lex_at m' (depth (judging es) k) (bump i) (bits_in m g.bits b) (high_in m g.bits g.high b) d' len') root key' w)
       (track_to es n (at m' g' k) i)
   step_stays m m' g' s eb eh l p r x y =
       lands es n h refl (bits-gather es g b m ∙ eb) (high-gather es g b m ∙ eh)
@@ -171,25 +171,25 @@ module _ {t : Table} {es : List Entry} (kept : Carries t es) (plain : PlainKeys 
       step_stays m (M.Key S.Char) (with_string (judging es) (gather (judging es) m g b) []) s refl refl s.key_long p r (all_kept refl (omega arith) refl) tt
 
   step-text : (m : Mode) (c : List ℕ) → Known m → NoRoot es root k
-      → Tracks es n (mem (lex_at (M.Text S.Char) (depth (judging es) k) (bump i) place (bits_in m g.bits b) (high_in m g.bits g.high b) d len) root key w)
+      → Tracks es n (mem (lex_at (M.Text S.Char) (depth (judging es) k) (bump i) (bits_in m g.bits b) (high_in m g.bits g.high b) d len) root key w)
       (track_to es n (at (M.Text S.Char) (with_string (judging es) (gather (judging es) m g b) c) k) i)
   step-text m c s r =
       step_stays m (M.Text S.Char) (with_string (judging es) (gather (judging es) m g b) c) s refl refl s.key_long tt r tt tt
 
   step-number : (m : Mode) (x : NumberMode) (d' : Decimal) (z : Read) → Known m → NoRoot es root k → NumberKept x d' z (suc i)
-      → Tracks es n (mem (lex_at (M.Number x) (depth (judging es) k) (bump i) place (bits_in m g.bits b) (high_in m g.bits g.high b) d' len) root key w)
+      → Tracks es n (mem (lex_at (M.Number x) (depth (judging es) k) (bump i) (bits_in m g.bits b) (high_in m g.bits g.high b) d' len) root key w)
       (track_to es n (at (M.Number x) (with_number (judging es) (gather (judging es) m g b) z) k) i)
   step-number m x d' z s r y =
       step_stays m (M.Number x) (with_number (judging es) (gather (judging es) m g b) z) s refl refl s.key_long tt r tt y
 
   -- one level more is open
   abbrev opened_to : Mode → Progress
-  opened_to m = lex_at (M.At P.First) (depth (judging es) k + 1) (bump i) place (bits_in m g.bits b) (high_in m g.bits g.high b) d len
+  opened_to m = lex_at (M.At P.First) (depth (judging es) k + 1) (bump i) (bits_in m g.bits b) (high_in m g.bits g.high b) d len
 
   -- an array or object is opened, where there is a frame for it; y is what the limits make of the byte
   step-opened : (m : Mode) (o : Form) (k' : Stack (judging es)) (y : Advanced) → Known m
       → (ltb (depth (judging es) k) n ≡ true → y ≡ advance (opened_to m) (To.Open o))
-      → (ltb (depth (judging es) k) n ≡ false → y ≡ faulted (lexer m) F.TooDeep) → suc (depth (judging es) k) ≡ depth (judging es) k'
+      → (ltb (depth (judging es) k) n ≡ false → y ≡ faulted (lexer m) (F.TooDeep i)) → suc (depth (judging es) k) ≡ depth (judging es) k'
       → (depth (judging es) k < n → ShowsStack es (put_frame w (suc (depth (judging es) k)) (opened t.forms o)) k') → NoRoot es root k'
       → Opened (judging es) k'
       → Tracks es n (perform y.task t (mem (lexer m) root key w) y.progress) (track_to es n (at (M.At P.First) (gather (judging es) m g b) k') i)
@@ -251,10 +251,10 @@ module _ {t : Table} {es : List Entry} (kept : Carries t es) (plain : PlainKeys 
 
   -- a word or a string is finished
   step-finished : (m : Mode) (x : Scalar) → Known m → NoRoot es root k → ProperAt (judging es) (M.At P.After) (finish (judging es) (of_scalar x) k)
-      → Tracks es n (mem (lex_at (M.At P.After) (depth (judging es) k) (bump i) place (bits_in m g.bits b) (high_in m g.bits g.high b) d len) root key (value_at t w (depth (judging es) k) (Done.Scalar x)))
+      → Tracks es n (mem (lex_at (M.At P.After) (depth (judging es) k) (bump i) (bits_in m g.bits b) (high_in m g.bits g.high b) d len) root key (value_at t w (depth (judging es) k) (Done.Scalar x)))
       (track_to es n (at (M.At P.After) (gather (judging es) m g b) (finish (judging es) (of_scalar x) k)) i)
   step-finished m x s r p =
-      lands-finished kept n few i h place d len root key s.key_long (gather (judging es) m g b) (depth (judging es) k) _ _ (bits-gather es g b m) (high-gather es g b m)
+      lands-finished kept n few i h d len root key s.key_long (gather (judging es) m g b) (depth (judging es) k) _ _ (bits-gather es g b m) (high-gather es g b m)
       w s.long k refl s.room s.stack x P.After p (root-finished es root (of_scalar x) (scalar-no-rule es x) k r)
 
   -- a key is finished
@@ -262,7 +262,7 @@ module _ {t : Table} {es : List Entry} (kept : Carries t es) (plain : PlainKeys 
   step-key_end x s p = go k s.room s.stack s.root_shown s.proper
     where
       go : (y : Stack (judging es)) → depth (judging es) y ≤ n → ShowsStack es w y → NoRoot es root y → InObject (judging es) y
-          → Tracks es n (mem (lex_at (M.At P.Colon) (depth (judging es) y) (bump i) place (bits_in (M.Key x) g.bits b) (high_in (M.Key x) g.bits g.high b) d len) root key (put_frame w (depth (judging es) y) (keyed (key_found t key len) (frame_at w (depth (judging es) y)))))
+          → Tracks es n (mem (lex_at (M.At P.Colon) (depth (judging es) y) (bump i) (bits_in (M.Key x) g.bits b) (high_in (M.Key x) g.bits g.high b) d len) root key (put_frame w (depth (judging es) y) (keyed (key_found t key len) (frame_at w (depth (judging es) y)))))
           (track_to es n (at (M.At P.Colon) (gather (judging es) (M.Key x) g b) (name (judging es) g.string y)) i)
       go bare room stack r o = absurd o
       go (whole v) room stack r o = absurd o
@@ -284,7 +284,7 @@ module _ {t : Table} {es : List Entry} (kept : Carries t es) (plain : PlainKeys 
   -- the innermost value is closed
   step-closed : (p : Awaited) → Known (M.At p) → NoRoot es root k → Opened (judging es) k → Tracked (M.At p) (step_to (M.At P.After) A.Close)
   step-closed p s r o y =
-      lands-closed kept n few i h place d len root key s.key_long g (depth (judging es) k) g.bits g.high refl refl w s.long k refl s.room s.stack r o y
+      lands-closed kept n few i h d len root key s.key_long g (depth (judging es) k) g.bits g.high refl refl w s.long k refl s.room s.stack r o y
 
   -- ---- a byte that ends a number
 
@@ -302,13 +302,13 @@ module _ {t : Table} {es : List Entry} (kept : Carries t es) (plain : PlainKeys 
     step-ended_pass : (p : Awaited) → ShowsRoot es (M.At p) root (finish (judging es) number_fits k) → Tracked (M.Number x) (ended_before (stay p))
     step-ended_pass p r y =
         rw (kind-of-kept x s.number e s.short)
-        (lands-finished kept n few i h place d len root key s.key_long g (depth (judging es) k) g.bits g.high refl refl w s.long k refl s.room s.stack
+        (lands-finished kept n few i h d len root key s.key_long g (depth (judging es) k) g.bits g.high refl refl w s.long k refl s.room s.stack
         kind p y r)
 
     step-ended_close : Opened (judging es) (finish (judging es) number_fits k) → Tracked (M.Number x) (ended_before (step_to (M.At P.After) A.Close))
     step-ended_close o y =
         rw (kind-of-kept x s.number e s.short)
-        (lands-closed kept n few i h place d len root key s.key_long g (depth (judging es) k) g.bits g.high refl refl (value_at t w (depth (judging es) k) (Done.Scalar kind))
+        (lands-closed kept n few i h d len root key s.key_long g (depth (judging es) k) g.bits g.high refl refl (value_at t w (depth (judging es) k) (Done.Scalar kind))
         (rw (length-value_at t w (depth (judging es) k) (Done.Scalar kind)) s.long) (finish (judging es) number_fits k) (sym (depth-finish es number_fits k))
         (rw (depth-finish es number_fits k) s.room) (shows-finished kept n few w s.long (Done.Scalar kind) number_fits (shows-scalar kind) k s.room s.stack)
         (no_root-of-opened es root (finish (judging es) number_fits k) o any_root-number) o y)
@@ -411,11 +411,11 @@ module _ {t : Table} {es : List Entry} (kept : Carries t es) (plain : PlainKeys 
 pub follows-step : {t : Table} {es : List Entry} → Carries t es → PlainKeys es → (n : ℕ) → n ≤ 64 → {m : Mem} {q : State (judging es)} {i : ℕ} (b : ℕ)
     → eqb b 0x1E ≡ false → Follows es n m q i → Tracks es n (step_mem t n m b) (track_byte es n (sound q i) b)
 unfolding step_mem advanced sounding step
-follows-step {t} {es} kept plain n few b e (follows {m} {g} {k} {i} {place} {d} {len} {root} {key} {w} s) =
+follows-step {t} {es} kept plain n few b e (follows {m} {g} {k} {i} {d} {len} {root} {key} {w} s) =
     rw (e, top_at-shows es w k s.stack) (go (ltb i longest) refl)
   where
     x : Progress
-    x = lex_at m (depth (judging es) k) i place g.bits g.high d len
+    x = lex_at m (depth (judging es) k) i g.bits g.high d len
 
     st : Step
     st = step_of m (top_of (judging es) k) b
@@ -424,6 +424,6 @@ follows-step {t} {es} kept plain n few b e (follows {m} {g} {k} {i} {place} {d} 
         → Tracks es n (perform (sounding x n b st).task t (mem x root key w) (sounding x n b st).progress) (track_byte es n (sound (at m g k) i) b)
     go true f =
         let h = ltb-true i longest f in
-        rw (f, track_byte-short es n (at m g k) b h) (step-any kept plain n few g k i place d len root key w b h m s (proper-step (judging es) (at m g k) b s.proper))
+        rw (f, track_byte-short es n (at m g k) b h) (step-any kept plain n few g k i d len root key w b h m s (proper-step (judging es) (at m g k) b s.proper))
     go false f =
         rw (f, track_byte-long es n (at m g k) b (ltb-false i longest f)) (off_track {v = Is.TooLong} refl refl (one-le-bump i))

@@ -53,9 +53,9 @@ unfolding step_mem advanced
 stopped-step t es n n' m Is.Valid b e (off_track h f p) = absurd f
 stopped-step t es n n' m Is.Invalid b e (off_track h f p) = absurd f
 stopped-step t es n n' m (Is.Malformed i) b e (off_track h f p) =
-    rw (e, h, f.0) (off_track {v = Is.Malformed i} refl (refl, f.1) (one-le-bump m.progress.pos))
+    rw (e, h, f) (off_track {v = Is.Malformed i} refl refl (one-le-bump m.progress.pos))
 stopped-step t es n n' m (Is.TooDeep i) b e (off_track h f p) =
-    rw (e, h, f.0) (off_track {v = Is.TooDeep i} refl (refl, f.1) (one-le-bump m.progress.pos))
+    rw (e, h, f) (off_track {v = Is.TooDeep i} refl refl (one-le-bump m.progress.pos))
 stopped-step t es n n' m Is.TooLong b e (off_track h f p) = rw (e, h, f) (off_track {v = Is.TooLong} refl refl (one-le-bump m.progress.pos))
 stopped-step t es n n' m (Is.Unfinished i) b e (off_track h f p) = absurd f
 stopped-step t es n n' m Is.Head b e (off_track h f p) = absurd f
@@ -144,8 +144,8 @@ unfolding judged wholeBy track_end
 tracks-judged {es} m s (on_track (follows {m = x} {g} {k} {i} {root} y)) = whole-shown es i x g k root y.proper y.root_shown
 tracks-judged m (stopped Is.Valid) (off_track h f p) = absurd f
 tracks-judged m (stopped Is.Invalid) (off_track h f p) = absurd f
-tracks-judged m (stopped (Is.Malformed i)) (off_track h f p) = rw (h, f.0, f.1)
-tracks-judged m (stopped (Is.TooDeep i)) (off_track h f p) = rw (h, f.0, f.1)
+tracks-judged m (stopped (Is.Malformed i)) (off_track h f p) = rw (h, f)
+tracks-judged m (stopped (Is.TooDeep i)) (off_track h f p) = rw (h, f)
 tracks-judged m (stopped Is.TooLong) (off_track h f p) = rw (h, f)
 tracks-judged m (stopped (Is.Unfinished i)) (off_track h f p) = absurd f
 tracks-judged m (stopped Is.Head) (off_track h f p) = absurd f

@@ -66,9 +66,9 @@ ShowsNumber (M.Word x j) y r i = T true
 
 -- ---- what is known of a record without a fault
 
-abbrev pub lex_at : Mode → ℕ → ℕ → ℕ → ℕ → ℕ → Decimal → ℕ → Progress
-lex_at m level pos place bits high d len =
-    record { mode = m; fault = None; head = false; level = level; pos = pos; place = place; bits = bits; high = high; number = d; len = len }
+abbrev pub lex_at : Mode → ℕ → ℕ → ℕ → ℕ → Decimal → ℕ → Progress
+lex_at m level pos bits high d len =
+    record { mode = m; fault = None; head = false; level = level; pos = pos; bits = bits; high = high; number = d; len = len }
 
 -- ---- what is known of a record with a fault
 
@@ -76,8 +76,8 @@ lex_at m level pos place bits high d len =
 abbrev pub FaultIs : Verdict → Progress → Type 0
 FaultIs Is.Valid x = ⊥
 FaultIs Is.Invalid x = ⊥
-FaultIs (Is.Malformed p) x = (x.fault ≡ Some F.Malformed) × (x.place ≡ p)
-FaultIs (Is.TooDeep p) x = (x.fault ≡ Some F.TooDeep) × (x.place ≡ p)
+FaultIs (Is.Malformed p) x = x.fault ≡ Some (F.Malformed p)
+FaultIs (Is.TooDeep p) x = x.fault ≡ Some (F.TooDeep p)
 FaultIs Is.TooLong x = x.fault ≡ Some F.TooLong
 FaultIs (Is.Unfinished p) x = ⊥
 FaultIs Is.Head x = ⊥
@@ -135,9 +135,9 @@ module _ (es : List Entry) where
 
   -- a memory follows a state after i bytes
   pub data Follows (n : ℕ) : Mem → State (judging es) → ℕ → Type 0 where
-    follows : {m : Mode} {g : Token (judging es)} {k : Stack (judging es)} {i place : ℕ} {d : Decimal} {len : ℕ} {root : Bool} {key w : List ℕ}
+    follows : {m : Mode} {g : Token (judging es)} {k : Stack (judging es)} {i : ℕ} {d : Decimal} {len : ℕ} {root : Bool} {key w : List ℕ}
         → Shown n m g k i d len root key w
-        → Follows n (mem (lex_at m (depth (judging es) k) i place g.bits g.high d len) root key w) (at m g k) i
+        → Follows n (mem (lex_at m (depth (judging es) k) i g.bits g.high d len) root key w) (at m g k) i
 
   -- ---- tracks
 

@@ -9,6 +9,7 @@ use native.Mathlib.Omega.{arith}
 use lib.Dec.{T, eqb, T_not}
 use borrow.Author.Tests.{lt-ltb, le-ltb, eqb-true, eqb-false}
 use Rattle.std.specs.Prelude.{Some}
+use Rattle.std.specs.Option.{unwrap_or}
 use Rattle.json_text.specs.Bytes.{within}
 use Rattle.json_text.specs.Utf8.{is_tail, six_more, Utf8, row_c2_df, row_e0, row_e1_ec, row_ed, row_ee_ef, row_f0, row_f1_f3, row_f4}
 use Rattle.json_text.specs.Strings.{Escaped, quotation_mark, reverse_solidus, solidus, backspace, form_feed, line_feed, carriage_return, tab, Hex, hex_more, code_unit, paired, Char, unescaped, multibyte, escaped, unit, surrogates, Chars, closing_quote, chars}
@@ -75,7 +76,7 @@ bits-F a lo = simp (le-ltb a 0xC0 (omega arith), le-ltb a 0xE0 (omega arith), le
 
 -- the number of a code unit
 unit-number : {a b c d w x y z : ℕ} → Hex a w → Hex b x → Hex c y → Hex d z
-    → hex_bits (hex_bits (hex_bits (hex_bits 0 (hex_of a)) (hex_of b)) (hex_of c)) (hex_of d) ≡ hex_more (hex_more (hex_more w x) y) z
+    → hex_bits (hex_bits (hex_bits (unwrap_or (hex_of a) 16) (hex_of b)) (hex_of c)) (hex_of d) ≡ hex_more (hex_more (hex_more w x) y) z
 unfolding hex_more
 unit-number p q u v =
     let hw = lt-of-hex p in let hx = lt-of-hex q in let hy = lt-of-hex u in let hz = lt-of-hex v in
@@ -191,7 +192,7 @@ module _ {t cs r : List ℕ} (K : (x h : ℕ) → Continues S.Char x h t cs r) w
   unit-continues {a} {b} {c} {d} {w} {x} {y} {z} p q u v n i h = rw (← unit-number p q u v) (go (eqb w 13) refl)
     where
       go : (k : Bool) → eqb w 13 ≡ k
-          → Continues S.Unit1 i h (a ∷ b ∷ c ∷ d ∷ t) (hex_bits (hex_bits (hex_bits (hex_bits 0 (hex_of a)) (hex_of b)) (hex_of c)) (hex_of d) ∷ cs) r
+          → Continues S.Unit1 i h (a ∷ b ∷ c ∷ d ∷ t) (hex_bits (hex_bits (hex_bits (unwrap_or (hex_of a) 16) (hex_of b)) (hex_of c)) (hex_of d) ∷ cs) r
       go true e =
           let f = eqb-true w 13 e in
           goes (digit-1_d (subst (Hex a) f p)) (goes (digit-2-below q (lt_of_not-le (below-of-no-surrogate p q u v f n))) (goes (digit-3 u) (ends (digit-4 v) (K _ _))))
@@ -225,14 +226,14 @@ utf8-chars u e k = rw e (chars (multibyte u) k)
 
 unit-chars : {a b c d w x y z : ℕ} {t cs r : List ℕ} → Hex a w → Hex b x → Hex c y → Hex d z
     → T (not (within 0xD800 0xDFFF (hex_more (hex_more (hex_more w x) y) z))) → Chars t cs r
-    → Chars (0x5C ∷ 0x75 ∷ a ∷ b ∷ c ∷ d ∷ t) (hex_bits (hex_bits (hex_bits (hex_bits 0 (hex_of a)) (hex_of b)) (hex_of c)) (hex_of d) ∷ cs) r
+    → Chars (0x5C ∷ 0x75 ∷ a ∷ b ∷ c ∷ d ∷ t) (hex_bits (hex_bits (hex_bits (unwrap_or (hex_of a) 16) (hex_of b)) (hex_of c)) (hex_of d) ∷ cs) r
 unit-chars p q u v n k = rw (unit-number p q u v) (chars (unit (code_unit p q u v) n) k)
 
 pair-chars : {a b c d e f g i x y z m k l : ℕ} {t cs r : List ℕ} → Hex a 13 → Hex b x → 8 ≤ x → x < 12 → Hex c y → Hex d z
     → Hex e 13 → Hex f m → 12 ≤ m → Hex g k → Hex i l → Chars t cs r
     → Chars (0x5C ∷ 0x75 ∷ a ∷ b ∷ c ∷ d ∷ 0x5C ∷ 0x75 ∷ e ∷ f ∷ g ∷ i ∷ t)
-    (pair_of (hex_bits (hex_bits (hex_bits (hex_bits 0 (hex_of a)) (hex_of b)) (hex_of c)) (hex_of d))
-    (hex_bits (hex_bits (hex_bits (hex_bits 0 (hex_of e)) (hex_of f)) (hex_of g)) (hex_of i)) ∷ cs) r
+    (pair_of (hex_bits (hex_bits (hex_bits (unwrap_or (hex_of a) 16) (hex_of b)) (hex_of c)) (hex_of d))
+    (hex_bits (hex_bits (hex_bits (unwrap_or (hex_of e) 16) (hex_of f)) (hex_of g)) (hex_of i)) ∷ cs) r
 pair-chars p q l h u v p' q' l' u' v' k =
     let H = high-surrogate p q u v refl l h in
     let L = low-surrogate p' q' u' v' refl l' in

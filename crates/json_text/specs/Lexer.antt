@@ -1,5 +1,6 @@
 -- What a byte does, mode by mode. Derived: `Accepted`, `Sound` and `Faults` in proofs/ join the machine made of it to the grammar. Assumes nothing.
 use Rattle.std.specs.Prelude.{Bool, true, false, cond, List, ℕ, ◌+◌, ◌-◌, ◌*◌, ◌%◌, eqb, ltb, get_or, length, Option, Some, None}
+use Rattle.std.specs.Option.{unwrap_or}
 use Rattle.json_text.specs.Bytes.{within, is_blank}
 use Rattle.json_text.specs.Numbers.{is_digit, is_digit_1_9, is_e}
 use Rattle.json_text.specs.Grammar.{spelling}
@@ -151,20 +152,19 @@ lead_bits b = cond (ltb b 0xC0) 0 (cond (ltb b 0xE0) (b - 0xC0) (cond (ltb b 0xF
 unfoldable pub tail_bits : ℕ → ℕ → ℕ
 tail_bits bits b = bits % 0x8000 * 64 + b % 64
 
--- four more bits, of a hexadecimal digit; another byte is a fault, and leaves them
+-- four more bits, of a hexadecimal digit; another byte, which is a fault, counts as 0
 abbrev pub hex_bits : ℕ → Option ℕ → ℕ
-hex_bits bits None = bits
-hex_bits bits (Some h) = bits % 0x1000 * 16 + h
+hex_bits bits h = bits % 0x1000 * 16 + unwrap_or h 0
 
 -- the character of a high and a low surrogate
 unfoldable pub pair_of : ℕ → ℕ → ℕ
 pair_of high low = 0x10000 + high % 0x400 * 0x400 + low % 0x400
 
--- the bits after a byte
+-- the bits after a byte; one that is no digit, where the first of a code unit is awaited, counts as 16
 abbrev pub bits_after : StringMode → ℕ → ℕ → ℕ
 bits_after S.Char bits b = lead_bits b
 bits_after S.Escape bits b = bits
-bits_after S.Unit1 bits b = hex_bits 0 (hex_of b)
+bits_after S.Unit1 bits b = unwrap_or (hex_of b) 16
 bits_after S.Unit2 bits b = hex_bits bits (hex_of b)
 bits_after S.UnitD bits b = hex_bits bits (hex_of b)
 bits_after S.Unit3 bits b = hex_bits bits (hex_of b)
@@ -173,7 +173,7 @@ bits_after S.High3 bits b = hex_bits bits (hex_of b)
 bits_after S.High4 bits b = hex_bits bits (hex_of b)
 bits_after S.LowBackslash bits b = bits
 bits_after S.LowU bits b = bits
-bits_after S.Low1 bits b = hex_bits 0 (hex_of b)
+bits_after S.Low1 bits b = unwrap_or (hex_of b) 16
 bits_after S.Low2 bits b = hex_bits bits (hex_of b)
 bits_after S.Low3 bits b = hex_bits bits (hex_of b)
 bits_after S.Low4 bits b = hex_bits bits (hex_of b)

@@ -6,7 +6,8 @@ use mathlib.Core.Path.{◌≡◌, refl, sym, ap, ◌∙◌}
 use Prim.Native.Nat.{ℕ, ◌+◌, ◌-◌, ◌<◌, ◌≤◌, min}
 use native.Mathlib.Omega.{arith}
 use lib.Dec.{ltb}
-use lib.ListN.{length, get_or, take, drop}
+use lib.ListN.{length, get_or, take, drop, length-drop}
+use Rattle.std.proofs.lemmas.List.{length-take, get_or-take, get_or-drop}
 use Rattle.json_text.specs.Classes.{class_of}
 use Rattle.json_text.specs.Lexer.{lead_bits, step_to, key_step, step_of}
 use Rattle.json_text.specs.declared.string.StringMode.TheVariants as S
@@ -96,12 +97,19 @@ module _ (x : Progress) (s : List ℕ) (from end : ℕ) (old : List ℕ) (o : ke
     (d : end ≡ from + min (length s - from) (16777216 - x.pos)) where
   -- the first n bytes from place `from` on are plain characters
   module _ (n : ℕ) (g : StaysFor (M.Text S.Char) (take (end - from) (drop from s)) n) where
-    pub kept_on : (bits len i more c : ℕ) (key next : List ℕ)
-        → KeptTo x s from old (placed x x.mode (with_bits x bits) (x.pos + (i - from)) len) i key → i < from + n
-        → next ≡ kept_in key len (get_or s i 0) → c ≡ get_or s i 0 → more ≡ kept_key_len len c
-        → KeptTo x s from old (placed x x.mode (with_bits x 0) (x.pos + (i + 1 - from)) more) (i + 1) next
-    kept_on bits len i more c key next r l h b u =
+    pub kept_on : (bits len j more c : ℕ) (key next : List ℕ)
+        → KeptTo x s from old (placed x x.mode (with_bits x bits) (x.pos + j) len) (from + j) key
+        → j < length (take (from + n - from) (drop from s))
+        → next ≡ kept_in key len (get_or (take (from + n - from) (drop from s)) j 0) → c ≡ get_or (take (from + n - from) (drop from s)) j 0
+        → more ≡ kept_key_len len c → KeptTo x s from old (placed x x.mode (with_bits x 0) (x.pos + (j + 1)) more) (from + (j + 1)) next
+    kept_on bits len j more c key next r l h b u =
         let a = stayed-part (M.Text S.Char) s from end n (omega arith) (omega arith) g in
-        let told = a.stays i r.low l in
-        keep-on x s from old o bits (x.pos + (i - from)) len i (x.pos + (i + 1 - from)) more key next r (omega (arith, a.high)) (omega (arith, r.low, a.high)) told.0
-        told.1 h (u ∙ ap (kept_key_len len) b) (omega (arith, r.low))
+        let size : length (take (from + n - from) (drop from s)) ≡ from + n - from = simp (length-take, length-drop) (omega (arith, a.high)) in
+        let less : j < from + n - from = omega (arith, size, l) in
+        let told = a.stays (from + j) (omega arith) (omega arith) in
+        let at : get_or (take (from + n - from) (drop from s)) j 0 ≡ get_or s (from + j) 0 =
+        get_or-take (from + n - from) (drop from s) j 0 less ∙ get_or-drop from s j 0 in
+        let one : from + (j + 1) ≡ from + j + 1 = omega arith in
+        rw one
+        (keep-on x s from old o bits (x.pos + j) len (from + j) (x.pos + (j + 1)) more key next r (omega (arith, a.high)) (omega (arith, a.high)) told.0 told.1
+        (h ∙ ap (kept_in key len) at) (u ∙ ap (kept_key_len len) (b ∙ at)) (omega arith))

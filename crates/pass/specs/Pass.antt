@@ -143,7 +143,6 @@ placed x m g pos len =
       head = x.head;
       level = x.level;
       pos = pos;
-      place = x.place;
       bits = g.bits;
       high = g.high;
       number = g.number;

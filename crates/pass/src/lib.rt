@@ -149,6 +149,19 @@ fn place_at(x: Progress, m: Mode, g: Registers, count: usize, len: u8) -> Progre
 }
 
 impl<'a> Stretch<'a> {
+    // The record, and the bytes of the piece from a place on.
+    fn new(known: Progress, piece: &'a [u8], from: usize) -> Stretch<'a>
+        requires { (is_reading known ≡ true) × (from ≤ length piece.now) }
+        ensures { (result.known ≡ known) × (result.piece.now ≡ piece.now) × (result.from ≡ from) }
+    {
+        Stretch {
+            known,
+            piece,
+            from,
+            end: reach(piece.len(), from, known.pos),
+        }
+    }
+
     // The record at another mode, with other registers, where the bytes up to a place were passed over.
     fn passed(&self, m: Mode, g: Registers, at: usize, step: Option<Step>) -> Passed
         requires { (self.now.from ≤ at) × (at ≤ self.now.end) }
@@ -236,10 +249,9 @@ impl<'a> Stretch<'a> {
         let at = self.from + stay::plain_len(classes, &self.piece[self.from..self.end]);
         let mut bits = x.bits;
         let mut len = x.len;
-        for i in self.from..at {
-            let b = self.piece[i];
-            key::keep_char(key, len, b);
-            len = key::key_len(len, u32::from(b));
+        for b in &self.piece[self.from..at] {
+            key::keep_char(key, len, *b);
+            len = key::key_len(len, u32::from(*b));
             bits = 0;
         }
         let g = Registers {
@@ -261,21 +273,14 @@ pub fn pass(classes: &Classes, x: Progress, top: Top, piece: &[u8], from: usize)
     ensures { PassedTo x top piece.now from result.progress result.at result.step }
 {
     if reads_on(x) {
-        let stretch = Stretch {
-            known: x,
-            piece: piece,
-            from: from,
-            end: reach(piece.len(), from, x.pos),
-        };
-        return stretch.pass_to(classes, top);
+        return Stretch::new(x, piece, from).pass_to(classes, top);
     }
     Passed {
         progress: x,
         at: from,
-        step: match piece.get(from) {
-            Some(b) => Some(lexer::step::step(classes, x.mode, top, *b)),
-            None => None,
-        },
+        step: piece
+            .get(from)
+            .map(|b| lexer::step::step(classes, x.mode, top, *b)),
     }
 }
 
@@ -286,13 +291,7 @@ pub fn keep(classes: &Classes, x: Progress, key: &mut [u8], piece: &[u8], from: 
     ensures { KeptTo x piece.now from key.old result.progress result.at key.new }
 {
     if keeps_chars(x) {
-        let stretch = Stretch {
-            known: x,
-            piece: piece,
-            from: from,
-            end: reach(piece.len(), from, x.pos),
-        };
-        return stretch.keep_to(classes, key);
+        return Stretch::new(x, piece, from).keep_to(classes, key);
     }
     KeyRead {
         progress: x,

@@ -5,11 +5,9 @@ use mathlib.Core.Path.{◌≡◌, sym, ap, ◌∙◌}
 use Prim.Native.Nat.{ℕ, ◌+◌, ◌<◌}
 use native.Mathlib.Numerals.{add-one}
 use native.Mathlib.Omega.{arith}
-use lib.Dec.{ltb}
 use lib.ListN.{length, get_or, drop}
 use lib.Seq.{drop-cons}
-use borrow.Author.Tests.{eq-eqb, ne_eqb}
-use Rattle.std.specs.Prelude.{Option, Some, None}
+use Rattle.std.specs.Prelude.{Option, Some}
 use Rattle.json_text.specs.Lexer.{step_of}
 use Rattle.json_text.specs.declared.lexer.Top.{Top}
 use Rattle.json_text.specs.declared.lexer.Step.{Step}
@@ -21,18 +19,6 @@ use Rattle.turn.specs.Turn.{turned}
 use Rattle.pass.specs.Pass.{KeptTo, PassedTo}
 use Rattle.turn.proofs.TurnLaws.{turned-step_mem}
 use Rattle.piece.specs.Went.{StepsAs, WentTo}
-
--- ---- the end of a record, by the code's tests
-
--- a byte other than RS ends no record
-pub ends-other : (x : Progress) (b : ℕ) → (b ≡ 0x1E → ⊥) → false ≡ ends_record x b
-unfolding ends_record
-ends-other x b h = rw (ne_eqb b 0x1E h)
-
--- an RS ends a record that has a byte
-pub ends-rs : (x : Progress) (b : ℕ) → b ≡ 0x1E → ltb 0 x.pos ≡ ends_record x b
-unfolding ends_record
-ends-rs x b h = rw (eq-eqb b 0x1E h)
 
 -- ---- the run
 
@@ -55,14 +41,14 @@ module _ (t : Table) (n : ℕ) (m : Mem) (s : List ℕ) (i : ℕ) where
 
 module _ (t : Table) (n : ℕ) (x : Progress) (root : Bool) (key w s : List ℕ) (i : ℕ) (h : i < length s) (v : Bool) (e : v ≡ ends_record x (get_or s i 0)) where
   -- the byte ends the record
-  pub went-ended : v ≡ true → WentTo t n (mem x root key w) s i (mem x root key w) (i + 1) true
-  went-ended f = record { low = omega arith; high = omega arith; run = run_end t n (mem x root key w) s i h (sym e ∙ f) }
+  pub went_ended : v ≡ true → WentTo t n (mem x root key w) s i (mem x root key w) (i + 1) true
+  went_ended f = record { low = omega arith; high = omega arith; run = run_end t n (mem x root key w) s i h (sym e ∙ f) }
 
   -- the byte has its turn
-  pub went-turned : (st : Step) (k : Mem) → v ≡ false → StepsAs x n w (get_or s i 0) st → k ≡ turned t n (mem x root key w) (get_or s i 0) st
+  pub went_turned : (st : Step) (k : Mem) → v ≡ false → StepsAs x n w (get_or s i 0) st → k ≡ turned t n (mem x root key w) (get_or s i 0) st
       → WentTo t n (mem x root key w) s i k (i + 1) false
   unfolding StepsAs
-  went-turned st k f g u =
+  went_turned st k f g u =
       record { low = omega arith; high = omega arith; run = sym (run-turn t n (mem x root key w) s i k st h (sym e ∙ f) g u) }
 
 -- ---- the bytes passed over: x becomes y while the characters of a key are kept, and y becomes z over the bytes that only move it on
@@ -77,16 +63,3 @@ module _ (s : List ℕ) (i at end : ℕ) (x y z : Progress) (top : Top) (o : Opt
   unfolding StepsAs
   step-passed n st q =
       ap (advanced z n (get_or s end 0)) ((rw q at b.step).1 ∙ ap (λ (k : Top). step_of z.mode k (get_or s end 0)) (e ∙ ap (top_at w) (sym b.runs.level)))
-
-  module _ (t : Table) (n : ℕ) (root : Bool) where
-    -- the run after the bytes passed over gives what the run over the whole gives
-    run-passed : run_mem t n (mem z root kept w) end (drop end s) ≡ run_mem t n (mem x root key w) i (drop i s)
-    run-passed = b.runs.same t n root kept w (sym e) ∙ a.same t n root w
-
-    -- the bytes passed over reach the end of the piece
-    pub went-all : i < length s → o ≡ None → WentTo t n (mem x root key w) s i (mem z root kept w) end false
-    went-all h q = let l = rw q at b.step in record { low = omega arith; high = b.runs.high; run = sym run-passed }
-
-    -- after the bytes passed over one goes on to place j
-    pub went_on : (k : Mem) (j : ℕ) (v : Bool) → WentTo t n (mem z root kept w) s end k j v → WentTo t n (mem x root key w) s i k j v
-    went_on k j v g = record { low = omega (arith, a.low, b.runs.low, g.low); high = g.high; run = sym run-passed ∙ g.run }

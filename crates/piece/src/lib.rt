@@ -15,6 +15,7 @@ use turn::rules::Rules;
 use turn::{Record, top_of};
 
 // An RS after at least one byte of a record.
+#[tactic(auto, unfolding(progress::specs::Memory::ends_record))]
 fn ends_record(x: Progress, b: u8) -> bool
     ensures { result ≡ ends_record x b }
 {
@@ -22,6 +23,7 @@ fn ends_record(x: Progress, b: u8) -> bool
 }
 
 // Reads the byte at place i, with its step: an RS that ends the record, or a byte of it.
+#[tactic(auto, using(crate::proofs::PieceLaws::went_ended, crate::proofs::PieceLaws::went_turned))]
 fn read_byte(
     record: &mut Record,
     key: &mut [u8; 32],

@@ -18,9 +18,9 @@ use Rattle.progress.specs.declared.Fault.TheVariants as F
 use Rattle.progress.specs.declared.Task.{Task}
 use Rattle.progress.specs.declared.Task.TheVariants as To
 
--- a value that is opened where n frames are: too deep, or one level more
-unfoldable pub open_fault : ℕ → ℕ → Option Fault
-open_fault level n = cond (ltb level n) None (Some F.TooDeep)
+-- a value that the byte at pos opens where n frames are: too deep, or one level more
+unfoldable pub open_fault : ℕ → ℕ → ℕ → Option Fault
+open_fault level n pos = cond (ltb level n) None (Some (F.TooDeep pos))
 
 unfoldable pub open_level : ℕ → ℕ → ℕ
 open_level level n = cond (ltb level n) (level + 1) level
@@ -35,12 +35,12 @@ key_task len c = cond (ltb len 32) (cond (ltb c 128) (To.Put c) To.Idle) To.Idle
 unfoldable pub kept_in : List ℕ → ℕ → ℕ → List ℕ
 kept_in key len c = cond (ltb len 32) (set key len c) key
 
--- the fault of an act, if it is one
-abbrev pub first_fault : Act → ℕ → ℕ → Option Fault
-first_fault A.Fault level n = Some F.Malformed
-first_fault A.OpenArray level n = open_fault level n
-first_fault A.OpenObject level n = open_fault level n
-first_fault _ level n = None
+-- the fault of an act at pos, if it is one
+abbrev pub first_fault : Act → ℕ → ℕ → ℕ → Option Fault
+first_fault A.Fault level n pos = Some (F.Malformed pos)
+first_fault A.OpenArray level n pos = open_fault level n pos
+first_fault A.OpenObject level n pos = open_fault level n pos
+first_fault _ level n pos = None
 
 -- how many values are open after an act
 abbrev pub level_after : Act → ℕ → ℕ → ℕ

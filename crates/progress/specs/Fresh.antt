@@ -6,7 +6,7 @@ use Rattle.whole.specs.Fresh.{fresh}
 use Rattle.progress.specs.declared.Progress.{Progress}
 
 abbrev pub fresh_progress : Bool → Progress
-fresh_progress head = record { mode = M.At P.Value; fault = None; head = head; level = 0; pos = 0; place = 0; bits = 0; high = 0; number = fresh; len = 0 }
+fresh_progress head = record { mode = M.At P.Value; fault = None; head = head; level = 0; pos = 0; bits = 0; high = 0; number = fresh; len = 0 }
 
 abbrev pub fresh_key : List ℕ
 fresh_key = replicate 32 0

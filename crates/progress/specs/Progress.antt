@@ -28,12 +28,12 @@ advance x t = record { progress = x; task = t }
 -- a byte that is counted, and no more
 abbrev pub counted : Progress → Advanced
 counted x =
-    advance (record { mode = x.mode; fault = x.fault; head = x.head; level = x.level; pos = bump x.pos; place = x.place; bits = x.bits; high = x.high; number = x.number; len = x.len }) To.Idle
+    advance (record { mode = x.mode; fault = x.fault; head = x.head; level = x.level; pos = bump x.pos; bits = x.bits; high = x.high; number = x.number; len = x.len }) To.Idle
 
 -- the byte is the record's first fault
 abbrev pub faulted : Progress → Fault → Advanced
 faulted x f =
-    advance (record { mode = x.mode; fault = Some f; head = x.head; level = x.level; pos = bump x.pos; place = x.pos; bits = x.bits; high = x.high; number = x.number; len = x.len }) To.Idle
+    advance (record { mode = x.mode; fault = Some f; head = x.head; level = x.level; pos = bump x.pos; bits = x.bits; high = x.high; number = x.number; len = x.len }) To.Idle
 
 -- the registers of the open character after byte b
 abbrev pub bits_in : Mode → ℕ → ℕ → ℕ
@@ -54,7 +54,7 @@ char_in _ bits high b = 0
 -- the record after byte b, at mode m
 abbrev pub moved : Progress → ℕ → Mode → ℕ → ℕ → Progress
 moved x b m level len =
-    record { mode = m; fault = x.fault; head = x.head; level = level; pos = bump x.pos; place = x.place; bits = bits_in x.mode x.bits b; high = high_in x.mode x.bits x.high b; number = number_to m (number_before x.mode m x.number) b; len = len }
+    record { mode = m; fault = x.fault; head = x.head; level = level; pos = bump x.pos; bits = bits_in x.mode x.bits b; high = high_in x.mode x.bits x.high b; number = number_to m (number_before x.mode m x.number) b; len = len }
 
 -- a step of the lexer, by the fault of its act: e tells whether it ends a number, m is the mode after it
 abbrev pub acted_by : Option Fault → Act → Bool → Progress → ℕ → ℕ → Mode → Advanced
@@ -64,7 +64,7 @@ acted_by None a e x n b m =
 acted_by (Some f) a e x n b m = faulted x f
 
 abbrev pub acted : Act → Bool → Progress → ℕ → ℕ → Mode → Advanced
-acted a e x n b m = acted_by (first_fault a x.level n) a e x n b m
+acted a e x n b m = acted_by (first_fault a x.level n x.pos) a e x n b m
 
 -- a byte of a record without a fault so far: 13 comes before 11, and 11 before 12
 unfoldable pub sound : Progress → ℕ → ℕ → Step → Advanced
@@ -100,8 +100,8 @@ whole x root = cond (eqb x.level 0) (whole_in x.mode x.pos root) (Is.Unfinished 
 
 abbrev pub verdict_by : Option Fault → Progress → Bool → Verdict
 verdict_by None x root = whole x root
-verdict_by (Some F.Malformed) x root = Is.Malformed x.place
-verdict_by (Some F.TooDeep) x root = Is.TooDeep x.place
+verdict_by (Some (F.Malformed place)) x root = Is.Malformed place
+verdict_by (Some (F.TooDeep place)) x root = Is.TooDeep place
 verdict_by (Some F.TooLong) x root = Is.TooLong
 
 unfoldable pub judged : Progress → Bool → Verdict

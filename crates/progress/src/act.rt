@@ -9,14 +9,14 @@ use json_text::word::Word;
 use table::kind::{Form, Scalar};
 use whole::Decimal;
 
-// A value that is opened is too deep where the buffer has no frame for it.
-fn open_fault(level: usize, frames: usize) -> Option<Fault>
-    ensures { result ≡ open_fault level frames }
+// A value that a byte at pos opens is too deep where the buffer has no frame for it.
+fn open_fault(level: usize, frames: usize, pos: u32) -> Option<Fault>
+    ensures { result ≡ open_fault level frames pos }
 {
     if level < frames {
         None
     } else {
-        Some(Fault::TooDeep)
+        Some(Fault::TooDeep(pos))
     }
 }
 
@@ -57,6 +57,7 @@ fn number_kind(d: Decimal) -> Scalar
 }
 
 // The scalar that a word is.
+// Stays: a function, since `From` has its impl in the crate of one of the two types, and of `json_text` and `table` neither builds on the other.
 fn scalar_of(w: Word) -> Scalar
     ensures { result ≡ scalar_of w }
 {
@@ -89,13 +90,13 @@ fn closing(ends: bool, d: Decimal) -> Task
     }
 }
 
-// The fault of an act, if it is one.
-pub fn first_fault(a: Act, level: usize, frames: usize) -> Option<Fault>
-    ensures { result ≡ first_fault a level frames }
+// The fault of an act at pos, if it is one.
+pub fn first_fault(a: Act, level: usize, frames: usize, pos: u32) -> Option<Fault>
+    ensures { result ≡ first_fault a level frames pos }
 {
     match a {
-        Act::Fault => Some(Fault::Malformed),
-        Act::OpenArray | Act::OpenObject => open_fault(level, frames),
+        Act::Fault => Some(Fault::Malformed(pos)),
+        Act::OpenArray | Act::OpenObject => open_fault(level, frames, pos),
         _ => None,
     }
 }

@@ -15,11 +15,11 @@ pub mod key; // key.rt: the characters kept of the open key
 pub mod register; // register.rt: the registers of the open character and the open number
 pub mod ending; // ending.rt: the verdict of a record without a fault that ends
 
-// A fault of a record.
+// A fault of a record, with the place of its byte where the verdict names it.
 #[derive(Clone, Copy)]
 pub enum Fault {
-    Malformed,
-    TooDeep,
+    Malformed(u32),
+    TooDeep(u32),
     TooLong,
 }
 
@@ -28,9 +28,8 @@ pub enum Fault {
 pub struct Progress {
     // how many values are open
     pub level: usize,
-    // how many bytes were read, and the place of the fault
+    // how many bytes were read
     pub pos: u32,
-    pub place: u32,
     // of an open character: its bits, and the high surrogate before it
     pub bits: u32,
     pub high: u32,
@@ -43,6 +42,7 @@ pub struct Progress {
     // before the first RS of the stream
     pub head: bool,
     // how many characters of the open key are kept; 33 where it can be no key of a book
+    // Stays: a number, since docs/LIMITS.md names 33 as the most that it may be in a reader, and refusal 23 is for one above.
     pub len: u8,
 }
 
@@ -81,7 +81,6 @@ pub fn fresh(head: bool) -> Progress
         head: head,
         level: 0,
         pos: 0,
-        place: 0,
         bits: 0,
         high: 0,
         number: whole::fresh(),
@@ -108,7 +107,6 @@ fn faulted(x: Progress, f: Fault) -> Advanced
 {
     counted(Progress {
         fault: Some(f),
-        place: x.pos,
         ..x
     })
 }
@@ -134,7 +132,7 @@ fn moved(x: Progress, b: u8, m: Mode, level: usize, len: u8) -> Progress
 fn acted(x: Progress, frames: usize, b: u8, st: Step) -> Advanced
     ensures { result ≡ acted st.act st.ends x frames b st.mode }
 {
-    match act::first_fault(st.act, x.level, frames) {
+    match act::first_fault(st.act, x.level, frames, x.pos) {
         None => {
             let c = register::char_in(x.mode, x.bits, x.high, b);
             let level = act::level_after(st.act, x.level, frames);
@@ -169,10 +167,10 @@ pub fn advance(x: Progress, frames: usize, b: u8, st: Step) -> Advanced
             task: Task::Begin,
         };
     }
-    match x.fault {
-        None if !x.head => sound(x, frames, b, st),
-        _ => counted(x),
+    if x.head || x.fault.is_some() {
+        return counted(x);
     }
+    sound(x, frames, b, st)
 }
 
 // The verdict of a record that ends here.
@@ -184,8 +182,8 @@ pub fn judge(x: Progress, root: bool) -> Verdict
     }
     match x.fault {
         None => ending::whole(x, root),
-        Some(Fault::Malformed) => Verdict::Malformed(x.place),
-        Some(Fault::TooDeep) => Verdict::TooDeep(x.place),
+        Some(Fault::Malformed(place)) => Verdict::Malformed(place),
+        Some(Fault::TooDeep(place)) => Verdict::TooDeep(place),
         Some(Fault::TooLong) => Verdict::TooLong,
     }
 }

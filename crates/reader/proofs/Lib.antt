@@ -1,4 +1,2 @@
 pub mod RefusalLaws
 pub mod RunLaws
-pub mod ReaderLaws
-pub mod TallyLaws

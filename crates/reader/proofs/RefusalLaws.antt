@@ -1,11 +1,11 @@
--- Laws of ladders and gates: what an open gate tells, what a shut one tells, and the gates by the code's tests. Assumes nothing.
+-- Laws of ladders and gates: what an open gate tells, and what a shut one tells. Assumes nothing.
 use mathlib.Core.Bool.{Bool, true, false, cond, ◌&&◌}
 use mathlib.Core.List.{List, ◌∷◌}
 use mathlib.Core.Path.{◌≡◌, refl, sym, ◌∙◌}
-use Prim.Native.Nat.{ℕ, ◌*◌, ◌<◌, ◌≤◌}
+use Prim.Native.Nat.{ℕ, ◌*◌, ◌≤◌}
 use native.Mathlib.Omega.{arith}
 use lib.Dec.{leb, leb→le}
-use borrow.Author.Tests.{le-leb, lt-leb, leb-true}
+use borrow.Author.Tests.{le-leb, leb-true}
 use Rattle.table.specs.Table.{Table}
 use Rattle.table.specs.Limits.{within_limits}
 use Rattle.laws.proofs.TestLaws.{true-neq-false, T-of-true, T-and-left, T-and-right}
@@ -123,40 +123,3 @@ module _ (f l k : ℕ) where
         leb→le l f (T-and-left (leb l f) (leb k 33) c),
         leb→le k 33 (T-and-right (leb l f) (leb k 33) c),
       )
-
--- the bounds in the order of the code's tests
-pub fit-in-order : (a b c d : Bool) → (((a && b) && c) && d) ≡ (a && (b && (c && d)))
-fit-in-order false b c d = refl
-fit-in-order true false c d = refl
-fit-in-order true true c d = refl
-
--- ---- the gates, rung by rung
-
-module _ (t : Table) (n : ℕ) (b : Bool) (p : b ≡ within_limits t) where
-  pub start-above : b ≡ false → Err No.AboveLimit ≡ start_gate t n
-  unfolding start_gate first_refusal
-  start-above e = rw (sym p ∙ e)
-
-  pub start-small : b ≡ true → n < 96 → Err No.SmallBuffer ≡ start_gate t n
-  unfolding start_gate first_refusal
-  start-small e h = rw (sym p ∙ e, lt-leb 96 n h)
-
-  pub start-let_in : b ≡ true → 96 ≤ n → let_in ≡ start_gate t n
-  start-let_in e h = sym (start-open-of-room t n (sym p ∙ e) h)
-
-module _ (within : Bool) (f : ℕ) (t : Table) (n : ℕ) where
-  pub call-above : within_limits t ≡ false → call_gate within f t n ≡ Err No.AboveLimit
-  unfolding call_gate first_refusal
-  call-above e = rw e
-
-  module _ (e : within_limits t ≡ true) where
-    pub call-outside : within ≡ false → call_gate within f t n ≡ Err No.AboveLimit
-    unfolding call_gate first_refusal
-    call-outside q = rw (e, q)
-
-    pub call-short : within ≡ true → n < 96 * f → call_gate within f t n ≡ Err No.ShortBuffer
-    unfolding call_gate first_refusal
-    call-short q h = rw (e, q, lt-leb (96 * f) n h)
-
-    pub call-let_in : within ≡ true → 96 * f ≤ n → call_gate within f t n ≡ let_in
-    call-let_in q h = rw q (call-open-of-room f t n e h)

@@ -28,6 +28,7 @@ pub struct Tally {
 
 impl Tally {
     // Counts one record more.
+    #[tactic(auto, unfolding(laws::specs::Count::bump))]
     fn count(&mut self, verdict: Verdict)
         ensures { self.new ≡ tallied verdict self.old }
     {
@@ -84,6 +85,7 @@ pub struct Fed {
 }
 
 // Whether a start is let in: the table, then 21 for a buffer of n bytes.
+#[tactic(auto, unfolding(crate::specs::Refusals::start_gate, crate::specs::Refusals::first_refusal))]
 fn admit_start(table: &Table, n: usize) -> Result<(), Refusal>
     ensures { result ≡ start_gate table.now n }
 {
@@ -124,6 +126,7 @@ impl Reader {
 
     // A fresh reader for a table and a buffer, which stay as they are. Ruled out: a start that counts the frames of a longer buffer past 64, and
     // one that lets in a buffer without a frame.
+    #[tactic(auto, unfolding(crate::specs::Start::start_of))]
     pub fn start(table: &Table, work: &[u8]) -> Result<Reader, Refusal>
         ensures { started result ≡ start_of table.now work.now }
     {
@@ -135,6 +138,7 @@ impl Reader {
     }
 
     // The numbers of the reader are within their bounds.
+    #[tactic(auto, unfolding(crate::specs::Refusals::fit_reader))]
     fn is_within(&self) -> bool
         ensures { result ≡ within_reader self.now }
     {
@@ -145,6 +149,7 @@ impl Reader {
     }
 
     // Whether a feed or a close is let in: the table, then 23 for the reader, then 22 for a buffer of n bytes.
+    #[tactic(auto, unfolding(crate::specs::Refusals::call_gate, crate::specs::Refusals::first_refusal, crate::specs::Refusals::fit_reader))]
     fn admit<'t>(&self, table: &'t Table, n: usize) -> Result<Rules<'t>, Refusal>
         ensures { MatchResult result (λ rules. (call_gate (within_reader self.now) self.now.frames table.now n ≡ Ok tt) × (rules.table.now ≡ table.now) × (rules.frames ≡ self.now.frames)) (λ e. call_gate (within_reader self.now) self.now.frames table.now n ≡ Err e) }
     {
@@ -184,6 +189,7 @@ impl Reader {
     }
 
     // Reads a piece up to and with the first RS that ends a record: how many bytes are read, and the verdict of that record.
+    #[tactic(auto, unfolding(crate::specs::Machine::feeding), using(crate::proofs::RunLaws::run_done))]
     fn read_piece(&mut self, rules: Rules, work: &mut [u8], piece: &[u8]) -> Fed
         requires { rules.frames ≡ self.old.frames }
         ensures { record { reader = self.new; count = result.count; answer = Ok result.verdict; work = work.new } ≡ feeding self.old rules.entry.table.now work.old piece.now }
@@ -218,6 +224,7 @@ impl Reader {
 
     // Reads a piece up to and with the first RS that ends a record. A refused feed changes nothing. Ruled out: a feed that keeps levels of a record
     // over its RS, and one that reads on past a verdict.
+    #[tactic(auto, unfolding(crate::specs::Machine::feed_of))]
     pub fn feed(&mut self, table: &Table, work: &mut [u8], piece: &[u8]) -> Result<Fed, Refusal>
         ensures { record { reader = self.new; count = count_of result; answer = said result; work = work.new } ≡ feed_of self.old table.now work.old piece.now }
     {
@@ -227,6 +234,7 @@ impl Reader {
 
     // Ends the last record like an RS, and is in the head again. A refused close changes nothing. Ruled out: a close that forgets the tally, and one
     // that gives a verdict where nothing was read.
+    #[tactic(auto, unfolding(crate::specs::Machine::close_of, crate::specs::Machine::closing))]
     pub fn close(&mut self, table: &Table, work: &[u8]) -> Result<Option<Verdict>, Refusal>
         ensures { record { reader = self.new; count = 0; answer = result; work = work.now } ≡ close_of self.old table.now work.now }
     {

@@ -101,7 +101,7 @@ module _ (n : ℕ) (x : Progress) where
     unfolding sound
     moves-sound =
         cond-elim Moved (ltb x.pos longest)
-        (λ h. moves-acted_by b st.mode digit (ltb→lt x.pos longest h) (first_fault st.act x.level n) st.act st.ends)
+        (λ h. moves-acted_by b st.mode digit (ltb→lt x.pos longest h) (first_fault st.act x.level n x.pos) st.act st.ends)
         (λ h. moves-faulted F.TooLong)
 
     moves-by_fault : (f : Option Fault) → Moved (advanced_by_fault f x n b st)

@@ -78,7 +78,7 @@ pub record IsSound (r : Reader) (t : Table) (w : List ℕ) (b : ℕ) : Type 0 wh
   pub head : r.progress.head ≡ false
   pub fault : r.progress.fault ≡ None
   pub short : ltb r.progress.pos longest ≡ true
-  pub first : first_fault (step_at r w b).act (level_of r) r.frames ≡ None
+  pub first : first_fault (step_at r w b).act (level_of r) r.frames r.progress.pos ≡ None
 
 -- a byte that leaves the frames: level and mode stay too, but at an RS
 pub record Idles (r : Reader) (w : List ℕ) (b : ℕ) (o : Outcome) : Type 0 where
@@ -148,14 +148,14 @@ module _ (r : Reader) (t : Table) (w : List ℕ) (b : ℕ) where
         (record { work = refl; level = omega arith; stays = λ _. (l, m) })
 
     ways-by-first : r.progress.head ≡ false → r.progress.fault ≡ None → ltb r.progress.pos longest ≡ true → (f : Option Fault)
-        → first_fault (step_at r w b).act (level_of r) r.frames ≡ f → Ways
+        → first_fault (step_at r w b).act (level_of r) r.frames r.progress.pos ≡ f → Ways
     unfolding advanced sound
     ways-by-first h k s None q = inr (record { gate = g; byte = e; head = h; fault = k; short = s; first = q })
     ways-by-first h k s (Some f) q = inl (idles-of-task (faulted r.progress f).progress refl refl (rw (e, h, k, s, q)))
 
     ways-by-length : r.progress.head ≡ false → r.progress.fault ≡ None → (s : Bool) → ltb r.progress.pos longest ≡ s → Ways
     unfolding advanced sound
-    ways-by-length h k true s = ways-by-first h k s (first_fault (step_at r w b).act (level_of r) r.frames) refl
+    ways-by-length h k true s = ways-by-first h k s (first_fault (step_at r w b).act (level_of r) r.frames r.progress.pos) refl
     ways-by-length h k false s = inl (idles-of-task (faulted r.progress F.TooLong).progress refl refl (rw (e, h, k, s)))
 
     ways-by-fault : r.progress.head ≡ false → (f : Option Fault) → r.progress.fault ≡ f → Ways

@@ -52,7 +52,7 @@ abbrev reader : Reader
 reader =
     record {
       frames = 2;
-      progress = record { mode = M.Number N.Int; fault = None; head = false; level = 1; pos = 2; place = 0; bits = 0; high = 0; number = counted bounded N.Int fresh 0x31; len = 0 };
+      progress = record { mode = M.Number N.Int; fault = None; head = false; level = 1; pos = 2; bits = 0; high = 0; number = counted bounded N.Int fresh 0x31; len = 0 };
       root = false;
       key = replicate 32 0;
       tally = zero_tally;

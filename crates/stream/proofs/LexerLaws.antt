@@ -239,28 +239,28 @@ module _ (b : ℕ) where
 
 -- ---- a step without a fault that leaves no token open has ended the one that was
 
-pub key_ended : (k : StringMove) (l n : ℕ) → first_fault (key_step k).act l n ≡ None → is_in_token (key_step k).mode ≡ false
+pub key_ended : (k : StringMove) (l n p : ℕ) → first_fault (key_step k).act l n p ≡ None → is_in_token (key_step k).mode ≡ false
     → key_step k ≡ step_to (M.At P.Colon) A.KeyEnd
-key_ended SM.Fault l n f e = let z : ◌≡◌ {A = ℕ} 0 1 = cc in absurd (omega arith)
-key_ended (SM.Go s) l n f e = true-neq-false e
-key_ended SM.Char l n f e = true-neq-false e
-key_ended SM.Close l n f e = refl
+key_ended SM.Fault l n p f e = let z : ◌≡◌ {A = ℕ} 0 1 = cc in absurd (omega arith)
+key_ended (SM.Go s) l n p f e = true-neq-false e
+key_ended SM.Char l n p f e = true-neq-false e
+key_ended SM.Close l n p f e = refl
 
-pub text-ended : (k : StringMove) (l n : ℕ) → first_fault (text_step k).act l n ≡ None → is_in_token (text_step k).mode ≡ false
+pub text-ended : (k : StringMove) (l n p : ℕ) → first_fault (text_step k).act l n p ≡ None → is_in_token (text_step k).mode ≡ false
     → text_step k ≡ step_to (M.At P.After) A.TextEnd
-text-ended SM.Fault l n f e = let z : ◌≡◌ {A = ℕ} 0 1 = cc in absurd (omega arith)
-text-ended (SM.Go s) l n f e = true-neq-false e
-text-ended SM.Char l n f e = true-neq-false e
-text-ended SM.Close l n f e = refl
+text-ended SM.Fault l n p f e = let z : ◌≡◌ {A = ℕ} 0 1 = cc in absurd (omega arith)
+text-ended (SM.Go s) l n p f e = true-neq-false e
+text-ended SM.Char l n p f e = true-neq-false e
+text-ended SM.Close l n p f e = refl
 
-pub word-ended : (k : WordMove) (v : Word) (i l n : ℕ) → first_fault (word_step k v i).act l n ≡ None → is_in_token (word_step k v i).mode ≡ false
+pub word-ended : (k : WordMove) (v : Word) (i l n p : ℕ) → first_fault (word_step k v i).act l n p ≡ None → is_in_token (word_step k v i).mode ≡ false
     → word_step k v i ≡ step_to (M.At P.After) (A.WordEnd v)
-word-ended WM.Fault v i l n f e = let z : ◌≡◌ {A = ℕ} 0 1 = cc in absurd (omega arith)
-word-ended WM.Go v i l n f e = true-neq-false e
-word-ended WM.End v i l n f e = refl
+word-ended WM.Fault v i l n p f e = let z : ◌≡◌ {A = ℕ} 0 1 = cc in absurd (omega arith)
+word-ended WM.Go v i l n p f e = true-neq-false e
+word-ended WM.End v i l n p f e = refl
 
-pub number-ended : (k : NumberMove) (top : Top) (b l n : ℕ) → first_fault (number_step k top b).act l n ≡ None
+pub number-ended : (k : NumberMove) (top : Top) (b l n p : ℕ) → first_fault (number_step k top b).act l n p ≡ None
     → is_in_token (number_step k top b).mode ≡ false → k ≡ NM.End
-number-ended NM.Fault top b l n f e = let z : ◌≡◌ {A = ℕ} 0 1 = cc in absurd (omega arith)
-number-ended (NM.Go m) top b l n f e = true-neq-false e
-number-ended NM.End top b l n f e = refl
+number-ended NM.Fault top b l n p f e = let z : ◌≡◌ {A = ℕ} 0 1 = cc in absurd (omega arith)
+number-ended (NM.Go m) top b l n p f e = true-neq-false e
+number-ended NM.End top b l n p f e = refl

@@ -56,7 +56,7 @@ module _ (r : Reader) (t : Table) (w : List ℕ) (b : ℕ) (n : NumberMode) wher
 
   -- the byte ends the number and has its own effect, or has that alone after the number
   Alike : Step → Type 0
-  Alike st = first_fault st.act (level_of r) r.frames ≡ None → done inside t w b (ended_before st) ≡ done behind t finished b st
+  Alike st = first_fault st.act (level_of r) r.frames r.progress.pos ≡ None → done inside t w b (ended_before st) ≡ done behind t finished b st
 
   alike-after_value : (top : Top) → Alike (after_value top b)
   unfolding Alike close_at value_at
@@ -65,7 +65,7 @@ module _ (r : Reader) (t : Table) (w : List ℕ) (b : ℕ) (n : NumberMode) wher
   module _ (s : IsSound inside t w b) (e : is_in_token (mode_of (byte_fed inside t w b).reader) ≡ false) where
     ended : number_move n b ≡ NM.End
     ended =
-        number-ended (number_move n b) (top_at w (level_of r)) b (level_of r) r.frames s.first
+        number-ended (number_move n b) (top_at w (level_of r)) b (level_of r) r.frames r.progress.pos s.first
         (ap (λ (x : Progress). is_in_token x.mode) (sym (progress-fed inside t w b s)) ∙ e)
 
     step-inside : step_at inside w b ≡ ended_before (after_value (top_at w (level_of r)) b)
@@ -74,7 +74,7 @@ module _ (r : Reader) (t : Table) (w : List ℕ) (b : ℕ) (n : NumberMode) wher
     step-behind : step_at behind finished b ≡ after_value (top_at w (level_of r)) b
     step-behind = ap (λ (k : Top). after_value k b) (top_at-with_value t w (level_of r) (Done.Scalar (number_kind r.progress.number)))
 
-    no-fault : first_fault (after_value (top_at w (level_of r)) b).act (level_of r) r.frames ≡ None
+    no-fault : first_fault (after_value (top_at w (level_of r)) b).act (level_of r) r.frames r.progress.pos ≡ None
     no-fault = rw step-inside at s.first
 
     sound-behind : IsSound behind t finished b

@@ -44,20 +44,20 @@ use Rattle.stream.proofs.SoundLaws.{not-faulty, faulty-of-malformed}
 -- the fault and the mode that a byte other than RS leaves, by the fault of its act
 module _ (x : Progress) (n b : ℕ) (st : Step) (e : eqb b 0x1E ≡ false) (h : x.head ≡ false) where
   module _ (f : x.fault ≡ None) (s : ltb x.pos longest ≡ true) where
-    fault-of-sound : first_fault st.act x.level n ≡ None → (advanced x n b st).progress.fault ≡ None
+    fault-of-sound : first_fault st.act x.level n x.pos ≡ None → (advanced x n b st).progress.fault ≡ None
     unfolding advanced sound
     fault-of-sound q = rw (e, h, f, s, q)
 
-    mode-of-sound : first_fault st.act x.level n ≡ None → (advanced x n b st).progress.mode ≡ st.mode
+    mode-of-sound : first_fault st.act x.level n x.pos ≡ None → (advanced x n b st).progress.mode ≡ st.mode
     unfolding advanced sound
     mode-of-sound q = rw (e, h, f, s, q)
 
-    fault-of-malformed : first_fault st.act x.level n ≡ Some F.Malformed → (advanced x n b st).progress.fault ≡ Some F.Malformed
+    fault-of-malformed : first_fault st.act x.level n x.pos ≡ Some (F.Malformed x.pos) → (advanced x n b st).progress.fault ≡ Some (F.Malformed x.pos)
     unfolding advanced sound
     fault-of-malformed q = rw (e, h, f, s, q)
 
   -- a malformed record stays so
-  fault-stays : x.fault ≡ Some F.Malformed → (advanced x n b st).progress.fault ≡ Some F.Malformed
+  fault-stays : {p : ℕ} → x.fault ≡ Some (F.Malformed p) → (advanced x n b st).progress.fault ≡ Some (F.Malformed p)
   unfolding advanced
   fault-stays f = rw (e, h, f)
 
@@ -67,7 +67,8 @@ module _ (x : Progress) (n b : ℕ) (st : Step) (e : eqb b 0x1E ≡ false) (h : 
 record Malformed (r : Reader) (t : Table) (w : List ℕ) : Type 0 where
   gate : gate_of r t w ≡ let_in
   head : r.progress.head ≡ false
-  fault : r.progress.fault ≡ Some F.Malformed
+  place : ℕ
+  fault : r.progress.fault ≡ Some (F.Malformed place)
   read : ltb 0 r.progress.pos ≡ true
 
 -- the call is let in, and the record, of p bytes so far, is not the head, has no fault and stands in mode m
@@ -94,6 +95,7 @@ module _ (r : Reader) (t : Table) (w : List ℕ) (b : ℕ) (e : eqb b 0x1E ≡ f
       record {
         gate = open-of-other r t w b x.gate e;
         head = (moves-of-other r t w b x.gate e).head ∙ x.head;
+        place = x.place;
         fault = ap (λ (y : Progress). y.fault) (progress-of-other r t w b x.gate e)
             ∙ fault-stays r.progress r.frames b (step_at r w b) e x.head x.fault;
         read = read-of-byte x.gate;
@@ -103,17 +105,18 @@ module _ (r : Reader) (t : Table) (w : List ℕ) (b : ℕ) (e : eqb b 0x1E ≡ f
     short : ltb r.progress.pos longest ≡ true
     short = lt-ltb r.progress.pos longest (omega (arith, x.pos))
 
-    malformed-of-fault : first_fault (step_at r w b).act (level_of r) r.frames ≡ Some F.Malformed → Malformed o.reader t o.work
+    malformed-of-fault : first_fault (step_at r w b).act (level_of r) r.frames r.progress.pos ≡ Some (F.Malformed r.progress.pos) → Malformed o.reader t o.work
     malformed-of-fault q =
         record {
           gate = open-of-other r t w b x.gate e;
           head = (moves-of-other r t w b x.gate e).head ∙ x.head;
+          place = r.progress.pos;
           fault = ap (λ (y : Progress). y.fault) (progress-of-other r t w b x.gate e)
               ∙ fault-of-malformed r.progress r.frames b (step_at r w b) e x.head x.fault short q;
           read = read-of-byte x.gate;
         }
 
-    reads-of-sound : first_fault (step_at r w b).act (level_of r) r.frames ≡ None → Reads o.reader t o.work (step_at r w b).mode (p + 1)
+    reads-of-sound : first_fault (step_at r w b).act (level_of r) r.frames r.progress.pos ≡ None → Reads o.reader t o.work (step_at r w b).mode (p + 1)
     reads-of-sound q =
         record {
           gate = open-of-other r t w b x.gate e;
@@ -150,20 +153,20 @@ unfolding into by
 goes-into a-string m = refl
 goes-into a_key m = refl
 
-malformed-by : (K : Kind) (level n : ℕ) → first_fault (by K SM.Fault).act level n ≡ Some F.Malformed
+malformed-by : (K : Kind) (level n p : ℕ) → first_fault (by K SM.Fault).act level n p ≡ Some (F.Malformed p)
 unfolding by
-malformed-by a-string level n = refl
-malformed-by a_key level n = refl
+malformed-by a-string level n p = refl
+malformed-by a_key level n p = refl
 
-sound-by : (K : Kind) (k : StringMove) → (k ≡ SM.Fault → ⊥) → (level n : ℕ) → first_fault (by K k).act level n ≡ None
+sound-by : (K : Kind) (k : StringMove) → (k ≡ SM.Fault → ⊥) → (level n p : ℕ) → first_fault (by K k).act level n p ≡ None
 unfolding by
-sound-by K SM.Fault x level n = absurd (x refl)
-sound-by a-string (SM.Go m) x level n = refl
-sound-by a-string SM.Char x level n = refl
-sound-by a-string SM.Close x level n = refl
-sound-by a_key (SM.Go m) x level n = refl
-sound-by a_key SM.Char x level n = refl
-sound-by a_key SM.Close x level n = refl
+sound-by K SM.Fault x level n p = absurd (x refl)
+sound-by a-string (SM.Go m) x level n p = refl
+sound-by a-string SM.Char x level n p = refl
+sound-by a-string SM.Close x level n p = refl
+sound-by a_key (SM.Go m) x level n p = refl
+sound-by a_key SM.Char x level n p = refl
+sound-by a_key SM.Close x level n p = refl
 
 module _ (K : Kind) (r : Reader) (t : Table) (w : List ℕ) (s : StringMode) (p : ℕ) (x : Reads r t w (into K s) p) (l : p < longest) (b : ℕ)
     (e : eqb b 0x1E ≡ false) where
@@ -174,15 +177,15 @@ module _ (K : Kind) (r : Reader) (t : Table) (w : List ℕ) (s : StringMode) (p 
   malformed-of-move : string_move s b ≡ SM.Fault → Malformed (byte_fed r t w b).reader t (byte_fed r t w b).work
   malformed-of-move q =
       malformed-of-fault r t w b e (into K s) p x l
-      (ap (λ (st : Step). first_fault st.act (level_of r) r.frames) (step_is SM.Fault q) ∙ malformed-by K (level_of r) r.frames)
+      (ap (λ (st : Step). first_fault st.act (level_of r) r.frames r.progress.pos) (step_is SM.Fault q) ∙ malformed-by K (level_of r) r.frames r.progress.pos)
 
   reads-of-move : (string_move s b ≡ SM.Fault → ⊥) → Reads (byte_fed r t w b).reader t (byte_fed r t w b).work (by K (string_move s b)).mode (p + 1)
   reads-of-move n =
       subst (λ (m : Mode). Reads (byte_fed r t w b).reader t (byte_fed r t w b).work m (p + 1))
       (ap (λ (st : Step). st.mode) (step_is (string_move s b) refl))
       (reads-of-sound r t w b e (into K s) p x l
-      (ap (λ (st : Step). first_fault st.act (level_of r) r.frames) (step_is (string_move s b) refl)
-      ∙ sound-by K (string_move s b) n (level_of r) r.frames))
+      (ap (λ (st : Step). first_fault st.act (level_of r) r.frames r.progress.pos) (step_is (string_move s b) refl)
+      ∙ sound-by K (string_move s b) n (level_of r) r.frames r.progress.pos))
 
   reads-of-go : (m : StringMode) → string_move s b ≡ SM.Go m → Reads (byte_fed r t w b).reader t (byte_fed r t w b).work (into K m) (p + 1)
   reads-of-go m q =

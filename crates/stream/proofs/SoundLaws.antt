@@ -76,8 +76,8 @@ not-faulty r t w h f =
     (λ _. judged-not-faulty r.progress r.root h f) (λ _. refl))
 
 -- a close tells of the fault of a malformed record of which a byte is read
-pub faulty-of-malformed : (r : Reader) (t : Table) (w : List ℕ) → gate_of r t w ≡ let_in → ltb 0 r.progress.pos ≡ true → r.progress.head ≡ false
-    → r.progress.fault ≡ Some F.Malformed → faulty_in r t w ≡ true
+pub faulty-of-malformed : (r : Reader) (t : Table) (w : List ℕ) {p : ℕ} → gate_of r t w ≡ let_in → ltb 0 r.progress.pos ≡ true → r.progress.head ≡ false
+    → r.progress.fault ≡ Some (F.Malformed p) → faulty_in r t w ≡ true
 unfolding close_of closing judged
 faulty-of-malformed r t w g p h f = rw (g, p, h, f)
 
@@ -109,7 +109,7 @@ module _ (r : Reader) (t : Table) (w : List ℕ) (b : ℕ) (s : IsSound r t w b)
   tells = tells-step_of b (mode_of r) (top_at w (level_of r))
 
   told : Told task b (level_of r) next.level step.ends
-  told = told-of-act b (level_of r) r.frames r.progress.number r.progress.len _ step.act step.ends s.first tells.opens
+  told = told-of-act b (level_of r) r.frames r.progress.pos r.progress.number r.progress.len _ step.act step.ends s.first tells.opens
 
   -- there is a frame for each level that is open after a sound byte
   pub level-le : level_of o.reader ≤ r.frames
@@ -157,19 +157,19 @@ module _ (r : Reader) (t : Table) (w : List ℕ) (b : ℕ) (s : IsSound r t w b)
     pub sound-ends-key : (v : StringMode) → mode_of r ≡ M.Key v → o.work ≡ with_key t w (level_of r) r.key r.progress.len
     sound-ends-key v m =
         let q : step ≡ key_step (string_move v b) = ap (λ (x : Mode). step_of x (top_at w (level_of r)) b) m in
-        work-of-step _ (q ∙ key_ended (string_move v b) (level_of r) r.frames (rw q at s.first) (rw q at (mode-fed ∙ e)))
+        work-of-step _ (q ∙ key_ended (string_move v b) (level_of r) r.frames r.progress.pos (rw q at s.first) (rw q at (mode-fed ∙ e)))
 
     pub sound-ends-string : (v : StringMode) → mode_of r ≡ M.Text v → o.work ≡ with_value t w (level_of r) (Done.Scalar K.Str)
     unfolding value_at
     sound-ends-string v m =
         let q : step ≡ text_step (string_move v b) = ap (λ (x : Mode). step_of x (top_at w (level_of r)) b) m in
-        work-of-step _ (q ∙ text-ended (string_move v b) (level_of r) r.frames (rw q at s.first) (rw q at (mode-fed ∙ e)))
+        work-of-step _ (q ∙ text-ended (string_move v b) (level_of r) r.frames r.progress.pos (rw q at s.first) (rw q at (mode-fed ∙ e)))
 
     pub sound-ends-word : (v : Word) (i : ℕ) → mode_of r ≡ M.Word v i → o.work ≡ with_value t w (level_of r) (Done.Scalar (word_kind v))
     unfolding value_at
     sound-ends-word v i m =
         let q : step ≡ word_step (word_move v i b) v i = ap (λ (x : Mode). step_of x (top_at w (level_of r)) b) m in
-        work-of-step _ (q ∙ word-ended (word_move v i b) v i (level_of r) r.frames (rw q at s.first) (rw q at (mode-fed ∙ e)))
+        work-of-step _ (q ∙ word-ended (word_move v i b) v i (level_of r) r.frames r.progress.pos (rw q at s.first) (rw q at (mode-fed ∙ e)))
         ∙ ap (λ (x : Scalar). with_value t w (level_of r) (Done.Scalar x)) (sym (word_kind-is v))
 
   -- the record has no fault after a sound byte

@@ -65,22 +65,22 @@ pub record Told (k : Task) (b l next : ℕ) (e : Bool) : Type 0 where
   pub ends : EndsBy k e
 
 -- a byte without a fault opens a level where there is a frame for it
-open_level-of-sound : (l n : ℕ) → open_fault l n ≡ None → open_level l n ≡ l + 1
+open_level-of-sound : (l n p : ℕ) → open_fault l n p ≡ None → open_level l n ≡ l + 1
 unfolding open_fault open_level
-open_level-of-sound l n = go (ltb l n)
+open_level-of-sound l n p = go (ltb l n)
   where
-    go : (v : Bool) → cond v None (Some F.TooDeep) ≡ None → cond v (l + 1) l ≡ l + 1
+    go : (v : Bool) → cond v None (Some (F.TooDeep p)) ≡ None → cond v (l + 1) l ≡ l + 1
     go true e = refl
     go false e = let z : ◌≡◌ {A = ℕ} 0 1 = cc in absurd (omega arith)
 
-module _ (b l n : ℕ) (d : Decimal) (len c : ℕ) where
-  pub told-of-act : (a : Act) (e : Bool) → first_fault a l n ≡ None → OpensBy a b → Told (task_of a e d len c) b l (level_after a l n) e
+module _ (b l n p : ℕ) (d : Decimal) (len c : ℕ) where
+  pub told-of-act : (a : Act) (e : Bool) → first_fault a l n p ≡ None → OpensBy a b → Told (task_of a e d len c) b l (level_after a l n) e
   unfolding key_task
   told-of-act A.Fault e f o = record { level = refl; form = tt; ends = tt }
   told-of-act A.Pass true f o = record { level = refl; form = tt; ends = tt }
   told-of-act A.Pass false f o = record { level = refl; form = tt; ends = tt }
-  told-of-act A.OpenArray e f o = record { level = open_level-of-sound l n f; form = rw o; ends = tt }
-  told-of-act A.OpenObject e f o = record { level = open_level-of-sound l n f; form = rw o; ends = tt }
+  told-of-act A.OpenArray e f o = record { level = open_level-of-sound l n p f; form = rw o; ends = tt }
+  told-of-act A.OpenObject e f o = record { level = open_level-of-sound l n p f; form = rw o; ends = tt }
   told-of-act A.Close true f o = record { level = refl; form = tt; ends = refl }
   told-of-act A.Close false f o = record { level = refl; form = tt; ends = tt }
   told-of-act A.KeyStart e f o = record { level = refl; form = tt; ends = tt }

@@ -86,7 +86,7 @@ module _ (t : Table) (r : Reader) (w : List ℕ) (m : Mode) (d : Decimal) (p b :
         reads_on = record { gate = i.gate; head = i.head; fault = i.fault; mode = refl; number = same_number; pos = next-pos l };
       }
 
-  no-fault : {a : Act} → NumberAct a → first_fault a (level_of r) r.frames ≡ None
+  no-fault : {a : Act} → NumberAct a → first_fault a (level_of r) r.frames r.progress.pos ≡ None
   no-fault first_byte = refl
   no-fault more_byte = refl
 
@@ -98,7 +98,7 @@ module _ (t : Table) (r : Reader) (w : List ℕ) (m : Mode) (d : Decimal) (p b :
         head = i.head;
         fault = i.fault;
         short = lt-ltb r.progress.pos longest (omega (arith, i.pos));
-        first = ap (λ (st : Step). first_fault st.act (level_of r) r.frames) q ∙ no-fault k;
+        first = ap (λ (st : Step). first_fault st.act (level_of r) r.frames r.progress.pos) q ∙ no-fault k;
       } in
       subst (λ (o : Outcome). Fed o) (sym (fed-of-sound r t w b s ∙ ap (done r t w b) q)) (done-number k l)
 

@@ -82,7 +82,7 @@ word_kind W.False = K.False
 -- what is known of a record, and a reader, in another mode
 abbrev pub at_mode : Mode → Progress → Progress
 at_mode m x =
-    record { mode = m; fault = x.fault; head = x.head; level = x.level; pos = x.pos; place = x.place; bits = x.bits; high = x.high; number = x.number; len = x.len }
+    record { mode = m; fault = x.fault; head = x.head; level = x.level; pos = x.pos; bits = x.bits; high = x.high; number = x.number; len = x.len }
 
 abbrev pub in_mode : Mode → Reader → Reader
 in_mode m r = record { frames = r.frames; progress = at_mode m r.progress; root = r.root; key = r.key; tally = r.tally }

@@ -3,5 +3,5 @@ use Rattle.std.proofs.Common.{rules}
 use Rattle.pass.proofs.KeepLaws.{kept_on}
 use Rattle.pass.proofs.Stretch.keep_to.Goals as goal
 
-pub loop-i-preserved : goal.loop-i-preserved
-loop-i-preserved c = search (rules, kept_on)
+pub loop-b-preserved : goal.loop-b-preserved
+loop-b-preserved c = search (rules, kept_on)

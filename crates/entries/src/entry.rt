@@ -66,6 +66,7 @@ impl Entry {
 }
 
 // The entry of an answer, if it says anything, and how many entries there are then.
+#[tactic(auto, unfolding(crate::specs::Entries::with_entries))]
 pub fn put_answer(out: &mut [u8], i: usize, a: Answer, read: usize) -> usize
     requires { i < 18446744073709551615 }
     ensures { (out.new ≡ with_entries out.old i (answer_entries a read)) × (result ≡ i + length (answer_entries a read)) }

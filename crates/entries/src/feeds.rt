@@ -17,6 +17,7 @@ struct Stream<'a> {
 }
 
 // The end of the piece in which the unread bytes begin.
+#[tactic(auto, unfolding(crate::specs::Feeds::piece_end))]
 fn piece_end(read: usize, size: usize, len: usize) -> usize
     requires { read ≤ len }
     ensures value { result ≡ piece_end size read len }

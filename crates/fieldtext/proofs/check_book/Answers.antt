@@ -1,5 +1,5 @@
 -- `check_book` meets its contract. Assumes nothing.
-use Rattle.std.proofs.Common.{rules, refl, sym}
+use Rattle.std.proofs.Common.{refl}
 use Rattle.load.proofs.LoadedLaws.{number-of-book, line-of-book}
 use Rattle.fieldtext.proofs.check_book.Goals as goal
 

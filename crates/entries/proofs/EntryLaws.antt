@@ -13,10 +13,7 @@ use borrow.Rule.Slice.PartMut.{put_mid}
 use Rattle.std.specs.Int.{to_le_bytes}
 use mir.Syntax.{w64}
 use Rattle.text.proofs.PutLaws.{put-copied}
-use Rattle.std.specs.Prelude.{Ok, None}
-use Rattle.reader.specs.Answer.{Answer}
 use Rattle.entries.specs.declared.entry.Entry.{Entry}
-use Rattle.entries.specs.Feeds.{answer_entries}
 use Rattle.text.specs.Text.{word_number}
 use Rattle.entries.specs.Entries.{little, bytes_of, with_entry, with_entries}
 
@@ -70,14 +67,3 @@ with_entries-append o i [] fs = let e : i + 0 ≡ i = omega arith in rw e
 with_entries-append o i (x ∷ es) fs =
     let e : i + suc (length es) ≡ suc i + length es = omega arith in
     with_entries-append (with_entry o i x) (suc i) es fs ∙ rw e
-
--- the entry of an answer that has one
-pub answer-entry : (o : List ℕ) (i : ℕ) (a : Answer) (read : ℕ) (e : Entry) (now : List ℕ) → answer_entries a read ≡ e ∷ [] → now ≡ with_entry o i e
-    → (now ≡ with_entries o i (answer_entries a read)) × (i + 1 ≡ i + length (answer_entries a read))
-unfolding with_entries
-answer-entry o i a read e now is h = rw is (h, refl)
-
-pub answer-quiet : (o : List ℕ) (i : ℕ) (a : Answer) (read : ℕ) → a ≡ Ok None
-    → (o ≡ with_entries o i (answer_entries a read)) × (i ≡ i + length (answer_entries a read))
-unfolding with_entries
-answer-quiet o i a read e = rw e (refl, omega arith)

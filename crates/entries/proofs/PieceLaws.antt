@@ -8,27 +8,8 @@ use native.Mathlib.Omega.{arith}
 use lib.Dec.{eqb, ltb}
 use lib.ListN.{length, take, drop, length-take, length-drop}
 use lib.Seq.{take_all}
-use borrow.Author.Tests.{eq-eqb, ne_eqb, eqb-false, lt-ltb, le-ltb, ltb-true}
+use borrow.Author.Tests.{eqb-false, ltb-true}
 use Rattle.entries.specs.Feeds.{piece_of, piece_end}
-
--- ---- where the piece ends
-
-module _ (size read n : ℕ) where
-  pub end_whole : size ≡ 0 → n ≡ piece_end size read n
-  unfolding piece_end
-  end_whole e = rw (eq-eqb size 0 e)
-
-  module _ (some : size ≡ 0 → ⊥) where
-    pub rest-of-size : read % size ≤ size
-    rest-of-size = omega (arith, mod-lt read {m = size} (omega (arith, some)))
-
-    pub end-last : n - read < size - read % size → n ≡ piece_end size read n
-    unfolding piece_end
-    end-last h = rw (ne_eqb size 0 some, lt-ltb (n - read) (size - read % size) h)
-
-    pub end-cut : size - read % size ≤ n - read → read + (size - read % size) ≡ piece_end size read n
-    unfolding piece_end
-    end-cut h = rw (ne_eqb size 0 some, le-ltb (n - read) (size - read % size) h)
 
 -- ---- the bytes of a piece
 

@@ -1,6 +1,5 @@
 // Entries in the output.
 ghost use Rattle.std.specs.Prelude.{◌≡◌, ◌+◌, ◌<◌, length};
-ghost use Rattle.text.specs.Text.{word_number};
 ghost use Rattle.entries.specs.Entries.{verdict_entry, bytes_of, with_entry, with_entries};
 ghost use Rattle.entries.specs.Feeds.{answer_entries};
 
@@ -14,17 +13,6 @@ pub struct Entry {
     pub number: u8,
     pub place: usize,
     pub read: usize,
-}
-
-// The byte of a word.
-fn word_number(word: Word) -> u8
-    ensures { result ≡ word_number word }
-{
-    match word {
-        Word::Valid => 0,
-        Word::Invalid => 1,
-        Word::Refused => 2,
-    }
 }
 
 impl Entry {
@@ -47,7 +35,7 @@ impl Entry {
         let p = self.place.to_le_bytes();
         let r = self.read.to_le_bytes();
         [
-            word_number(self.word),
+            self.word as u8,
             self.number,
             0,
             0,
@@ -78,6 +66,7 @@ impl Entry {
 }
 
 // The entry of an answer, if it says anything, and how many entries there are then.
+#[tactic(auto, unfolding(crate::specs::Entries::with_entries))]
 pub fn put_answer(out: &mut [u8], i: usize, a: Answer, read: usize) -> usize
     requires { i < 18446744073709551615 }
     ensures { (out.new ≡ with_entries out.old i (answer_entries a read)) × (result ≡ i + length (answer_entries a read)) }

@@ -1,23 +1,23 @@
 // A stream from the start on: fed piece by piece, and closed.
-ghost use Rattle.std.specs.Prelude.{◌≡◌, ◌+◌, ◌≤◌, ◌<◌, length};
-ghost use Rattle.reader.specs.Said.{said, count_of};
+ghost use Rattle.std.specs.Prelude.{◌≡◌, ◌≤◌, ◌<◌, length};
+ghost use Rattle.std.specs.Result.{is_err};
 ghost use Rattle.entries.specs.Feeds.{feeds as Feeds·feeds, streamed, piece_end, in_out, Feeds, judge_table_of};
-ghost use Rattle.entries.specs.Turn.{feed_next, turn_of};
+ghost use Rattle.entries.specs.Turn.{turn_of};
 
 use crate::entry;
 use reader::{Reader, Refusal};
 use table::flat::Table;
 
-// What the feeds of a stream give: the bytes read, how many entries, and whether the last feed was refused.
+// A stream that is fed in pieces cut at the multiples of a size, and the table that it is judged by.
 #[derive(Clone, Copy)]
-struct Fed {
-    read: usize,
-    made: usize,
-    // Stays: a Result would hold the other fields on both sides, since they are told of a refused feed too.
-    refused: bool,
+struct Stream<'a> {
+    table: &'a Table,
+    bytes: &'a [u8],
+    size: usize,
 }
 
 // The end of the piece in which the unread bytes begin.
+#[tactic(auto, unfolding(crate::specs::Feeds::piece_end))]
 fn piece_end(read: usize, size: usize, len: usize) -> usize
     requires { read ≤ len }
     ensures value { result ≡ piece_end size read len }
@@ -33,71 +33,44 @@ fn piece_end(read: usize, size: usize, len: usize) -> usize
     read + most
 }
 
-// Feeds the unread bytes up to the next cut.
-fn feed_piece(
-    reader: &mut Reader,
-    table: &Table,
-    stream: &[u8],
-    size: usize,
-    work: &mut [u8],
+// What the feeds of a stream give: the reader, the bytes read, and how many entries.
+#[derive(Clone, Copy)]
+struct Fed {
+    reader: Reader,
     read: usize,
-) -> Result<reader::Fed, Refusal>
-    requires { read ≤ length stream.now }
-    ensures work_after { record { reader = reader.new; count = count_of result; answer = said result; work = work.new } ≡ feed_next table.now size stream.now reader.old work.old read }
-    ensures count_in_bounds { (read + count_of result ≤ length stream.now) × (read + count_of result < 18446744073709551616) }
-{
-    let end = piece_end(read, size, stream.len());
-    reader.feed(table, work, &stream[read..end])
+    made: usize,
 }
 
-// Feeds the unread bytes up to the next cut, and puts the entry of the answer; a refused feed has none.
-fn feed_next(
-    f: Fed,
-    reader: &mut Reader,
-    table: &Table,
-    stream: &[u8],
-    size: usize,
-    work: &mut [u8],
-    out: &mut [u8],
-) -> Fed
-    requires { (f.read < length stream.now) × (f.made < 18446744073709551615) }
-    ensures { record { reader = reader.new; work = work.new; read = result.read; out = out.new; made = result.made; refused = result.refused } ≡ turn_of table.now size stream.now reader.old work.old f.read out.old f.made }
-{
-    match feed_piece(reader, table, stream, size, work, f.read) {
-        Ok(fed) => {
-            let read = f.read + fed.count;
-            Fed {
-                read,
-                made: entry::put_answer(out, f.made, Ok(fed.verdict), read),
-                refused: false,
-            }
-        }
-        Err(_) => Fed { refused: true, ..f },
+impl Fed {
+    // Feeds the unread bytes up to the next cut, and puts the entry of the answer; a refused feed has none.
+    fn feed_next(&mut self, stream: &Stream, work: &mut [u8], out: &mut [u8]) -> Result<(), Refusal>
+        requires { (self.old.read < length stream.now.bytes.now) × (self.old.made < 18446744073709551615) }
+        ensures { record { reader = self.new.reader; work = work.new; read = self.new.read; out = out.new; made = self.new.made; refused = is_err result } ≡ turn_of stream.now.table.now stream.now.size stream.now.bytes.now self.old.reader work.old self.old.read out.old self.old.made }
+    {
+        let end = piece_end(self.read, stream.size, stream.bytes.len());
+        let fed = self
+            .reader
+            .feed(stream.table, work, &stream.bytes[self.read..end])?;
+        self.read += fed.count;
+        self.made = entry::put_answer(out, self.made, Ok(fed.verdict), self.read);
+        Ok(())
     }
 }
 
 // Feeds piece after piece from a reader that has read nothing of a record, until all is read or a feed is refused.
-fn feed_all(
-    reader: &mut Reader,
-    table: &Table,
-    stream: &[u8],
-    size: usize,
-    work: &mut [u8],
-    out: &mut [u8],
-) -> Fed
-    requires { reader.old.progress.pos ≡ 0 }
-    ensures feeds { Feeds (Feeds·feeds (length stream.now) table.now size reader.old work.old 0 stream.now) out.old reader.new work.new result.read out.new result.made }
+fn feed_all(reader: Reader, stream: &Stream, work: &mut [u8], out: &mut [u8]) -> Fed
+    requires { reader.progress.pos ≡ 0 }
+    ensures feeds { Feeds (Feeds·feeds (length stream.now.bytes.now) stream.now.table.now stream.now.size reader work.old 0 stream.now.bytes.now) out.old result.reader work.new result.read out.new result.made }
     ensures made_bound { result.made < 18446744073709551615 }
 {
     let mut f = Fed {
+        reader,
         read: 0,
         made: 0,
-        refused: false,
     };
     // Stays: a turn feeds any number of bytes, so that no range counts the place.
-    while f.read < stream.len() {
-        f = feed_next(f, reader, table, stream, size, work, out);
-        if f.refused {
+    while f.read < stream.bytes.len() {
+        if f.feed_next(stream, work, out).is_err() {
             return f;
         }
     }
@@ -105,19 +78,12 @@ fn feed_all(
 }
 
 // The feeds of a stream, then the close.
-fn feed_close(
-    mut reader: Reader,
-    table: &Table,
-    stream: &[u8],
-    size: usize,
-    work: &mut [u8],
-    out: &mut [u8],
-) -> usize
+fn feed_close(reader: Reader, stream: &Stream, work: &mut [u8], out: &mut [u8]) -> usize
     requires { reader.progress.pos ≡ 0 }
-    ensures { record { work = work.new; out = out.new; made = result } ≡ in_out out.old (streamed table.now size reader work.old stream.now) }
+    ensures { record { work = work.new; out = out.new; made = result } ≡ in_out out.old (streamed stream.now.table.now stream.now.size reader work.old stream.now.bytes.now) }
 {
-    let f = feed_all(&mut reader, table, stream, size, work, out);
-    let answer = reader.close(table, work);
+    let mut f = feed_all(reader, stream, work, out);
+    let answer = f.reader.close(stream.table, work);
     entry::put_answer(out, f.made, answer, f.read)
 }
 
@@ -127,8 +93,13 @@ fn feed_close(
 pub fn judge(table: &Table, stream: &[u8], size: usize, work: &mut [u8], out: &mut [u8]) -> usize
     ensures { record { work = work.new; out = out.new; made = result } ≡ judge_table_of table.now stream.now size work.old out.old }
 {
+    let stream = Stream {
+        table,
+        bytes: stream,
+        size,
+    };
     match Reader::start(table, work) {
-        Ok(reader) => feed_close(reader, table, stream, size, work, out),
+        Ok(reader) => feed_close(reader, &stream, work, out),
         Err(refusal) => entry::put_answer(out, 0, Err(refusal), 0),
     }
 }

@@ -1,3 +1,2 @@
 pub mod JudgeLaws
 pub mod StreamLaws
-pub mod FieldLaws

@@ -3,6 +3,7 @@
 
 ghost use Rattle.std.specs.Prelude.{◌≡◌};
 ghost use Rattle.book.specs.Load.{loads};
+ghost use Rattle.load.specs.BookAnswer.{numbered};
 ghost use Rattle.load.specs.Loads.{book_table, Blank};
 ghost use Rattle.entries.specs.Feeds.{judge_table_of};
 ghost use Rattle.fieldtext.specs.Judge.{judge_of};
@@ -28,13 +29,20 @@ pub extern "C" fn fieldtext_load(book: &[u8], table: &mut Table) -> u8
     load::number_of(load::load(book, table))
 }
 
+// Why a book is refused, if it is.
+fn check_book(book: &[u8]) -> Result<(), load::Refusal>
+    ensures number { (numbered result).number ≡ (loads book.now).number }
+    ensures line { (numbered result).line ≡ (loads book.now).line }
+{
+    load::load(book, &mut Table::empty())
+}
+
 // The number of a book's refusal; 0 where it is accepted. Ruled out: a library that answers 0 for every book, and one that answers the line.
 #[unsafe(no_mangle)]
 pub extern "C" fn fieldtext_book_number(book: &[u8]) -> u8
     ensures { result ≡ (loads book.now).number }
 {
-    let mut table = Table::empty();
-    fieldtext_load(book, &mut table)
+    load::number_of(check_book(book))
 }
 
 // The line of a book's refusal; 0 where it has none. Ruled out: a library that does not count the names line, and one that answers the number.
@@ -42,8 +50,7 @@ pub extern "C" fn fieldtext_book_number(book: &[u8]) -> u8
 pub extern "C" fn fieldtext_book_line(book: &[u8]) -> usize
     ensures { result ≡ (loads book.now).line }
 {
-    let mut table = Table::empty();
-    load::line_of(load::load(book, &mut table))
+    load::line_of(check_book(book))
 }
 
 // Starts with a table that is lent, feeds a stream cut at the multiples of a size, and closes. Answers how many entries that gives; each stands in
@@ -93,10 +100,7 @@ pub extern "C" fn fieldtext_judge(
 fn text_refusal(b: Result<usize, Refusal>) -> u8
     ensures { result ≡ text_refusal b }
 {
-    match b {
-        Ok(_) => 0,
-        Err(k) => k.number(),
-    }
+    b.err().map_or(0, |k| k.number())
 }
 
 // Judges a text by book B and takes its corners: how many there are, and the number of the refusal, 0 where there is none. The lent table is

@@ -1,4 +1,3 @@
 pub mod LineLaws
 pub mod NumberLaws
-pub mod AnswerLaws
 pub mod Examples

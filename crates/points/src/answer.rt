@@ -1,33 +1,35 @@
 // The lines that the program for points writes, for `text::write`.
-ghost use Rattle.std.specs.Prelude.{◌≡◌, ◌+◌, ◌≤◌, length};
-ghost use Rattle.text.specs.Put.{Put};
+ghost use Rattle.std.specs.Prelude.{◌≡◌, ◌≤◌, length};
 ghost use Rattle.points.specs.Answers.{answer_names, place_word, word_line, said_line, stop_line};
 
+use arrayvec::ArrayString;
 use boundary::Refusal;
 use geometry::{Located, Place};
-use text::{Line, put};
+use itoa::Buffer;
+use text::Line;
 
 // The word of a place.
-fn place_word(p: Place) -> &'static [u8]
+fn place_word(p: Place) -> &'static str
     ensures { (result.now ≡ place_word p) × (length result.now ≤ 7) }
 {
     match p {
-        Place::Outside => b"outside",
-        Place::Inside => b"inside",
-        Place::Edge => b"edge",
+        Place::Outside => "outside",
+        Place::Inside => "inside",
+        Place::Edge => "edge",
     }
 }
 
 // A word and a number.
-fn put_word(out: &mut [u8], at: usize, word: &[u8], n: usize) -> usize
-    requires { (at + 64 ≤ length out.old) × (length word.now ≤ 7) }
-    ensures put { Put out.old at (word_line word.now n) out.new result }
-    ensures short { result ≤ at + 64 }
+fn word_line(word: &str, n: usize) -> ArrayString<64>
+    requires { length word.now ≤ 7 }
+    ensures { result.bytes ≡ word_line word.now n }
 {
-    let a = put::put_bytes(out, at, word);
-    let b = put::put_bytes(out, a, b" ");
-    let c = put::put_decimal(out, b, n);
-    put::put_bytes(out, c, b"\n")
+    let mut text = ArrayString::new();
+    text.push_str(word);
+    text.push_str(" ");
+    text.push_str(Buffer::new().format(n));
+    text.push_str("\n");
+    text
 }
 
 // The first line.
@@ -37,8 +39,10 @@ pub struct AnswerNames;
 impl Line for AnswerNames {
     ghost text = { λ _. answer_names };
 
-    fn put(self, out: &mut [u8], at: usize) -> usize {
-        put::put_bytes(out, at, b"answer corner\n")
+    fn text(self) -> ArrayString<64> {
+        let mut text = ArrayString::new();
+        text.push_str("answer corner\n");
+        text
     }
 }
 
@@ -50,10 +54,10 @@ impl Line for Said {
     ghost text = { λ x. said_line x.0 };
 
     // Ruled out: a point inside that is said to be outside, and the number of another corner.
-    fn put(self, out: &mut [u8], at: usize) -> usize {
+    fn text(self) -> ArrayString<64> {
         match self.0 {
-            Ok(l) => put_word(out, at, place_word(l.place), l.nearest),
-            Err(k) => put_word(out, at, b"refused", usize::from(k.number())),
+            Ok(l) => word_line(place_word(l.place), l.nearest),
+            Err(k) => word_line("refused", usize::from(k.number())),
         }
     }
 }
@@ -67,9 +71,11 @@ pub struct NoPoint {
 impl Line for NoPoint {
     ghost text = { λ x. stop_line x.line };
 
-    fn put(self, out: &mut [u8], at: usize) -> usize {
-        let a = put::put_bytes(out, at, b"line ");
-        let b = put::put_decimal(out, a, self.line);
-        put::put_bytes(out, b, b": not two whole numbers\n")
+    fn text(self) -> ArrayString<64> {
+        let mut text = ArrayString::new();
+        text.push_str("line ");
+        text.push_str(Buffer::new().format(self.line));
+        text.push_str(": not two whole numbers\n");
+        text
     }
 }

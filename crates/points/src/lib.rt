@@ -1,5 +1,5 @@
 // Points from lines of text, and the lines that answer them.
-#![tactic(auto)]
+#![tactic(auto, unfolding(crate::specs::Answers::said_line, crate::specs::Answers::stop_line, crate::specs::Answers::word_line))]
 
 ghost use Rattle.std.specs.Prelude.{◌≡◌, not, position};
 ghost use Rattle.points.specs.Points.{is_blank, after_blanks, word, after_word, without_cr, point_from, point_of};
@@ -10,6 +10,7 @@ pub mod number; // number.rt: a whole number, as it is written
 pub mod answer; // answer.rt: the lines that are written
 
 // The byte is a space or a tab.
+#[tactic(auto, unfolding(crate::specs::Points::is_blank))]
 fn is_blank(b: u8) -> bool
     ensures { result ≡ is_blank b }
 {
@@ -70,6 +71,7 @@ fn point_from(line: &[u8]) -> Option<Point>
 
 // The point of a line, whatever its bytes are; none where they are not two whole numbers. Ruled out: a number more at the end, and a number
 // beyond the range that is taken for another.
+#[tactic(auto, unfolding(crate::specs::Points::point_of))]
 pub fn point_in(line: &[u8]) -> Option<Point>
     ensures { result ≡ point_of line.now }
 {

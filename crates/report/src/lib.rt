@@ -1,12 +1,10 @@
 // The judging program's work, on slices.
 #![tactic(auto)]
 
-ghost use Rattle.std.specs.Prelude.{◌≡◌, ◌+◌, ◌≤◌, ◌<◌, length, drop};
-ghost use Rattle.reader.specs.Said.{said, count_of};
-ghost use Rattle.reader.specs.Machine.{feed_of};
+ghost use Rattle.std.specs.Prelude.{◌≡◌, ◌+◌, ◌≤◌, length};
 ghost use Rattle.report.specs.Report.{is_last, written, report_next, report_of, finish_of, Begins};
 
-use reader::{Answer, Fed, Reader, Refusal};
+use reader::{Answer, Reader};
 use table::flat::Table;
 use text::{RefusedBook, StreamNames};
 
@@ -36,22 +34,8 @@ fn write_answer(out: &mut [u8], at: usize, a: Answer) -> usize
     }
 }
 
-// Feeds what is unread of a piece.
-fn feed_rest(
-    reader: &mut Reader,
-    table: &Table,
-    work: &mut [u8],
-    piece: &[u8],
-    read: usize,
-) -> Result<Fed, Refusal>
-    requires { read ≤ length piece.now }
-    ensures work_after { record { reader = reader.new; count = count_of result; answer = said result; work = work.new } ≡ feed_of reader.old table.now work.old (drop read piece.now) }
-    ensures count_in_bounds { (read + count_of result ≤ length piece.now) × (read + count_of result < 18446744073709551616) }
-{
-    reader.feed(table, work, &piece[read..])
-}
-
 // Feeds what is unread of a piece, and writes the line of the verdict if there is one.
+// Stays: with the parameters of `report`, the only function that calls it: a struct of them is made once, for one call.
 fn report_next(
     x: Reported,
     reader: &mut Reader,
@@ -64,7 +48,7 @@ fn report_next(
     ensures next { record { reader = reader.new; work = work.new; read = result.read; out = out.new; used = result.used; answer = result.answer } ≡ report_next table.now piece.now reader.old work.old x.read out.old x.used }
     ensures short { result.used ≤ x.used + 64 }
 {
-    match feed_rest(reader, table, work, piece, x.read) {
+    match reader.feed(table, work, &piece[x.read..]) {
         Ok(fed) => {
             let answer = Ok(fed.verdict);
             Reported {

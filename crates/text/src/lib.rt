@@ -1,23 +1,21 @@
 // Lines as bytes in a lent buffer, and those of the judging program.
-#![tactic(auto)]
+#![tactic(auto, unfolding(crate::specs::Put::has_room, crate::specs::Text::book_lines, crate::specs::Text::line_of))]
 
 ghost use Rattle.std.specs.Prelude.{◌≡◌, List, ℕ, ◌+◌, ◌≤◌, length};
 ghost use Rattle.text.specs.Text.{word_text, stream_names, line_of, book_lines};
-ghost use Rattle.text.specs.Put.{Put, has_room, write};
+ghost use Rattle.text.specs.Put.{has_room, write};
 
-pub mod put; // put.rt: bytes and numbers
-
+use arrayvec::ArrayString;
+use itoa::Buffer;
 use verdict::{Verdict, Word};
 
 // What can be written: lines of at most 64 bytes in all.
 pub trait Line {
     ghost text: { Self → List ℕ };
 
-    // Puts the lines from a place on, and answers the place after them.
-    fn put(self, out: &mut [u8], at: usize) -> usize
-        requires { at + 64 ≤ length out.old }
-        ensures put { Put out.old at (text self) out.new result }
-        ensures short { result ≤ at + 64 };
+    // The lines.
+    fn text(self) -> ArrayString<64>
+        ensures { result.bytes ≡ text self };
 }
 
 // The buffer has room for a line from the place on.
@@ -34,10 +32,13 @@ pub fn write<L: Line + Drop>(out: &mut [u8], at: usize, line: L) -> usize
     ensures short { result ≤ at + 64 }
     ensures inside { at ≤ length out.old → result ≤ length out.new }
 {
-    if has_room(out.len(), at) {
-        return line.put(out, at);
+    if !has_room(out.len(), at) {
+        return at;
     }
-    at
+    let text = line.text();
+    let behind = at + text.len();
+    out[at..behind].copy_from_slice(text.as_bytes());
+    behind
 }
 
 // The first line of what is printed for a stream.
@@ -47,32 +48,36 @@ pub struct StreamNames;
 impl Line for StreamNames {
     ghost text = { λ _. stream_names };
 
-    fn put(self, out: &mut [u8], at: usize) -> usize {
-        put::put_bytes(out, at, b"verdict number place\n")
+    fn text(self) -> ArrayString<64> {
+        let mut text = ArrayString::new();
+        text.push_str("verdict number place\n");
+        text
     }
 }
 
 // The word of a verdict.
-fn word_of(word: Word) -> &'static [u8]
-    ensures { result.now ≡ word_text word }
+fn word_of(word: Word) -> &'static str
+    ensures { (result.now ≡ word_text word) × (length result.now ≤ 7) }
 {
     match word {
-        Word::Valid => b"valid",
-        Word::Invalid => b"invalid",
-        Word::Refused => b"refused",
+        Word::Valid => "valid",
+        Word::Invalid => "invalid",
+        Word::Refused => "refused",
     }
 }
 
 impl Line for Verdict {
     ghost text = { line_of };
 
-    fn put(self, out: &mut [u8], at: usize) -> usize {
-        let a = put::put_bytes(out, at, word_of(self.word()));
-        let b = put::put_bytes(out, a, b" ");
-        let c = put::put_decimal(out, b, usize::from(self.number()));
-        let d = put::put_bytes(out, c, b" ");
-        let e = put::put_decimal(out, d, self.place() as usize);
-        put::put_bytes(out, e, b"\n")
+    fn text(self) -> ArrayString<64> {
+        let mut text = ArrayString::new();
+        text.push_str(word_of(self.word()));
+        text.push_str(" ");
+        text.push_str(Buffer::new().format(self.number()));
+        text.push_str(" ");
+        text.push_str(Buffer::new().format(self.place()));
+        text.push_str("\n");
+        text
     }
 }
 
@@ -86,11 +91,13 @@ pub struct RefusedBook {
 impl Line for RefusedBook {
     ghost text = { λ x. book_lines x.number x.line };
 
-    fn put(self, out: &mut [u8], at: usize) -> usize {
-        let a = put::put_bytes(out, at, b"number line\n");
-        let b = put::put_decimal(out, a, self.number);
-        let c = put::put_bytes(out, b, b" ");
-        let d = put::put_decimal(out, c, self.line);
-        put::put_bytes(out, d, b"\n")
+    fn text(self) -> ArrayString<64> {
+        let mut text = ArrayString::new();
+        text.push_str("number line\n");
+        text.push_str(Buffer::new().format(self.number));
+        text.push_str(" ");
+        text.push_str(Buffer::new().format(self.line));
+        text.push_str("\n");
+        text
     }
 }

@@ -24,7 +24,7 @@ pub struct Record {
 }
 
 // The kind of the innermost open value.
-#[tactic(auto, unfolding(progress::specs::Memory::top_at, frame::specs::Frame::kind_in))]
+#[tactic(auto, unfolding(progress::specs::Memory::top_at, frame::specs::Frame::form_in))]
 pub fn top_of(work: &[u8], level: usize) -> Top
     ensures { result ≡ top_at work.now level }
 {
@@ -52,7 +52,7 @@ fn close_value(work: &mut [u8], level: usize, root: bool, table: &Table) -> bool
 
 impl Record {
     // Does a task to the root, the key and the frames, all but the progress: up is the level after the byte.
-    #[tactic(auto, unfolding(progress::specs::Memory::value_at, progress::specs::Memory::close_at), using(crate::proofs::TurnLaws::keys_le))]
+    #[tactic(auto, unfolding(progress::specs::Memory::value_at, progress::specs::Memory::close_at))]
     fn perform(&mut self, task: Task, up: usize, key: &mut [u8; 32], work: &mut [u8], rules: Rules)
         ensures progress { self.new.progress ≡ self.old.progress }
         ensures performed { (x : Progress) → x.level ≡ up → mem x self.new.root key.new work.new ≡ perform task rules.entry.table.now (memory self.old key.old work.old) x }

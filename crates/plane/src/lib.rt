@@ -93,6 +93,8 @@ impl Scan {
     }
 
     // What is known after corner i, which is c.
+    // Stays: points in range by a clause, here and in what is called, since the definitions are over all points: with a type for those in range they
+    // would take a proof with each corner.
     fn stepped(self, i: usize, c: Point, p: Point) -> Scan
         requires { PointInRange self.before × PointInRange c × PointInRange p }
         ensures { result ≡ stepped p i c self }

@@ -221,7 +221,8 @@ impl Table {
     }
 
     // One edge more.
-    // Stays: room for it, and a rule that the table has, since the memory is fixed: `store::take_edge` tests the count.
+    // Stays: room for it, since the memory is fixed, and `store::take_edge` tests the count; and a rule that the table has, by a clause, since the
+    // definitions are over numbers: a type for those in range would be taken apart at each of their uses.
     pub fn with_edge(&mut self, form: u8, c: Cell, line: u16)
         requires { (self.old.edges < 512) × (c.rule < 32) }
         ensures { self.new ≡ with_edge self.old form c line }
@@ -254,7 +255,7 @@ impl Table {
     }
 
     // One end state more.
-    // Stays: a rule and a state that the table has, since the memory is fixed.
+    // Stays: a rule and a state that the table has, by a clause, as in `with_edge`.
     pub fn with_end(&mut self, rule: u8, form: u8, state: u8)
         requires { (rule < 32) × (state < 16) }
         ensures { self.new ≡ with_end self.old rule form state }

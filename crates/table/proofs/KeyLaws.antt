@@ -4,7 +4,6 @@ use mathlib.Core.List.{List, [], ◌∷◌}
 use mathlib.Core.Path.{◌≡◌, refl, sym, ap, ◌∙◌}
 use Prim.Native.Nat.{ℕ, zero, suc, ◌+◌, ◌*◌, ◌-◌, ◌<◌, ◌≤◌, min}
 use native.Mathlib.Numerals.{add-one}
-use native.Mathlib.Decide.{dec_lt}
 use native.Mathlib.Omega.{arith}
 use lib.Dec.{ltb}
 use lib.ListN.{length, get_or, take, drop, length-take, get_or-eq_default}
@@ -57,24 +56,21 @@ drop-take (suc b) (suc n) (x ∷ l) = let e : suc n - suc b ≡ n - b = omega ar
 part-part : (l : List ℕ) (a n b m : ℕ) → take (min m (n - b)) (drop (a + b) l) ≡ take m (drop b (take n (drop a l)))
 part-part l a n b m = take_min m (n - b) (drop (a + b) l) ∙ sym (rw (drop-take b n (drop a l), drop-drop b a l))
 
--- the bytes of key i, which begin 32 j bytes behind those of key 0, of which x are told and e is the end; a key past the last has none
-pub key-in-place : (l : List ℕ) (t : Table) (i j x e : ℕ) → table_in l ≡ t → j ≡ min i 128 → x ≡ get_or t.key_len i 0 → e ≡ min (3600 + 32 * j + x) 7696
-    → take (e - (3600 + 32 * j)) (drop (3600 + 32 * j) l) ≡ key_at t.key_bytes t.key_len i
+-- a key past the last has no bytes
+pub key-past-keys : (l : List ℕ) (t : Table) (i : ℕ) → table_in l ≡ t → 128 ≤ i → [] ≡ key_at t.key_bytes t.key_len i
 unfolding table_in part
-key-in-place l t i j x e is m q w = rw (← is) (go (dec_lt i 128))
-  where
-    k : x ≡ get_or (table_in l).key_len i 0
-    k = q ∙ ap (λ (v : Table). get_or v.key_len i 0) (sym is)
+key-past-keys l t i is h =
+    let z : get_or (take 128 (drop 7696 l)) i 0 ≡ 0 = get_or-eq_default (take 128 (drop 7696 l)) 0 {n = i} (omega (arith, length-take 128 (drop 7696 l))) in
+    rw (← is) (rw z)
 
-    go : Dec (i < 128) → take (e - (3600 + 32 * j)) (drop (3600 + 32 * j) l) ≡ key_at (table_in l).key_bytes (table_in l).key_len i
-    go (yes h) =
-        let a : j ≡ i = omega arith in
-        let u : e - (3600 + 32 * i) ≡ min x (4096 - 32 * i) = omega arith in
-        rw a (rw u (part-part l 3600 4096 (32 * i) x) ∙ ap (λ (n : ℕ). take n (drop (32 * i) (take 4096 (drop 3600 l)))) k)
-    go (no h) =
-        let z : get_or (take 128 (drop 7696 l)) i 0 ≡ 0 = get_or-eq_default (take 128 (drop 7696 l)) 0 {n = i} (omega (arith, length-take 128 (drop 7696 l))) in
-        let u : e - (3600 + 32 * j) ≡ 0 = omega (arith, k, z) in
-        rw (u, z)
+-- the bytes of key i, of which x are told and e is the end
+pub key-in-place : (l : List ℕ) (t : Table) (i x e : ℕ) → table_in l ≡ t → i < 128 → x ≡ get_or t.key_len i 0 → e ≡ min (3600 + 32 * i + x) 7696
+    → take (e - (3600 + 32 * i)) (drop (3600 + 32 * i) l) ≡ key_at t.key_bytes t.key_len i
+unfolding table_in part
+key-in-place l t i x e is h q w =
+    let u : e - (3600 + 32 * i) ≡ min x (4096 - 32 * i) = omega arith in
+    let k : x ≡ get_or (table_in l).key_len i 0 = q ∙ ap (λ (v : Table). get_or v.key_len i 0) (sym is) in
+    rw (← is) (rw u (part-part l 3600 4096 (32 * i) x) ∙ ap (λ (m : ℕ). take m (drop (32 * i) (take 4096 (drop 3600 l)))) k)
 
 -- ---- the search
 

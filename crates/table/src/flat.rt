@@ -82,6 +82,7 @@ pub struct Cell {
 }
 
 // Byte i of the N bytes from place AT on; 0 past the last of them.
+// Stays: a part that lies in the table, since its memory is fixed. Both numbers are constants at each call.
 #[tactic(auto, unfolding(crate::specs::Flat::part))]
 fn byte_in<const AT: usize, const N: usize>(bytes: &[u8; SIZE], i: usize) -> u8
     requires { AT + N ≤ 7920 }
@@ -215,9 +216,13 @@ impl Table {
     pub fn key_text(&self, k: usize) -> &[u8]
         ensures { result.now ≡ key_at self.now.key_bytes self.now.key_len k }
     {
-        let a = KEY_BYTES + 32 * cmp::min(k, 128);
+        let bytes = &self.bytes;
+        if 128 <= k {
+            return &[];
+        }
+        let a = KEY_BYTES + 32 * k;
         let e = cmp::min(a + self.len(k) as usize, KEY_LEN);
-        &self.bytes[a..e]
+        &bytes[a..e]
     }
 
     // One edge more.

@@ -43,6 +43,7 @@ struct Fed {
 
 impl Fed {
     // Feeds the unread bytes up to the next cut, and puts the entry of the answer; a refused feed has none.
+    // Stays: `work` and `out` apart, since of a struct with both each contract here would say besides that it still holds the same two references.
     fn feed_next(&mut self, stream: &Stream, work: &mut [u8], out: &mut [u8]) -> Result<(), Refusal>
         requires { (self.old.read < length stream.now.bytes.now) × (self.old.made < 18446744073709551615) }
         ensures { record { reader = self.new.reader; work = work.new; read = self.new.read; out = out.new; made = self.new.made; refused = is_err result } ≡ turn_of stream.now.table.now stream.now.size stream.now.bytes.now self.old.reader work.old self.old.read out.old self.old.made }

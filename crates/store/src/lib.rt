@@ -90,7 +90,7 @@ fn take_edge(table: &mut Table, line: u16, form: u8, c: Cell, key: &[u8]) -> Res
 }
 
 // The entry of a line; or the fault of it, and the table as it was.
-// Stays: an entry within the limits of its fields, since the table's memory is fixed and has no place for another.
+// Stays: an entry within the limits of its fields by a clause, as in `Table::with_edge`.
 pub fn take_entry(table: &mut Table, n: u16, l: &Line) -> Result<(), Fault>
     requires { Proper (entry_in l.now) }
     ensures { taken (fault_in result) table.new ≡ take_entry n table.old (entry_in l.now) }

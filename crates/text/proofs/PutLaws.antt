@@ -2,14 +2,13 @@
 use mathlib.Core.Bool.{Bool, true, false}
 use mathlib.Core.List.{List, [], ◌∷◌, ◌++◌, append_assoc}
 use mathlib.Core.Path.{◌≡◌, refl, sym, ap, ◌∙◌}
-use Prim.Native.Nat.{ℕ, suc, ◌+◌, ◌-◌, ◌≤◌, ◌<◌}
+use Prim.Native.Nat.{ℕ, suc, ◌+◌, ◌-◌, ◌≤◌}
 use native.Mathlib.Omega.{arith}
-use lib.Dec.{leb}
 use lib.ListN.{length, take, drop, set, length-append}
 use lib.Seq.{sets, length-sets, drop-drop}
 use Rattle.std.proofs.lemmas.List.Edits.{sets-eq}
 use borrow.Rule.Slice.PartMut.{put_mid}
-use borrow.Author.Tests.{le-leb, lt-leb, leb-true, leb-false}
+use borrow.Author.Tests.{le-leb, leb-true}
 use Rattle.text.specs.Put.{Put, has_room, Written, write}
 
 sets-append : (o : List ℕ) (at : ℕ) (xs ys : List ℕ) → sets o at (xs ++ ys) ≡ sets (sets o at xs) (at + length xs) ys
@@ -37,10 +36,6 @@ module _ (o : List ℕ) (at : ℕ) (bs : List ℕ) where
           places = omega (arith, p.place, x.places, length-append xs ys);
         }
 
-    -- the last of what is still to put
-    pub rest-last : (after : List ℕ) (behind : ℕ) (ys : List ℕ) → Rest o at bs now place ys → Put now place ys after behind → Put o at bs after behind
-    rest-last after behind ys x p = record { bytes = p.bytes ∙ x.bytes; place = p.place ∙ x.places }
-
     pub rest-done : Rest o at bs now place [] → Put o at bs now place
     rest-done x = record { bytes = x.bytes; place = omega (arith, x.places) }
 
@@ -59,19 +54,7 @@ length-of-put o at bs now behind p = rw p.bytes (length-sets o at bs)
 -- ---- room
 
 module _ (n at : ℕ) where
-  pub room-some : at ≤ n → leb 64 (n - at) ≡ has_room n at
-  unfolding has_room
-  room-some h = go (leb 64 (n - at)) refl
-    where
-      go : (x : Bool) → leb 64 (n - at) ≡ x → x ≡ leb (at + 64) n
-      go true e = sym (le-leb (at + 64) n (omega (arith, h, leb-true 64 (n - at) e)))
-      go false e = sym (lt-leb (at + 64) n (omega (arith, h, leb-false 64 (n - at) e)))
-
-  pub room-none : n < at → false ≡ has_room n at
-  unfolding has_room
-  room-none h = sym (lt-leb (at + 64) n (omega (arith, h)))
-
-  pub le-of-room : (has : Bool) → has ≡ has_room n at → has ≡ true → at + 64 ≤ n
+  le-of-room : (has : Bool) → has ≡ has_room n at → has ≡ true → at + 64 ≤ n
   unfolding has_room
   le-of-room has e h = leb-true (at + 64) n (sym e ∙ h)
 

@@ -1,5 +1,5 @@
 -- The numbers gathered while bytes pass: bytes that no number has leave them as they are, and the bytes of a number are the one that is being read
--- after them. `soFar-of-piece` says both of bytes that no number has, followed by bytes of numbers. Assumes nothing.
+-- after them. `with-of-piece` says both of bytes that no number has, followed by bytes of numbers. Assumes nothing.
 use mathlib.Core.Bool.{Bool, true, false, not, cond, ◌&&◌}
 use mathlib.Core.List.{List, [], ◌∷◌, ◌++◌, append_assoc, append-nil}
 use mathlib.Core.Path.{◌≡◌, refl, sym, ap, subst, ◌∙◌}

@@ -88,12 +88,12 @@ module _ {t : Table} {s : List ℕ} {w : Walk} {l : List ℤ} {j k : ℕ} (x : P
   past : w.at < k
   past = omega (arith, x.gap.low, x.run.low, x.more)
 
-  pub walked_on : z ≡ false → WentOn t s w.at (record { reader = o; work = v; at = k; taken = w.taken; unfit = w.unfit }) l
+  pub walked_on : z ≡ false → WentOn t s w.at (record { reader = o; work = v; at = k; numbers = w.numbers }) l
   walked_on q = record { walked = walked-past x.walked x.table x.gap x.run x.more f (sym e ∙ q); further = past }
 
   pub walked-told : {m : List ℤ} {h : Walk} → z ≡ true
-      → h ≡ record { reader = o; work = v; at = k; taken = w.taken + 1; unfit = w.unfit || is_unfit (coordinate_of (part s j k)) }
-      → m ≡ put_at l w.taken (coordinate_of (part s j k)) → WentOn t s w.at h m
+      → h ≡ record { reader = o; work = v; at = k; numbers = record { taken = w.numbers.taken + 1; unfit = w.numbers.unfit || is_unfit (coordinate_of (part s j k)) } }
+      → m ≡ put_at l w.numbers.taken (coordinate_of (part s j k)) → WentOn t s w.at h m
   walked-told {m} {h} q y p =
       rw y
       record {

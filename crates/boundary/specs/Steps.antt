@@ -14,11 +14,11 @@ use Rattle.boundary.specs.declared.walk.Numbers.{Numbers}
 
 -- a walk that begins: nothing is read behind an RS
 abbrev pub begun : Walk
-begun = record { reader = fresh_reader 3 false zero_tally; work = replicate 288 0; at = 0; taken = 0; unfit = false }
+begun = record { reader = fresh_reader 3 false zero_tally; work = replicate 288 0; at = 0; numbers = record { taken = 0; unfit = false } }
 
 -- the walk w stands in the text s, and l is the memory of its numbers
 abbrev pub Stands : Table → List ℕ → Walk → List ℤ → Type 0
-Stands t s w l = Walked t s w.at w.reader w.work w.taken w.unfit l
+Stands t s w l = Walked t s w.at w.reader w.work w.numbers.taken w.numbers.unfit l
 
 -- the walk w stands there, and the next piece goes up to the place k: bytes between numbers up to j, then bytes of numbers
 pub record Piece (t : Table) (s : List ℕ) (w : Walk) (l : List ℤ) (j k : ℕ) : Type 0 where
@@ -40,7 +40,7 @@ WalkedOn t s i None w l = valid_b s ≡ false
 
 -- the walk over the whole text
 abbrev pub WalkedAll : Table → List ℕ → Option (Unit {0}) → Walk → List ℤ → Type 0
-WalkedAll t s (Some _) w l = Walked t s (length s) w.reader w.work w.taken w.unfit l
+WalkedAll t s (Some _) w l = Walked t s (length s) w.reader w.work w.numbers.taken w.numbers.unfit l
 WalkedAll t s None w l = valid_b s ≡ false
 
 -- an answer that gives a record the verdict valid

@@ -79,7 +79,7 @@ fn says_valid(a: Answer) -> bool
     matches!(a, Ok(Some(Verdict::Valid)))
 }
 
-// The numbers at level 3 of a text that is valid under book B: how many there are, and whether one of them is unfit.
+// The numbers at level 3 of a text: how many there are, and whether one of them is unfit.
 #[derive(Clone, Copy)]
 pub struct Numbers {
     pub taken: usize,
@@ -87,15 +87,13 @@ pub struct Numbers {
     pub unfit: bool,
 }
 
-// Where the walk stands: the reader with the work bytes of its three frames, the place in the text, how many numbers are taken, and whether one of
-// them is unfit.
+// Where the walk stands: the reader with the work bytes of its three frames, the place in the text, and the numbers so far.
 #[derive(Clone, Copy)]
 struct Walk {
     reader: Reader,
     work: [u8; 288],
     at: usize,
-    taken: usize,
-    unfit: bool,
+    numbers: Numbers,
 }
 
 const RS: [u8; 1] = [0x1E];
@@ -112,21 +110,23 @@ impl Walk {
             reader,
             work,
             at: 0,
-            taken: 0,
-            unfit: false,
+            numbers: Numbers {
+                taken: 0,
+                unfit: false,
+            },
         }
     }
 
     // Takes the number that the bytes fed last are.
     fn take_number(&mut self, corners: &mut [i32; 2048], number: &[u8])
-        requires { self.old.taken < 18446744073709551615 }
-        ensures walk { self.new ≡ record { reader = self.old.reader; work = self.old.work; at = self.old.at; taken = self.old.taken + 1; unfit = self.old.unfit || is_unfit (coordinate_of number.now) } }
-        ensures memory { corners.new ≡ put_at corners.old self.old.taken (coordinate_of number.now) }
+        requires { self.old.numbers.taken < 18446744073709551615 }
+        ensures walk { self.new ≡ record { reader = self.old.reader; work = self.old.work; at = self.old.at; numbers = record { taken = self.old.numbers.taken + 1; unfit = self.old.numbers.unfit || is_unfit (coordinate_of number.now) } } }
+        ensures memory { corners.new ≡ put_at corners.old self.old.numbers.taken (coordinate_of number.now) }
     {
         let c = coordinate::read(number);
-        put(corners, self.taken, c);
-        self.taken += 1;
-        self.unfit |= c.is_none();
+        put(corners, self.numbers.taken, c);
+        self.numbers.taken += 1;
+        self.numbers.unfit |= c.is_none();
     }
 
     // Feeds a piece: bytes between numbers, up to the place `from`, then bytes of numbers. Takes these where they are a number at level 3.
@@ -176,13 +176,10 @@ impl Walk {
 
     // Ends the record that a text is: its numbers, where it is valid.
     fn close(mut self, source: &Source) -> Option<Numbers>
-        ensures { result ≡ then_some (says_valid (close_of self.reader source.now.table.now self.work).answer) (record { taken = self.taken; unfit = self.unfit }) }
+        ensures { result ≡ then_some (says_valid (close_of self.reader source.now.table.now self.work).answer) self.numbers }
     {
         let answer = self.reader.close(source.table, &self.work);
-        says_valid(answer).then_some(Numbers {
-            taken: self.taken,
-            unfit: self.unfit,
-        })
+        says_valid(answer).then_some(self.numbers)
     }
 }
 

@@ -62,7 +62,7 @@ module _ (f : ℕ → Bool) (s : List ℕ) (i : ℕ) (h : i ≤ length s) where
   stretch-of-position r n e u =
       go (ltb count (length (drop i s))) refl
       (u ∙ ap (λ (x : Option ℕ). unwrap_or x (length (part s i (length s)))) e
-        ∙ ap (λ (t : List ℕ). unwrap_or (position (λ (b : ℕ). not (f b)) t) (length t)) rest-is)
+      ∙ ap (λ (t : List ℕ). unwrap_or (position (λ (b : ℕ). not (f b)) t) (length t)) rest-is)
     where
       go : (v : Bool) → ltb count (length (drop i s)) ≡ v → n ≡ unwrap_or (cond v (Some count) None) (length (drop i s)) → Stretch f s i (i + n)
       go true l m = rw m to-count

@@ -130,18 +130,14 @@ impl Walk {
     }
 
     // Feeds a piece: bytes between numbers, up to the place `from`, then bytes of numbers. Takes these where they are a number at level 3.
-    fn feed_piece(
-        &mut self,
-        source: &Source,
-        corners: &mut [i32; 2048],
-        from: usize,
-        end: usize,
-    )
+    fn feed_piece(&mut self, source: &Source, corners: &mut [i32; 2048], from: usize, end: usize)
         requires { Piece source.now.table.now source.now.text.now self.old corners.old from end }
         ensures { WentOn source.now.table.now source.now.text.now self.old.at self.new corners.new }
     {
         let text = source.text;
-        let _ = self.reader.feed(source.table, &mut self.work, &text[self.at..end]);
+        let _ = self
+            .reader
+            .feed(source.table, &mut self.work, &text[self.at..end]);
         self.at = end;
         if takes(self.reader.progress) {
             self.take_number(corners, &text[from..end]);

@@ -3,7 +3,7 @@
 
 ghost use Rattle.std.specs.Prelude.{◌≡◌, ◌+◌, ◌*◌, ◌/◌, ◌<◌, ◌-ℤ◌, ◌*ℤ◌, length};
 ghost use Rattle.geometry.specs.Plane.{distance};
-ghost use Rattle.geometry.specs.Tests.{cross, between, on_segment, crosses};
+ghost use Rattle.geometry.specs.Tests.{cross, between};
 ghost use Rattle.coordinate.specs.Coordinate.{InRange};
 ghost use Rattle.plane.specs.Corners.{corner_at, Held, PointInRange};
 
@@ -99,11 +99,11 @@ impl Scan {
         requires { PointInRange self.before × PointInRange c × PointInRange p }
         ensures { result ≡ stepped p i c self }
     {
-        let area = cross(self.before, c, p);
+        let t = Triangle::new(self.before, c, p);
         let s = Scan {
             before: c,
-            edge: self.edge | on_segment(self.before, c, p, area),
-            odd: self.odd != crosses(self.before, c, p, area),
+            edge: self.edge | t.on_segment(),
+            odd: self.odd != t.crosses(),
             ..self
         };
         let far = distance(c, p);
@@ -174,23 +174,46 @@ fn between(a: i32, b: i32, p: i32) -> bool
     ((a <= p) & (p <= b)) | ((b <= p) & (p <= a))
 }
 
-// p lies on the segment from a to b. area is the cross product of the three.
-fn on_segment(a: Point, b: Point, p: Point, area: i64) -> bool
-    requires { area ≡ cross a b p }
-    ensures { result ≡ on_segment a b p }
-{
-    area == 0 && (between(a.x, b.x, p.x) & between(a.y, b.y, p.y))
+// The segment from a to b, and a point p, with twice the area of the triangle of the three.
+#[derive(Clone, Copy)]
+struct Triangle {
+    a: Point,
+    b: Point,
+    p: Point,
+    area: i64,
+    ghost twice: { area ≡ cross a b p },
 }
 
-// The segment from a to b has exactly one end above the height of p, and crosses that height to the right of p.
-// area is the cross product of the three.
-fn crosses(a: Point, b: Point, p: Point, area: i64) -> bool
-    requires { area ≡ cross a b p }
-    ensures { result ≡ crosses a b p }
-{
-    if a.y <= p.y {
-        (p.y < b.y) & (0 < area)
-    } else {
-        (b.y <= p.y) & (area < 0)
+impl Triangle {
+    ghost use Rattle.std.specs.Prelude.{◌≡◌};
+    ghost use Rattle.geometry.specs.Tests.{on_segment, crosses};
+    ghost use Rattle.plane.specs.Corners.{PointInRange};
+
+    fn new(a: Point, b: Point, p: Point) -> Triangle
+        requires { PointInRange a × PointInRange b × PointInRange p }
+        ensures { (result.a ≡ a) × (result.b ≡ b) × (result.p ≡ p) }
+    {
+        let area = cross(a, b, p);
+        Triangle { a, b, p, area }
+    }
+
+    // p lies on the segment from a to b.
+    fn on_segment(&self) -> bool
+        ensures { result ≡ on_segment self.now.a self.now.b self.now.p }
+    {
+        let Triangle { a, b, p, area } = *self;
+        area == 0 && (between(a.x, b.x, p.x) & between(a.y, b.y, p.y))
+    }
+
+    // The segment from a to b has exactly one end above the height of p, and crosses that height to the right of p.
+    fn crosses(&self) -> bool
+        ensures { result ≡ crosses self.now.a self.now.b self.now.p }
+    {
+        let Triangle { a, b, p, area } = *self;
+        if a.y <= p.y {
+            (p.y < b.y) & (0 < area)
+        } else {
+            (b.y <= p.y) & (area < 0)
+        }
     }
 }

@@ -198,18 +198,18 @@ impl Triangle {
     }
 
     // p lies on the segment from a to b.
-    fn on_segment(&self) -> bool
-        ensures { result ≡ on_segment self.now.a self.now.b self.now.p }
+    fn on_segment(self) -> bool
+        ensures { result ≡ on_segment self.a self.b self.p }
     {
-        let Triangle { a, b, p, area } = *self;
+        let Triangle { a, b, p, area } = self;
         area == 0 && (between(a.x, b.x, p.x) & between(a.y, b.y, p.y))
     }
 
     // The segment from a to b has exactly one end above the height of p, and crosses that height to the right of p.
-    fn crosses(&self) -> bool
-        ensures { result ≡ crosses self.now.a self.now.b self.now.p }
+    fn crosses(self) -> bool
+        ensures { result ≡ crosses self.a self.b self.p }
     {
-        let Triangle { a, b, p, area } = *self;
+        let Triangle { a, b, p, area } = self;
         if a.y <= p.y {
             (p.y < b.y) & (0 < area)
         } else {

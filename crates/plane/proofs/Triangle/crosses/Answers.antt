@@ -8,7 +8,7 @@ use Rattle.plane.proofs.Triangle.crosses.Goals as goal
 
 pub returns-then-a-p : goal.returns-then-a-p
 returns-then-a-p c =
-    let x = c.args.self.now in
+    let x = c.args.self in
     let a : to_z w32 (of_z w32 x.a.y) ≡ x.a.y = search rules in
     let b : to_z w32 (of_z w32 x.b.y) ≡ x.b.y = search rules in
     let p : to_z w32 (of_z w32 x.p.y) ≡ x.p.y = search rules in
@@ -17,7 +17,7 @@ returns-then-a-p c =
 
 pub returns-else-a-p : goal.returns-else-a-p
 returns-else-a-p c =
-    let x = c.args.self.now in
+    let x = c.args.self in
     let a : to_z w32 (of_z w32 x.a.y) ≡ x.a.y = search rules in
     let b : to_z w32 (of_z w32 x.b.y) ≡ x.b.y = search rules in
     let p : to_z w32 (of_z w32 x.p.y) ≡ x.p.y = search rules in

@@ -9,7 +9,7 @@ use Rattle.plane.proofs.Triangle.on_segment.Goals as goal
 
 pub returns-then-area-eq0 : goal.returns-then-area-eq0
 returns-then-area-eq0 c =
-    let x = c.args.self.now in
+    let x = c.args.self in
     let ax : to_z w32 (of_z w32 x.a.x) ≡ x.a.x = search rules in
     let bx : to_z w32 (of_z w32 x.b.x) ≡ x.b.x = search rules in
     let px : to_z w32 (of_z w32 x.p.x) ≡ x.p.x = search rules in
@@ -23,5 +23,5 @@ returns-then-area-eq0 c =
 
 pub returns-else-area-eq0 : goal.returns-else-area-eq0
 returns-else-area-eq0 c =
-    let x = c.args.self.now in
+    let x = c.args.self in
     ne_eqb _ 0 c.if-area-eq0.false ∙ on_segment-beside x.a x.b x.p x.twice (nonzero-of-bits x.area c.if-area-eq0.false)

@@ -162,3 +162,8 @@ module _ (x f s k v m : List ℕ) where
           go : (c : Bool) → cond c (Some (entry_of x f s k v m)) None ≡ Some t → good t ≡ cond c (good (entry_of x f s k v m)) (bad 4)
           go true z = let w : entry_of x f s k v m ≡ t = cc in ap good (sym w)
           go false z = absurd (cc)
+
+    module _ (nb : not b ≡ false) where
+      pub says-or : (o : Option Line) → option_map entry_in o ≡ entry → said (ok_or o AboveLimit) ≡ say_fields x f s k v m
+      says-or None q = says-over nb None q refl
+      says-or (Some l) q = says-good nb (Some (entry_in l)) q (entry_in l) refl

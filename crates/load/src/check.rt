@@ -34,7 +34,7 @@ fn clash_at(table: &Table, a: usize, b: usize) -> bool
     let first = table.cell(a);
     let second = table.cell(b);
     let rising = first.key < second.key;
-    (table.form(usize::from(first.rule)) == Form::Object.number())
+    table.has_form(usize::from(first.rule), Form::Object)
         & ((first.rule == second.rule) & ((first.next == second.state) & !rising))
 }
 

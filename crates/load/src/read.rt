@@ -39,10 +39,8 @@ fn line_refusal(fault: Fault, n: usize) -> Refusal
 fn take_line(table: &mut Table, n: u16, l: &[u8]) -> Result<(), Fault>
     ensures { taken (fault_in result) table.new ≡ take_said n table.old (say_line l.now) }
 {
-    match line::judge(l) {
-        Ok(line) => store::take_entry(table, n, &line),
-        Err(fault) => Err(fault),
-    }
+    let line = line::judge(l)?;
+    store::take_entry(table, n, &line)
 }
 
 // The lines after the names line.

@@ -5,13 +5,17 @@ use mathlib.Core.Path.{◌≡◌, refl, sym, ap, ◌∙◌}
 use Prim.Native.Nat.{ℕ}
 use lib.Dec.{eqb, ltb}
 use borrow.Author.Tests.{not-true, not-false}
-use Rattle.std.proofs.Common.{Option, Some, None}
+use Rattle.std.proofs.Common.{Option, Some, None, option_map}
+use Rattle.std.specs.Option.{ok_or}
 use Rattle.laws.specs.Lists.{same}
 use Rattle.table.specs.declared.kind.ValueKind.{ValueKind}
 use Rattle.book.specs.Text.{split, onto, number}
 use Rattle.book.specs.Entry.{Form, Entry, edge, end_state}
 use Rattle.book.specs.Line.{form_of, key_of, kind_in, small_kind, formed, small, entry_of, bad, good, say_fields, say_parts, say_line, word_end}
 use Rattle.scan.specs.Scan.{below, kind_below, FirstPart}
+use Rattle.line.specs.declared.Line.{Line}
+use Rattle.line.specs.declared.Fault.TheVariants.{AboveLimit}
+use Rattle.line.specs.Line.{entry_in, said}
 
 -- ---- fewer than six parts, more, or six
 
@@ -147,7 +151,7 @@ module _ (x f s k v m : List ℕ) where
     says-malformed e = rw (sym qb ∙ not-true b e)
 
     module _ (nb : not b ≡ false) (o : Option Entry) (qo : o ≡ entry) where
-      pub says-over : o ≡ None → bad 4 ≡ say_fields x f s k v m
+      says-over : o ≡ None → bad 4 ≡ say_fields x f s k v m
       unfolding say_fields
       says-over e = rw (sym qb ∙ not-false b nb) (go (small x s v m) (sym qo ∙ e))
         where
@@ -155,7 +159,7 @@ module _ (x f s k v m : List ℕ) where
           go true z = absurd (cc)
           go false z = refl
 
-      pub says-good : (t : Entry) → o ≡ Some t → good t ≡ say_fields x f s k v m
+      says-good : (t : Entry) → o ≡ Some t → good t ≡ say_fields x f s k v m
       unfolding say_fields
       says-good t e = rw (sym qb ∙ not-false b nb) (go (small x s v m) (sym qo ∙ e))
         where

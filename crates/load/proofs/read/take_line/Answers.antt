@@ -1,5 +1,5 @@
 -- `read::take_line` meets its contract. Assumes nothing.
-use borrow.Author.Rules.{rules}
+use Rattle.std.proofs.lemmas.Result.{err_from_is_err_and}
 use Rattle.load.proofs.ReadLaws.{line-proper, line-entry, line-fault}
 use Rattle.load.proofs.read.take_line.Goals as goal
 
@@ -10,4 +10,6 @@ pub returns : goal.returns
 returns c = line-entry _ _ _ _ _ c.in_ok-line.ensures c.take_entry.ensures
 
 pub returns-in_err-line : goal.returns-in_err-line
-returns-in_err-line c = line-fault _ _ _ _ c.in_err-line.ensures
+returns-in_err-line c =
+    let p = err_from_is_err_and c.from_residual.result c.from_residual.ensures.1 in
+    rw (p.1, p.2) (line-fault _ _ _ _ c.in_err-line.ensures)

@@ -46,7 +46,7 @@ fn next_state(table: &Table, e: usize) -> usize
 pub fn has_form(table: &Table, r: usize, form: Form) -> bool
     ensures { result ≡ has_form table.now.forms (form_number form) r }
 {
-    r < 32 && table.form(r) == form.number()
+    r < 32 && table.has_form(r, form)
 }
 
 // The frame has an edge of its object, or a state of its array.

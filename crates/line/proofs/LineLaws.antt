@@ -5,13 +5,17 @@ use mathlib.Core.Path.{◌≡◌, refl, sym, ap, ◌∙◌}
 use Prim.Native.Nat.{ℕ}
 use lib.Dec.{eqb, ltb}
 use borrow.Author.Tests.{not-true, not-false}
-use Rattle.std.proofs.Common.{Option, Some, None}
+use Rattle.std.proofs.Common.{Option, Some, None, option_map}
+use Rattle.std.specs.Option.{ok_or}
 use Rattle.laws.specs.Lists.{same}
 use Rattle.table.specs.declared.kind.ValueKind.{ValueKind}
 use Rattle.book.specs.Text.{split, onto, number}
 use Rattle.book.specs.Entry.{Form, Entry, edge, end_state}
 use Rattle.book.specs.Line.{form_of, key_of, kind_in, small_kind, formed, small, entry_of, bad, good, say_fields, say_parts, say_line, word_end}
 use Rattle.scan.specs.Scan.{below, kind_below, FirstPart}
+use Rattle.line.specs.declared.Line.{Line}
+use Rattle.line.specs.declared.Fault.TheVariants.{AboveLimit}
+use Rattle.line.specs.Line.{entry_in, said}
 
 -- ---- fewer than six parts, more, or six
 
@@ -147,7 +151,7 @@ module _ (x f s k v m : List ℕ) where
     says-malformed e = rw (sym qb ∙ not-true b e)
 
     module _ (nb : not b ≡ false) (o : Option Entry) (qo : o ≡ entry) where
-      pub says-over : o ≡ None → bad 4 ≡ say_fields x f s k v m
+      says-over : o ≡ None → bad 4 ≡ say_fields x f s k v m
       unfolding say_fields
       says-over e = rw (sym qb ∙ not-false b nb) (go (small x s v m) (sym qo ∙ e))
         where
@@ -155,10 +159,15 @@ module _ (x f s k v m : List ℕ) where
           go true z = absurd (cc)
           go false z = refl
 
-      pub says-good : (t : Entry) → o ≡ Some t → good t ≡ say_fields x f s k v m
+      says-good : (t : Entry) → o ≡ Some t → good t ≡ say_fields x f s k v m
       unfolding say_fields
       says-good t e = rw (sym qb ∙ not-false b nb) (go (small x s v m) (sym qo ∙ e))
         where
           go : (c : Bool) → cond c (Some (entry_of x f s k v m)) None ≡ Some t → good t ≡ cond c (good (entry_of x f s k v m)) (bad 4)
           go true z = let w : entry_of x f s k v m ≡ t = cc in ap good (sym w)
           go false z = absurd (cc)
+
+    module _ (nb : not b ≡ false) where
+      pub says-or : (o : Option Line) → option_map entry_in o ≡ entry → said (ok_or o AboveLimit) ≡ say_fields x f s k v m
+      says-or None q = says-over nb None q refl
+      says-or (Some l) q = says-good nb (Some (entry_in l)) q (entry_in l) refl

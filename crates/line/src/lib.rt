@@ -171,18 +171,13 @@ fn judge_fields<'a>(f: &Fields<'a>) -> Result<Line<'a>, Fault>
     if !is_formed(f) {
         return Err(Fault::Malformed);
     }
-    match small_line(f) {
-        Some(line) => Ok(line),
-        None => Err(Fault::AboveLimit),
-    }
+    small_line(f).ok_or(Fault::AboveLimit)
 }
 
 // What a line without its LF says, or its fault.
 pub fn judge(l: &[u8]) -> Result<Line, Fault>
     ensures { said result ≡ say_line l.now }
 {
-    match cut(l) {
-        Some(f) => judge_fields(&f),
-        None => Err(Fault::Malformed),
-    }
+    let f = cut(l).ok_or(Fault::Malformed)?;
+    judge_fields(&f)
 }

@@ -17,13 +17,14 @@ use Rattle.book.specs.Load.{changes_form, same_entry, has_too_many, fault_of, Re
 use Rattle.book.specs.Holds.{rule_form}
 use Rattle.book.proofs.HoldLaws.{has_rule-rule_form}
 use Rattle.load.specs.BookAnswer.{BookAnswer}
-use Rattle.std.proofs.Common.{Err}
+use Rattle.std.proofs.Common.{Ok, Err}
 use Rattle.load.specs.declared.Refusal.{Refusal}
 use Rattle.load.specs.declared.Refusal.TheVariants.{Size, Names, Malformed, AboveLimit, TooMany, FormChanged, Repeated, NoRule, NoRoot, NotAscending}
 use Rattle.load.specs.BookAnswer.{Numbered, number_line, refused_as, numbered, answer_for}
 use Rattle.store.specs.Proper.{ProperSaid}
 use Rattle.store.specs.Store.{take_entry, table_from, table_of}
-use Rattle.load.specs.Step.{Loaded, take_said, line_refusal, loaded, refusal, take_on, take_lines, take_book}
+use Rattle.std.specs.Result.{is_err}
+use Rattle.load.specs.Step.{Loaded, loaded_as, answered, take_said, line_refusal, loaded, refusal, take_on, take_lines, take_book}
 use Rattle.load.specs.Check.{check_table}
 use Rattle.load.specs.Loads.{book_table, LoadsAs}
 use Rattle.load.proofs.ProperLaws.{say_line-proper}
@@ -243,3 +244,13 @@ module _ (b : List ℕ) (r : Loaded) (q : r ≡ take_book b) (k : ℕ) (w : k �
       go : (p : Read) → Agree (take_book b) p → As r (checked p)
       go (refused i n) a = rw (q ∙ a.1) (refusal-as a.0 i n a.2 a.3)
       go (entries es) a = absurd (h (number_is a.0))
+
+-- ---- the table of an answer
+
+pub answered-refused : (a : BookAnswer) (t : Table) → is_err a ≡ true → answered a t ≡ loaded_as a empty_table
+answered-refused (Ok u) t e = absurd (cc)
+answered-refused (Err r) t e = refl
+
+pub answered-accepted : (a : BookAnswer) (t : Table) → is_err a ≡ false → answered a t ≡ loaded_as a t
+answered-accepted (Ok u) t e = refl
+answered-accepted (Err r) t e = absurd (cc)

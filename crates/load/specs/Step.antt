@@ -40,6 +40,11 @@ loaded t = loaded_as (Ok tt) t
 abbrev pub refusal : Refusal → Loaded
 refusal a = loaded_as (Err a) empty_table
 
+-- what an answer comes to with a table: the table counts only where the book is accepted
+abbrev pub answered : BookAnswer → Table → Loaded
+answered (Ok u) t = loaded_as (Ok u) t
+answered (Err a) t = refusal a
+
 -- the rest of the book after line n, where the line is taken
 unfoldable pub take_on : ℕ → Taken → (Table → Loaded) → Loaded
 take_on n v rest = cond (eqb v.fault 0) (rest v.table) (refusal (line_refusal v.fault n))

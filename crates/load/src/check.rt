@@ -1,9 +1,9 @@
 // The checks after all lines: refusals 8 and 9.
 ghost use Rattle.std.specs.Prelude.{◌≡◌, ◌≤◌, ◌<◌, get_or};
-ghost use Rattle.load.specs.Step.{loaded_as};
+ghost use Rattle.load.specs.Step.{answered};
 ghost use Rattle.load.specs.Check.{dangles_kind, clash_at, clashes_at, late_at, dangling, clashing, check_table};
 
-use crate::{Refusal, read};
+use crate::Refusal;
 use table::flat::Table;
 use table::kind::{Form, ValueKind};
 
@@ -34,7 +34,7 @@ fn clash_at(table: &Table, a: usize, b: usize) -> bool
     let first = table.cell(a);
     let second = table.cell(b);
     let rising = first.key < second.key;
-    (table.form(usize::from(first.rule)) == Form::Object.number())
+    table.has_form(usize::from(first.rule), Form::Object)
         & ((first.rule == second.rule) & ((first.next == second.state) & !rising))
 }
 
@@ -62,19 +62,19 @@ fn clashing(table: &Table) -> Option<usize>
 }
 
 // The table, or refusals 8 and 9.
-pub fn check_table(table: &mut Table) -> Result<(), Refusal>
-    ensures { loaded_as result table.new ≡ check_table table.old }
+pub fn check_table(table: &Table) -> Result<(), Refusal>
+    ensures { answered result table.now ≡ check_table table.now }
 {
     if let Some(e) = dangling(table) {
         let line = table.line(e);
-        return read::refusal(table, Refusal::NoRule(line));
+        return Err(Refusal::NoRule(line));
     }
     if table.form(0) == 0 {
-        return read::refusal(table, Refusal::NoRoot);
+        return Err(Refusal::NoRoot);
     }
     if let Some(e) = clashing(table) {
         let later = table.line(e);
-        return read::refusal(table, Refusal::NotAscending(later));
+        return Err(Refusal::NotAscending(later));
     }
     Ok(())
 }

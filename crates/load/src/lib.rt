@@ -4,7 +4,7 @@
 ghost use Rattle.std.specs.Prelude.{◌≡◌};
 ghost use Rattle.load.specs.BookAnswer.{refused_as, numbered};
 ghost use Rattle.load.specs.Loads.{LoadsAs, Blank};
-ghost use Rattle.load.specs.Step.{loaded_as};
+ghost use Rattle.load.specs.Step.{loaded_as, answered};
 
 use table::flat::Table;
 
@@ -95,6 +95,14 @@ pub fn line_of(a: Result<(), Refusal>) -> usize
     }
 }
 
+// The table of a book, or its refusal, with a table that does not count.
+fn read_book(table: &mut Table, book: &[u8]) -> Result<(), Refusal>
+    ensures { LoadsAs book.now (answered result table.new) }
+{
+    read::take_book(table, book)?;
+    check::check_table(table)
+}
+
 // Loads a rule book, whose bytes stay as they are. Every byte string has an answer: the one with the number and line that the paper's `loads`
 // gives it, and the table of the entries that it gives; a refused book's table is the empty one, every byte of which is 0. Ruled out are, for
 // example, a program that answers `NoRule(0)` where the root has no lines, and one that finds a repeated line only where it directly follows.
@@ -102,6 +110,9 @@ pub fn load(book: &[u8], table: &mut Table) -> Result<(), Refusal>
     ensures loads_as { LoadsAs book.now (loaded_as result table.new) }
     ensures blank { Blank book.now table.new }
 {
-    read::take_book(table, book)?;
-    check::check_table(table)
+    let answer = read_book(table, book);
+    if answer.is_err() {
+        *table = Table::empty();
+    }
+    answer
 }

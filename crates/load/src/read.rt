@@ -5,21 +5,13 @@ ghost use Rattle.table.specs.Flat.{empty_table};
 ghost use Rattle.book.specs.Line.{say_line};
 ghost use Rattle.line.specs.Line.{fault_number};
 ghost use Rattle.store.specs.Store.{taken, fault_in};
-ghost use Rattle.load.specs.Step.{loaded_as, refusal as refusalOf, line_refusal, take_said, take_lines, take_book};
+ghost use Rattle.load.specs.Step.{answered, line_refusal, take_said, take_lines, take_book};
 
 use crate::Refusal;
 use line::Fault;
 use table::flat::Table;
 
 const NAMES: [u8; 31] = *b"rule form state key value next\n";
-
-// A refusal, with an empty table.
-pub fn refusal(table: &mut Table, r: Refusal) -> Result<(), Refusal>
-    ensures { loaded_as result table.new ≡ refusalOf r }
-{
-    *table = Table::empty();
-    Err(r)
-}
 
 // The refusal for a fault of line n.
 #[tactic(auto, unfolding(crate::specs::Step::line_refusal))]
@@ -39,42 +31,40 @@ fn line_refusal(fault: Fault, n: usize) -> Refusal
 fn take_line(table: &mut Table, n: u16, l: &[u8]) -> Result<(), Fault>
     ensures { taken (fault_in result) table.new ≡ take_said n table.old (say_line l.now) }
 {
-    match line::judge(l) {
-        Ok(line) => store::take_entry(table, n, &line),
-        Err(fault) => Err(fault),
-    }
+    let line = line::judge(l)?;
+    store::take_entry(table, n, &line)
 }
 
 // The lines after the names line.
 fn take_lines(table: &mut Table, lines: &[u8]) -> Result<(), Refusal>
     requires { length lines.now ≤ 65505 }
-    ensures { loaded_as result table.new ≡ take_lines 2 empty_table (split 10 lines.now) }
+    ensures { answered result table.new ≡ take_lines 2 empty_table (split 10 lines.now) }
 {
     *table = Table::empty();
     let mut rest = lines;
     let mut n: usize = 2;
     while let Some((l, behind)) = scan::cut(rest, b'\n') {
         if let Err(fault) = take_line(table, n as u16, l) {
-            return refusal(table, line_refusal(fault, n));
+            return Err(line_refusal(fault, n));
         }
         rest = behind;
         n += 1;
     }
     if !rest.is_empty() {
-        return refusal(table, Refusal::Malformed(n));
+        return Err(Refusal::Malformed(n));
     }
     Ok(())
 }
 
 // The table of the lines of a book, or refusals 1 to 7.
 pub fn take_book(table: &mut Table, b: &[u8]) -> Result<(), Refusal>
-    ensures { loaded_as result table.new ≡ take_book b.now }
+    ensures { answered result table.new ≡ take_book b.now }
 {
     if b.is_empty() | (65536 < b.len()) {
-        return refusal(table, Refusal::Size);
+        return Err(Refusal::Size);
     }
     match b.strip_prefix(NAMES.as_slice()) {
         Some(lines) => take_lines(table, lines),
-        None => refusal(table, Refusal::Names),
+        None => Err(Refusal::Names),
     }
 }

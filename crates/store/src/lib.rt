@@ -1,7 +1,8 @@
 // The table of a book, one entry after the other.
 #![tactic(auto)]
 
-ghost use Rattle.std.specs.Prelude.{◌&&◌, ◌≡◌, ◌+◌, ◌*◌, ◌<◌, ◌≤◌, eqb, length};
+ghost use Rattle.std.specs.Prelude.{◌&&◌, ◌≡◌, ◌+◌, ◌*◌, ◌<◌, ◌≤◌, eqb, length, get_or};
+ghost use Rattle.table.specs.Kind.{form_number};
 ghost use Rattle.table.specs.Keys.{table_keys};
 ghost use Rattle.book.specs.Holds.{key_number};
 ghost use Rattle.line.specs.Line.{entry_in};
@@ -10,6 +11,7 @@ ghost use Rattle.store.specs.Store.{has_cell, is_new, form_changes, taken, fault
 
 use line::{Fault, Line};
 use table::flat::{Cell, Table};
+use table::kind::Form;
 
 // ---- edges
 
@@ -46,16 +48,16 @@ fn is_new(n: usize, k: u8, m: u8) -> bool
 
 // A rule with lines has another form.
 #[tactic(auto, unfolding(crate::specs::Store::form_changes))]
-fn form_changes(old: u8, new: u8) -> bool
-    ensures { result ≡ form_changes old new }
+fn form_changes(table: &Table, rule: usize, new: Form) -> bool
+    ensures { result ≡ form_changes (get_or table.now.forms rule 0) (form_number new) }
 {
-    old != 0 && old != new
+    table.form(rule) != 0 && !table.has_form(rule, new)
 }
 
 // An end state; or the fault of it, and the table as it was.
-fn take_end(table: &mut Table, rule: u8, form: u8, state: u8) -> Result<(), Fault>
+fn take_end(table: &mut Table, rule: u8, form: Form, state: u8) -> Result<(), Fault>
     requires { (rule < 32) × (state < 16) }
-    ensures { taken (fault_in result) table.new ≡ take_end table.old rule form state }
+    ensures { taken (fault_in result) table.new ≡ take_end table.old rule (form_number form) state }
 {
     if table.is_end(16 * rule as usize + state as usize) {
         return Err(Fault::Repeated);
@@ -65,9 +67,9 @@ fn take_end(table: &mut Table, rule: u8, form: u8, state: u8) -> Result<(), Faul
 }
 
 // An edge whose key has the number in its cell; or the fault of it, and the table as it was.
-fn take_edge(table: &mut Table, line: u16, form: u8, c: Cell, key: &[u8]) -> Result<(), Fault>
+fn take_edge(table: &mut Table, line: u16, form: Form, c: Cell, key: &[u8]) -> Result<(), Fault>
     requires { (c.rule < 32) × (length key.now ≤ 32) }
-    ensures { taken (fault_in result) table.new ≡ take_edge line table.old form c key.now }
+    ensures { taken (fault_in result) table.new ≡ take_edge line table.old (form_number form) c key.now }
 {
     let edges = table.edges();
     let keys = table.keys();
@@ -95,12 +97,11 @@ pub fn take_entry(table: &mut Table, n: u16, l: &Line) -> Result<(), Fault>
     requires { Proper (entry_in l.now) }
     ensures { taken (fault_in result) table.new ≡ take_entry n table.old (entry_in l.now) }
 {
-    let form = l.form.number();
-    if form_changes(table.form(usize::from(l.rule)), form) {
+    if form_changes(table, usize::from(l.rule), l.form) {
         return Err(Fault::FormChanged);
     }
     match l.edge {
-        None => take_end(table, l.rule, form, l.state),
+        None => take_end(table, l.rule, l.form, l.state),
         Some(e) => {
             let c = Cell {
                 rule: l.rule,
@@ -109,7 +110,7 @@ pub fn take_entry(table: &mut Table, n: u16, l: &Line) -> Result<(), Fault>
                 kind: e.kind.code() as u8,
                 next: e.next,
             };
-            take_edge(table, n, form, c, e.key)
+            take_edge(table, n, l.form, c, e.key)
         }
     }
 }

@@ -1,12 +1,14 @@
 // A table in its bytes: reads and writes of its numbers. `specs/Flat.antt` says where they stand.
-ghost use Rattle.std.specs.Prelude.{◌≡◌, ℕ, ◌+◌, ◌*◌, ◌<◌, ◌≤◌, true, length, get_or};
+ghost use Rattle.std.specs.Prelude.{◌≡◌, ℕ, ◌+◌, ◌*◌, ◌<◌, ◌≤◌, true, length, get_or, eqb};
 ghost use Rattle.laws.specs.Bits.{bit_at};
 ghost use Rattle.table.specs.Bytes.{bytes_of};
 ghost use Rattle.table.specs.Flat.{part, table_in, empty_table};
 ghost use Rattle.table.specs.Keys.{key_at};
+ghost use Rattle.table.specs.Kind.{form_number};
 ghost use Rattle.table.specs.Cells.{cell_at, with_edge, written, with_key, with_end};
 
 use crate::bits;
+use crate::kind::Form;
 use std::cmp;
 use std::marker::Model;
 
@@ -174,6 +176,14 @@ impl Table {
 }
 
 impl Table {
+    // Rule r is of a form. A rule that is past the forms is of none.
+    // Ruled out: a program that takes a rule without lines for one of the form; one that takes an `arr` rule for an `obj` rule.
+    pub fn has_form(&self, r: usize, form: Form) -> bool
+        ensures { result ≡ eqb (get_or self.now.forms r 0) (form_number form) }
+    {
+        self.form(r) == form.number()
+    }
+
     // The line of the book that an edge stands on.
     pub fn line(&self, e: usize) -> usize
         ensures { result ≡ get_or self.now.edge_line e 0 }
@@ -228,9 +238,9 @@ impl Table {
     // One edge more.
     // Stays: room for it, since the memory is fixed, and `store::take_edge` tests the count; and a rule that the table has, by a clause, since the
     // definitions are over numbers: a type for those in range would be taken apart at each of their uses.
-    pub fn with_edge(&mut self, form: u8, c: Cell, line: u16)
+    pub fn with_edge(&mut self, form: Form, c: Cell, line: u16)
         requires { (self.old.edges < 512) × (c.rule < 32) }
-        ensures { self.new ≡ with_edge self.old form c line }
+        ensures { self.new ≡ with_edge self.old (form_number form) c line }
     {
         let at = self.edges();
         self.bytes[RULE + at] = c.rule;
@@ -240,7 +250,7 @@ impl Table {
         self.bytes[NEXT + at] = c.next;
         self.bytes[LINE_LOW + at] = (line % 256) as u8;
         self.bytes[LINE_HIGH + at] = (line / 256) as u8;
-        self.bytes[FORM + c.rule as usize] = form;
+        self.bytes[FORM + c.rule as usize] = form.number();
         let n = at + 1;
         self.bytes[0] = (n % 256) as u8;
         self.bytes[1] = (n / 256) as u8;
@@ -261,12 +271,12 @@ impl Table {
 
     // One end state more.
     // Stays: a rule and a state that the table has, by a clause, as in `with_edge`.
-    pub fn with_end(&mut self, rule: u8, form: u8, state: u8)
+    pub fn with_end(&mut self, rule: u8, form: Form, state: u8)
         requires { (rule < 32) × (state < 16) }
-        ensures { self.new ≡ with_end self.old rule form state }
+        ensures { self.new ≡ with_end self.old rule (form_number form) state }
     {
         let r = rule as usize;
         bits::set_if(true, &mut self.bytes, 8 * END + (16 * r + state as usize));
-        self.bytes[FORM + r] = form;
+        self.bytes[FORM + r] = form.number();
     }
 }

@@ -1,24 +1,15 @@
 // Keys of a table: the number of a key.
-ghost use Rattle.std.specs.Prelude.{◌≡◌, ◌*◌, Bool, find, nat_eq};
-ghost use Rattle.std.specs.List.{range_with_len};
-ghost use Rattle.std.specs.Cmp.Lexicographic.{pointwise};
-ghost use Rattle.table.specs.Keys.{key_at, key_index, known_key, key_found};
+ghost use Rattle.std.specs.Prelude.{◌≡◌};
+ghost use Rattle.table.specs.Keys.{key_index, known_key, key_found};
 
 use crate::flat::Table;
 
 impl Table {
-    // The number of the first key that is the same.
-    fn first(&self, key: &[u8]) -> Option<u8>
-        ensures { result ≡ find (λ k. pointwise nat_eq (key_at self.now.key_bytes self.now.key_len k) key.now) (range_with_len 0 self.now.keys) }
-    {
-        (0..self.keys()).find(|k| self.key_text(usize::from(*k)) == key)
-    }
-
     // The number of a key among the keys of the table, where it is one of them.
     pub fn find(&self, key: &[u8]) -> Option<u8>
         ensures { result ≡ key_index self.now key.now }
     {
-        self.first(key)
+        (0..self.keys()).find(|k| self.key_text(usize::from(*k)) == key)
     }
 
     // The number of the key of which `len` characters are kept, where it is a key of the table.

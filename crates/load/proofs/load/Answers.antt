@@ -1,21 +1,18 @@
--- `load` meets its contract: what is read agrees with the paper, and what is accepted is checked. Assumes nothing.
-use mathlib.Core.Path.{refl}
-use Rattle.std.proofs.Common.{Err}
-use Rattle.std.proofs.lemmas.Result.{err_from_is_err_and}
+-- `load` meets its contract: the table of a refused book is cleared. Assumes nothing.
+use mathlib.Core.Path.{subst, sym, ◌∙◌}
 use Rattle.load.specs.Loads.{LoadsAs}
-use Rattle.load.specs.Step.{loaded_as}
-use Rattle.load.proofs.AgreeLaws.{load-checked, load-refused, refusal-some}
+use Rattle.load.proofs.AgreeLaws.{answered-refused, answered-accepted}
 use Rattle.load.proofs.BlankLaws.{loads-blank}
 use Rattle.load.proofs.load.Goals as goal
 
-pub returns : goal.returns
-returns c =
-    let z : LoadsAs c.args.book.now (loaded_as c.check_table.result c.check_table.new.table) = load-checked _ _ c.in_ok-take_book.ensures 0 refl _ refl c.check_table.ensures in
-    record { loads_as = z; blank = loads-blank _ _ _ z }
+pub returns-then-is_err : goal.returns-then-is_err
+returns-then-is_err c =
+    let a = c.read_book-answer in
+    let z = subst (LoadsAs c.args.book.now) (answered-refused a.result a.new.table (sym c.is_err.ensures.value ∙ c.if-is_err.true)) a.ensures in
+    rw c.empty.ensures (record { loads_as = z; blank = loads-blank _ _ _ z })
 
-pub returns-in_err-take_book : goal.returns-in_err-take_book
-returns-in_err-take_book c =
-    let r = c.in_err-take_book.field-0.0 in
-    let p = err_from_is_err_and c.from_residual.result c.from_residual.ensures.1 in
-    let z : LoadsAs c.args.book.now (loaded_as (Err r) c.take_book.new.table) = load-refused _ _ c.in_err-take_book.ensures _ refl (refusal-some r) in
-    rw (p.1, p.2) (record { loads_as = z; blank = loads-blank _ _ _ z })
+pub returns-else-is_err : goal.returns-else-is_err
+returns-else-is_err c =
+    let a = c.read_book-answer in
+    let z = subst (LoadsAs c.args.book.now) (answered-accepted a.result a.new.table (sym c.is_err.ensures.value ∙ c.if-is_err.false)) a.ensures in
+    record { loads_as = z; blank = loads-blank _ _ _ z }

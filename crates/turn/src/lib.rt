@@ -15,7 +15,8 @@ use table::flat::Table;
 use table::kind::{Finished, Form, ValueKind};
 
 // The open record between two bytes, its key and its frames aside.
-// Stays: the key apart, since an array that is read by index keeps the whole record in memory, which costs 4 in 100 instructions.
+// Stays: the key apart, since an array that is read by index keeps the whole record in memory: with the key in it, a stream of numbers takes 4 in 100
+// instructions more than without.
 #[derive(Clone, Copy)]
 pub struct Record {
     pub progress: Progress,

@@ -236,6 +236,7 @@ pub fn bits_after(s: StringMode, bits: u32, b: u8) -> u32
 }
 
 // The high surrogate after byte b.
+// Stays: bits and high surrogate apart, since `bits_after` takes and gives the bits alone, and one byte of an escape sets the other.
 pub fn high_after(s: StringMode, bits: u32, high: u32, b: u8) -> u32
     ensures { result ≡ high_after s bits high b }
 {

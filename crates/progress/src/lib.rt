@@ -142,6 +142,7 @@ fn moved(x: Progress, b: u8, m: Mode, level: usize, len: u8) -> Progress
 }
 
 // What a step of the lexer does to the record. There is one call of `moved`, so that it is inlined.
+// Stays: a function of four, as `sound` and `advance`: a method would take the record and the same other three.
 fn acted(x: Progress, frames: usize, b: u8, st: Step) -> Advanced
     ensures { result ≡ acted st.act st.ends x frames b st.mode }
 {

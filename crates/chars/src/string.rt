@@ -236,6 +236,7 @@ pub fn bits_after(s: StringMode, bits: u32, b: u8) -> u32
 }
 
 // The high surrogate after byte b.
+// Stays: bits and high surrogate apart, since `bits_after` takes and gives the bits alone, and one byte of an escape sets the other.
 pub fn high_after(s: StringMode, bits: u32, high: u32, b: u8) -> u32
     ensures { result ≡ high_after s bits high b }
 {
@@ -245,8 +246,8 @@ pub fn high_after(s: StringMode, bits: u32, high: u32, b: u8) -> u32
     }
 }
 
-// The character that byte b finishes; 0 where it finishes none.
-// Stays: 0, since the number is read only where a byte finishes a character of a key: with an Option each of its two readers has an arm that no byte reaches.
+// The character that byte b finishes. Where it finishes none, the number says nothing.
+// Stays: a number, since `string_move` tells whether a byte finishes a character: an Option would tell it a second time.
 pub fn char_of(s: StringMode, bits: u32, high: u32, b: u8) -> u32
     ensures { result ≡ char_of s bits high b }
 {

@@ -83,6 +83,7 @@ fn registers_over(some: bool, m: Mode, g: Registers) -> Registers
 }
 
 // The registers after byte b that leads from one mode to another, but that b is still to be counted for the number.
+// Stays: apart from `progress::advance`, which counts b at once: here the bytes of a number are counted together, at the end of their run.
 fn registers_after(m: Mode, next: Mode, g: Registers, b: u8) -> Registers
     ensures { result ≡ registers_after m next g b }
 {

@@ -1,7 +1,5 @@
 // Bytes that leave the mode of a reader as it is, counted from the first on.
 ghost use Rattle.std.specs.Prelude.{true, ◌≡◌, ◌≤◌, ◌<◌, ℕ, length, slice_index};
-ghost use Rattle.json_text.specs.Bytes.{is_blank};
-ghost use Rattle.json_text.specs.Numbers.{is_digit};
 ghost use Rattle.pass.specs.Pass.{plain_class, StaysFor};
 
 use chars::class::Classes;
@@ -20,33 +18,21 @@ fn plain_class(k: Class) -> bool
     )
 }
 
+// How many bytes that pass a test stand first.
+#[inline(always)]
+fn run_len<F: Fn(u8) -> bool>(s: &[u8], test: F) -> usize
+    requires { F.IsAlwaysCallable test }
+    ensures bound { result ≤ length s.now }
+    ensures passed { (j : ℕ) → j < result → (slice_index s.now j < 256) × F.post test (slice_index s.now j) true }
+{
+    s.iter().position(|b| !test(*b)).unwrap_or(s.len())
+}
+
 // How many whole characters of a string stand first.
 pub fn plain_len(classes: &Classes, s: &[u8]) -> usize
     ensures { StaysFor (Mode.Text StringMode.Char) s.now result }
 {
-    s.iter()
-        .position(|b| !plain_class(classes.of(*b)))
-        .unwrap_or(s.len())
-}
-
-// How many blanks stand first.
-fn blank_len(s: &[u8]) -> usize
-    ensures bound { result ≤ length s.now }
-    ensures blank { (j : ℕ) → j < result → (slice_index s.now j < 256) × (is_blank (slice_index s.now j) ≡ true) }
-{
-    s.iter()
-        .position(|b| !lexer::step::is_blank(*b))
-        .unwrap_or(s.len())
-}
-
-// How many digits stand first.
-fn digit_len(s: &[u8]) -> usize
-    ensures bound { result ≤ length s.now }
-    ensures digit { (j : ℕ) → j < result → (slice_index s.now j < 256) × (is_digit (slice_index s.now j) ≡ true) }
-{
-    s.iter()
-        .position(|b| !lexer::number::is_digit(*b))
-        .unwrap_or(s.len())
+    run_len(s, |b| plain_class(classes.of(b)))
 }
 
 // How many bytes that leave a number's mode as it is stand first.
@@ -54,7 +40,7 @@ pub fn number_len(n: NumberMode, s: &[u8]) -> usize
     ensures { StaysFor (Mode.Number n) s.now result }
 {
     match n {
-        NumberMode::Int | NumberMode::Frac | NumberMode::Exp => digit_len(s),
+        NumberMode::Int | NumberMode::Frac | NumberMode::Exp => run_len(s, lexer::number::is_digit),
         _ => 0,
     }
 }
@@ -64,7 +50,7 @@ pub fn stay_len(classes: &Classes, m: Mode, s: &[u8]) -> usize
     ensures { StaysFor m s.now result }
 {
     match m {
-        Mode::At(_) => blank_len(s),
+        Mode::At(_) => run_len(s, lexer::step::is_blank),
         Mode::Text(StringMode::Char) => plain_len(classes, s),
         Mode::Number(n) => number_len(n, s),
         _ => 0,

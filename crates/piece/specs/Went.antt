@@ -1,5 +1,7 @@
 -- How far a record was read, as what is left to read. Derived: `read_on` gives it, and `read_piece` uses it. Assumes nothing.
-use Rattle.std.specs.Prelude.{Bool, true, cond, List, ◌≡◌, ℕ, ◌<◌, ◌≤◌, length, drop}
+use Rattle.std.specs.Prelude.{Bool, true, false, cond, List, ◌≡◌, ℕ, ◌<◌, ◌≤◌, length, drop}
+use Rattle.std.specs.declared.ops.ControlFlow.{ControlFlow}
+use Rattle.std.specs.ControlFlow.{MatchControlFlow}
 use Rattle.json_text.specs.Lexer.{step_of}
 use Rattle.json_text.specs.declared.lexer.Step.{Step}
 use Rattle.table.specs.Table.{Table}
@@ -16,3 +18,7 @@ pub record WentTo (t : Table) (n : ℕ) (m : Mem) (s : List ℕ) (i : ℕ) (k : 
   pub low : i < j
   pub high : j ≤ length s
   pub run : run_mem t n m i (drop i s) ≡ cond ended (record { memory = k; count = j; ended = true }) (run_mem t n k j (drop j s))
+
+-- so from place i on, by what was said: to break off at the place behind an RS that ended the record, or to go on at a place
+abbrev pub WentBy : Table → ℕ → Mem → List ℕ → ℕ → Mem → ControlFlow ℕ ℕ → Type 0
+WentBy t n m s i k said = MatchControlFlow said (λ at. WentTo t n m s i k at false) (λ at. WentTo t n m s i k at true)

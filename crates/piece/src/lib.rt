@@ -1,11 +1,10 @@
 // A piece is read on: the bytes that are passed over, and one byte more.
 #![tactic(auto)]
 
-ghost use Rattle.std.specs.Prelude.{◌≡◌, true, false, ◌<◌, length, get_or};
-ghost use Rattle.std.specs.ControlFlow.{MatchControlFlow};
+ghost use Rattle.std.specs.Prelude.{◌≡◌, ◌<◌, length, get_or};
 ghost use Rattle.progress.specs.Memory.{ends_record};
 ghost use Rattle.turn.specs.Turn.{memory};
-ghost use Rattle.piece.specs.Went.{StepsAs, WentTo};
+ghost use Rattle.piece.specs.Went.{StepsAs, WentBy};
 
 use chars::class::Classes;
 use json_text::lexer::Step;
@@ -23,6 +22,7 @@ fn ends_record(x: Progress, b: u8) -> bool
 }
 
 // Reads the byte at place i, with its step: an RS that ends the record, or a byte of it.
+// Stays: `record`, `key` and `work` apart, since of a struct with the three each contract would say besides that it still holds the same references.
 #[tactic(auto, using(crate::proofs::PieceLaws::went_ended, crate::proofs::PieceLaws::went_turned))]
 fn read_byte(
     record: &mut Record,
@@ -34,7 +34,7 @@ fn read_byte(
     step: Step,
 ) -> ControlFlow<usize, usize>
     requires { (i < length piece.now) × StepsAs record.old.progress rules.frames work.old (get_or piece.now i 0) step }
-    ensures { MatchControlFlow result (λ at. WentTo rules.entry.table.now rules.entry.frames (memory record.old key.old work.old) piece.now i (memory record.new key.new work.new) at false) (λ at. WentTo rules.entry.table.now rules.entry.frames (memory record.old key.old work.old) piece.now i (memory record.new key.new work.new) at true) }
+    ensures { WentBy rules.entry.table.now rules.entry.frames (memory record.old key.old work.old) piece.now i (memory record.new key.new work.new) result }
 {
     let b = piece[i];
     if ends_record(record.progress, b) {
@@ -46,6 +46,7 @@ fn read_byte(
 
 // Reads on from place i: the bytes that are passed over, and one byte more. Breaks off behind an RS that ended the record, and else goes on at a
 // later place.
+// Stays: `record`, `key` and `work` apart, as in `read_byte`.
 pub fn read_on(
     record: &mut Record,
     key: &mut [u8; 32],
@@ -56,7 +57,7 @@ pub fn read_on(
     i: usize,
 ) -> ControlFlow<usize, usize>
     requires { i < length piece.now }
-    ensures { MatchControlFlow result (λ at. WentTo rules.entry.table.now rules.entry.frames (memory record.old key.old work.old) piece.now i (memory record.new key.new work.new) at false) (λ at. WentTo rules.entry.table.now rules.entry.frames (memory record.old key.old work.old) piece.now i (memory record.new key.new work.new) at true) }
+    ensures { WentBy rules.entry.table.now rules.entry.frames (memory record.old key.old work.old) piece.now i (memory record.new key.new work.new) result }
 {
     let kept = pass::keep(classes, record.progress, key, piece, i);
     let top = top_of(work, kept.progress.level);

@@ -98,11 +98,15 @@ whole_in _ pos root = Is.Unfinished pos
 unfoldable pub whole : Progress → Bool → Verdict
 whole x root = cond (eqb x.level 0) (whole_in x.mode x.pos root) (Is.Unfinished x.pos)
 
+-- the verdict of a record with a fault
+abbrev pub fault_verdict : Fault → Verdict
+fault_verdict (F.Malformed place) = Is.Malformed place
+fault_verdict (F.TooDeep place) = Is.TooDeep place
+fault_verdict F.TooLong = Is.TooLong
+
 abbrev pub verdict_by : Option Fault → Progress → Bool → Verdict
 verdict_by None x root = whole x root
-verdict_by (Some (F.Malformed place)) x root = Is.Malformed place
-verdict_by (Some (F.TooDeep place)) x root = Is.TooDeep place
-verdict_by (Some F.TooLong) x root = Is.TooLong
+verdict_by (Some f) x root = fault_verdict f
 
 unfoldable pub judged : Progress → Bool → Verdict
 judged x root = cond x.head Is.Head (verdict_by x.fault x root)

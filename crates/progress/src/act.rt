@@ -10,6 +10,7 @@ use table::kind::{Form, Scalar};
 use whole::Decimal;
 
 // A value that a byte at pos opens is too deep where the buffer has no frame for it.
+// Stays: the level and the frames, since nothing else of a record and its buffer is needed here, and no method of `Progress` has the frames.
 fn open_fault(level: usize, frames: usize, pos: u32) -> Option<Fault>
     ensures { result ≡ open_fault level frames pos }
 {
@@ -69,6 +70,7 @@ fn scalar_of(w: Word) -> Scalar
 }
 
 // The number that ended is finished; where none did, nothing is done.
+// Stays: `ends` beside d, since both are there at each byte: an Option would be made of the two to be taken apart at once.
 fn number_task(ends: bool, d: Decimal) -> Task
     ensures { result ≡ number_task ends d }
 {
@@ -80,6 +82,7 @@ fn number_task(ends: bool, d: Decimal) -> Task
 }
 
 // The innermost open value is closed, after the number that ended if one did.
+// Stays: `ends` beside d, as in `number_task`.
 fn closing(ends: bool, d: Decimal) -> Task
     ensures { result ≡ closing ends d }
 {
@@ -124,6 +127,7 @@ pub fn len_after(a: Act, len: u8, c: u32) -> u8
 }
 
 // What is to be done at an act, which ends the number d or not.
+// Stays: `ends` beside d, as in `number_task`.
 pub fn task_of(a: Act, ends: bool, d: Decimal, len: u8, c: u32) -> Task
     ensures { result ≡ task_of a ends d len c }
 {

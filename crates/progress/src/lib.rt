@@ -3,7 +3,7 @@
 
 ghost use Rattle.std.specs.Prelude.{◌≡◌};
 ghost use Rattle.progress.specs.Fresh.{fresh_progress};
-ghost use Rattle.progress.specs.Progress.{counted, faulted, moved, acted, sound, advanced, judged};
+ghost use Rattle.progress.specs.Progress.{counted, faulted, moved, acted, sound, advanced, fault_verdict, judged};
 
 use json_text::lexer::{Awaited, Mode, Step};
 use table::kind::{Form, Scalar};
@@ -21,6 +21,19 @@ pub enum Fault {
     Malformed(u32),
     TooDeep(u32),
     TooLong,
+}
+
+// The verdict of a record with a fault. Ruled out: 12 for a malformed record, and a place counted from 1.
+impl From<Fault> for Verdict {
+    ghost from_gives = { λ fault verdict. verdict ≡ fault_verdict fault };
+
+    fn from(fault: Fault) -> Verdict {
+        match fault {
+            Fault::Malformed(place) => Verdict::Malformed(place),
+            Fault::TooDeep(place) => Verdict::TooDeep(place),
+            Fault::TooLong => Verdict::TooLong,
+        }
+    }
 }
 
 // What is known of the open record.
@@ -129,6 +142,7 @@ fn moved(x: Progress, b: u8, m: Mode, level: usize, len: u8) -> Progress
 }
 
 // What a step of the lexer does to the record. There is one call of `moved`, so that it is inlined.
+// Stays: a function of four, as `sound` and `advance`: a method would take the record and the same other three.
 fn acted(x: Progress, frames: usize, b: u8, st: Step) -> Advanced
     ensures { result ≡ acted st.act st.ends x frames b st.mode }
 {
@@ -182,8 +196,6 @@ pub fn judge(x: Progress, root: bool) -> Verdict
     }
     match x.fault {
         None => ending::whole(x, root),
-        Some(Fault::Malformed(place)) => Verdict::Malformed(place),
-        Some(Fault::TooDeep(place)) => Verdict::TooDeep(place),
-        Some(Fault::TooLong) => Verdict::TooLong,
+        Some(f) => f.into(),
     }
 }

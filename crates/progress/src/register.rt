@@ -28,6 +28,7 @@ pub fn high_in(m: Mode, bits: u32, high: u32, b: u8) -> u32
 }
 
 // The character of a key that byte b finishes.
+// Stays: 0 in another mode, since the lexer's act tells whether a byte finishes a character of a key, and only then the number is used.
 pub fn char_in(m: Mode, bits: u32, high: u32, b: u8) -> u32
     ensures { result ≡ char_in m bits high b }
 {

@@ -201,7 +201,8 @@ impl Reader {
         };
         let mut key = self.key;
         let mut i = 0;
-        // Stays: a turn reads any number of bytes, so that no range counts the place.
+        // Stays: a turn reads any number of bytes, so that no range counts the place; and not a slice that gets shorter, since a feed answers how many
+        // bytes it read.
         while i < piece.len() {
             match piece::read_on(&mut record, &mut key, work, rules, &classes, piece, i) {
                 ControlFlow::Continue(at) => i = at,

@@ -15,7 +15,8 @@ use table::flat::Table;
 use table::kind::{Finished, Form, ValueKind};
 
 // The open record between two bytes, its key and its frames aside.
-// Stays: the key apart, since an array that is read by index keeps the whole record in memory, which costs 4 in 100 instructions.
+// Stays: the key apart, since an array that is read by index keeps the whole record in memory: with the key in it, a stream of numbers takes 4 in 100
+// instructions more than without.
 #[derive(Clone, Copy)]
 pub struct Record {
     pub progress: Progress,
@@ -52,6 +53,7 @@ fn close_value(work: &mut [u8], level: usize, root: bool, table: &Table) -> bool
 
 impl Record {
     // Does a task to the root, the key and the frames, all but the progress: up is the level after the byte.
+    // Stays: `key` and `work` apart, since of a struct with both each contract would say besides that it still holds the same two references.
     #[tactic(auto, unfolding(progress::specs::Memory::value_at, progress::specs::Memory::close_at))]
     fn perform(&mut self, task: Task, up: usize, key: &mut [u8; 32], work: &mut [u8], rules: Rules)
         ensures progress { self.new.progress ≡ self.old.progress }
@@ -81,6 +83,7 @@ impl Record {
     }
 
     // The byte b, of which the lexer makes a step: the record after it, its key and its frames.
+    // Stays: `key` and `work` apart, as in `perform`.
     pub fn turn(&mut self, step: Step, key: &mut [u8; 32], work: &mut [u8], rules: Rules, b: u8)
         ensures { memory self.new key.new work.new ≡ turned rules.entry.table.now rules.entry.frames (memory self.old key.old work.old) b step }
     {

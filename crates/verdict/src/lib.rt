@@ -40,6 +40,7 @@ impl Verdict {
     }
 
     // 0 unless refused
+    // Stays: 0, since the line of a verdict and the C interface have 0 there.
     pub fn number(self) -> u8
         ensures { result ≡ (shown self).number }
     {
@@ -54,6 +55,7 @@ impl Verdict {
     }
 
     // 0 where a verdict has no place
+    // Stays: 0, as in `number`.
     pub fn place(self) -> u32
         ensures { result ≡ (shown self).place }
     {

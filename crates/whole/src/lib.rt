@@ -11,7 +11,7 @@ use json_text::number::NumberMode;
 pub mod run; // run.rt: bytes that stand one after the other, counted at once
 
 // What is known of the open number.
-#[derive(Clone, Copy)]
+#[derive(Clone, Copy, Default)]
 pub struct Decimal {
     // the zeros at the end of the digits so far, those before the point and those after it
     pub zeros: u32,
@@ -28,13 +28,7 @@ pub struct Decimal {
 pub fn fresh() -> Decimal
     ensures { result ≡ fresh }
 {
-    Decimal {
-        zeros: 0,
-        places: 0,
-        exponent: 0,
-        negative: false,
-        nonzero: false,
-    }
+    Decimal::default()
 }
 
 // The count with one more; at the largest number the count stays.

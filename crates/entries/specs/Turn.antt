@@ -1,4 +1,4 @@
--- One feed of a stream, with its entry in the output. Derived: `going-refused` and `Going-more` of the proofs join it to `feeds`. Assumes nothing.
+-- One feed of a stream, with its entry in the output. Derived: `going-refused` and `going_more` of the proofs join it to `feeds`. Assumes nothing.
 use Rattle.std.specs.Prelude.{Bool, cond, List, [], ℕ, ◌+◌, length, drop}
 use Rattle.table.specs.Table.{Table}
 use Rattle.reader.specs.declared.Reader.{Reader}

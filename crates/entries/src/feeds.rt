@@ -43,6 +43,8 @@ struct Fed {
 
 impl Fed {
     // Feeds the unread bytes up to the next cut, and puts the entry of the answer; a refused feed has none.
+    // Stays: the bound on `made` in a contract: as a ghost field of `Fed` it would not be kept here, where `made` grows by one. What keeps it is that
+    // there are no more entries than bytes read, which `feed_all` shows of the feeds from the first one on.
     // Stays: `work` and `out` apart, since of a struct with both each contract here would say besides that it still holds the same two references.
     fn feed_next(&mut self, stream: &Stream, work: &mut [u8], out: &mut [u8]) -> Result<(), Refusal>
         requires { (self.old.read < length stream.now.bytes.now) × (self.old.made < 18446744073709551615) }
@@ -69,7 +71,8 @@ fn feed_all(reader: Reader, stream: &Stream, work: &mut [u8], out: &mut [u8]) ->
         read: 0,
         made: 0,
     };
-    // Stays: a turn feeds any number of bytes, so that no range counts the place.
+    // Stays: a turn feeds any number of bytes, so that no range counts the place; nor does a rest of the slice that gets shorter, since the cuts and
+    // the entries count bytes from the start of the stream.
     while f.read < stream.bytes.len() {
         if f.feed_next(stream, work, out).is_err() {
             return f;

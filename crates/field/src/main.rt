@@ -1,10 +1,10 @@
 // The program that answers points: reads the corners of the text in text.json, and prints a line for each point of standard input. The text is
 // judged and the point answered by crate boundary, and points are read and lines made by crate points; here bytes are only read and written.
-#![tactic(auto)]
+#![tactic(auto, unfolding(text::specs::Put::has_room))]
 
-ghost use Rattle.std.specs.Prelude.{◌≡◌, ◌≤◌, cond};
+ghost use Rattle.std.specs.Prelude.{◌≡◌, ◌≤◌, ◌+◌, [], ◌++◌, cond, length};
 ghost use Rattle.std.specs.Option.{option_map};
-ghost use Rattle.text.specs.Put.{has_room, write};
+ghost use Rattle.text.specs.Put.{has_room};
 ghost use Rattle.plane.specs.Lent.{corners_of};
 ghost use Rattle.boundary.specs.Exact.{answer_at};
 ghost use Rattle.points.specs.Points.{point_of};
@@ -15,7 +15,6 @@ use boundary::Refusal;
 use geometry::Located;
 use plane::Corners;
 use points::answer::{AnswerNames, NoPoint, Said};
-use std::fs::File;
 use std::io::Read;
 use std::rt::Files;
 use std::{fmt, io};
@@ -55,9 +54,7 @@ impl fmt::Display for TextError {
 
 // The text in text.json. A file that fills the space has too many bytes.
 fn read_text<'s>(rt: &impl Files, space: &'s mut [u8; TEXT_SPACE]) -> Result<&'s [u8], TextError> {
-    let mut file = File::open(rt, "text.json")?;
-    let (n, ended) = lent_file::fill(&mut file, space);
-    ended?;
+    let n = lent_file::read_file(rt, "text.json", space)?;
     if n == space.len() {
         return Err(TextError::TooLong);
     }
@@ -79,33 +76,31 @@ struct Ended;
 // Lines that are not printed yet.
 #[derive(Drop)]
 struct Output {
-    bytes: [u8; BLOCK],
-    used: usize,
-    ghost inside: { used ≤ 65536 },
+    lines: ArrayVec<u8, BLOCK>,
 }
 
 impl Output {
     fn new() -> Output {
         Output {
-            bytes: [0; BLOCK],
-            used: 0,
+            lines: ArrayVec::new(),
         }
     }
 
     // Puts a line behind the others, where there is room.
     fn put<L: Line + Drop>(&mut self, line: L)
-        ensures { record { out = self.new.bytes; at = self.new.used } ≡ write self.old.bytes self.old.used (L.text line) }
+        ensures { length self.old.lines.items + 64 ≤ 65536 → self.new.lines.items ≡ self.old.lines.items ++ L.text line }
     {
-        self.used = text::write(&mut self.bytes, self.used, line);
+        let text = line.text();
+        let _ = self.lines.try_extend_from_slice(text.as_bytes());
     }
 
     // Prints the lines.
     fn print(&mut self, rt: &impl Print) -> Result<(), Ended>
-        ensures { (self.new.bytes ≡ self.old.bytes) × (self.new.used ≡ 0) }
+        ensures { self.new.lines.items ≡ [] }
     {
-        let used = self.used;
-        self.used = 0;
-        rt.write_all(&self.bytes[..used]).map_err(|_| Ended)
+        let printed = rt.write_all(&self.lines);
+        self.lines.clear();
+        printed.map_err(|_| Ended)
     }
 }
 
@@ -124,9 +119,9 @@ impl<'a, P: Print, E: Print> Session<'a, P, E> {
     // Puts the line of an answer behind the output, which is printed first where it has no room for one. Ruled out: a point outside that is said to
     // be inside, and the number of another refusal.
     fn say(&mut self, a: Result<Located, Refusal>)
-        ensures { record { out = self.new.output.bytes; at = self.new.output.used } ≡ write self.old.output.bytes (cond (has_room 65536 self.old.output.used) self.old.output.used 0) (said_line a) }
+        ensures { self.new.output.lines.items ≡ cond (has_room 65536 (length self.old.output.lines.items)) self.old.output.lines.items [] ++ said_line a }
     {
-        if !text::has_room(BLOCK, self.output.used) {
+        if !text::has_room(BLOCK, self.output.lines.len()) {
             let _ = self.output.print(self.rt);
         }
         self.output.put(Said(a));

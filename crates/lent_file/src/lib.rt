@@ -1,11 +1,13 @@
 // Files read into lent bytes, for the programs.
 #![tactic(auto)]
 
-ghost use Rattle.std.specs.Prelude.{◌≤◌, ◌<◌, length, take, OnOk};
+ghost use Rattle.std.specs.Prelude.{◌≤◌, ◌<◌, length, take, OnOk, IfOk};
 ghost use Rattle.std.specs.Io.KnownBytes.{Consumes, IsAtEnd};
 
+use std::fs::File;
 use std::io;
 use std::io::Read;
+use std::rt::Files;
 
 // Reads until the space is full, the file ends or a read fails: how many bytes that gives, and how the reading ended. What was read stands at the
 // front of the space. Ruled out: a program that gives more bytes than the space has, one that loses bytes where a later read fails, and one that
@@ -25,4 +27,15 @@ pub fn fill<R: Read>(file: &mut R, space: &mut [u8]) -> (usize, io::Result<()>)
         }
     }
     (n, Ok(()))
+}
+
+// Opens a file, and reads it as far as there is space: how many bytes that gives. A read that fails is an error, so that the bytes before it are not
+// taken for the file. Ruled out: a program that counts a byte behind a full space, and one that gives the size of a file that has no room in it.
+pub fn read_file(rt: &impl Files, name: &str, space: &mut [u8]) -> io::Result<usize>
+    ensures { IfOk result (λ n. n ≤ length space.new) }
+{
+    let mut file = File::open(rt, name)?;
+    let (n, ended) = fill(&mut file, space);
+    ended?;
+    Ok(n)
 }

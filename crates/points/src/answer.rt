@@ -9,6 +9,7 @@ use itoa::Buffer;
 use text::Line;
 
 // The word of a place.
+// Stays: no `Display` of `Place`, for the reason at `text::Line`.
 fn place_word(p: Place) -> &'static str
     ensures { (result.now ≡ place_word p) × (length result.now ≤ 7) }
 {

@@ -12,6 +12,7 @@ use text::{RefusedBook, StreamNames};
 #[derive(Clone, Copy)]
 pub struct Reported {
     pub read: usize,
+    // Stays: apart from the output, which is lent for one call and read by its owner after it.
     pub used: usize,
     pub answer: Answer,
 }
@@ -35,7 +36,8 @@ fn write_answer(out: &mut [u8], at: usize, a: Answer) -> usize
 }
 
 // Feeds what is unread of a piece, and writes the line of the verdict if there is one.
-// Stays: with the parameters of `report`, the only function that calls it: a struct of them is made once, for one call.
+// Stays: `reader`, `work` and `out` apart, as `report` and `finish` are lent them: of a struct with them each contract would say besides that it still
+// holds the same three references.
 fn report_next(
     x: Reported,
     reader: &mut Reader,

@@ -10,6 +10,8 @@ use itoa::Buffer;
 use verdict::{Verdict, Word};
 
 // What can be written: lines of at most 64 bytes in all.
+// Stays: a trait of its own in place of `Display`: of `write!` and `fmt` the clauses say which bytes come out where they answer Ok, and none says that
+// they do where there is room, so that `text` could not promise its bytes.
 pub trait Line {
     ghost text: { Self → List ℕ };
 
@@ -26,7 +28,8 @@ pub fn has_room(len: usize, at: usize) -> bool
 }
 
 // Writes a line from a place on, and answers the place after it; where the buffer has less than 64 bytes from there, it writes nothing. Ruled out:
-// a line with the number of another refusal, and one that is written where the buffer has no room for it.
+// a line that is written where the buffer has no room for it, and one after which the place is as before.
+// Stays: the place beside the buffer, which is lent: the caller writes the next line from the place that it gets, and prints the bytes before it.
 pub fn write<L: Line + Drop>(out: &mut [u8], at: usize, line: L) -> usize
     ensures written { record { out = out.new; at = result } ≡ write out.old at (L.text line) }
     ensures short { result ≤ at + 64 }
@@ -56,6 +59,7 @@ impl Line for StreamNames {
 }
 
 // The word of a verdict.
+// Stays: no `Display` of `Word`, for the reason at `Line`.
 fn word_of(word: Word) -> &'static str
     ensures { (result.now ≡ word_text word) × (length result.now ≤ 7) }
 {
@@ -69,6 +73,7 @@ fn word_of(word: Word) -> &'static str
 impl Line for Verdict {
     ghost text = { line_of };
 
+    // Ruled out: the number of another refusal, and the place before.
     fn text(self) -> ArrayString<64> {
         let mut text = ArrayString::new();
         text.push_str(word_of(self.word()));
@@ -91,6 +96,7 @@ pub struct RefusedBook {
 impl Line for RefusedBook {
     ghost text = { λ x. book_lines x.number x.line };
 
+    // Ruled out: the line in place of the number, and a number that lacks a digit.
     fn text(self) -> ArrayString<64> {
         let mut text = ArrayString::new();
         text.push_str("number line\n");

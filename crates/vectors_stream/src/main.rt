@@ -1,12 +1,7 @@
 // Makes the calls of data/calls, one after the other, and writes what each answers: CALLS.md says how a call is written.
 #![tactic(auto)]
 
-ghost use Rattle.std.specs.Prelude.{◌≤◌, length, IfOk};
-
-use reader::{Answer, Reader, Refusal};
-use std::fs::File;
-use std::io;
-use std::rt::Files;
+use reader::{Answer, Reader};
 use table::flat::Table;
 use verdict::Verdict;
 
@@ -42,58 +37,60 @@ struct Calls<'a> {
     size: usize,
 }
 
-// A call on the bytes that are lent: s start, f feed, else a close, after which the reader's tally is written.
-fn call_reader(
-    rt: &impl Print,
-    op: u8,
-    reader: &mut Reader,
-    table: &Table,
-    work: &mut [u8],
-    piece: &[u8],
-) {
-    match op {
-        b's' => {
-            let started = Reader::start(table, work);
-            *reader = started.unwrap_or(Reader::unstarted());
-            say_answer(rt, 0, started.map(|_| None));
-        }
-        b'f' => match reader.feed(table, work, piece) {
+impl Calls<'_> {
+    // Starts on the bytes that are lent.
+    fn start(&mut self, rt: &impl Print) {
+        let Some(work) = self.buffer.get_mut(..self.size) else {
+            return;
+        };
+        let started = Reader::start(self.table, work);
+        self.reader = started.unwrap_or(Reader::unstarted());
+        say_answer(rt, 0, started.map(|_| None));
+    }
+
+    fn feed(&mut self, rt: &impl Print, piece: &[u8]) {
+        let Some(work) = self.buffer.get_mut(..self.size) else {
+            return;
+        };
+        match self.reader.feed(self.table, work, piece) {
             Ok(fed) => say_answer(rt, fed.count, Ok(fed.verdict)),
             Err(refusal) => say_answer(rt, 0, Err(refusal)),
-        },
-        _ => {
-            let answer = reader.close(table, work);
-            say_answer(rt, 0, answer);
-            let y = reader.tally;
-            let _ = println!(rt; "tally {} {} {}", y.valid, y.invalid, y.refused);
         }
     }
-}
 
-impl Calls<'_> {
-    // One call: s start, f feed, c close; b loads a book, e gives its table a count of edges, n gives the buffer's size, w fills the
-    // buffer with a byte.
+    // Closes, and writes the reader's tally.
+    fn close(&mut self, rt: &impl Print) {
+        let Some(work) = self.buffer.get_mut(..self.size) else {
+            return;
+        };
+        let answer = self.reader.close(self.table, work);
+        say_answer(rt, 0, answer);
+        let y = self.reader.tally;
+        let _ = println!(rt; "tally {} {} {}", y.valid, y.invalid, y.refused);
+    }
+
+    // Gives the table a count of edges, in two bytes.
+    fn set_edges(&mut self, low: u8, high: u8) {
+        let mut bytes = *self.table.bytes();
+        bytes[0] = low;
+        bytes[1] = high;
+        *self.table = Table::from(bytes);
+    }
+
+    // One call, by its letter in CALLS.md.
     fn call(&mut self, rt: &impl Print, op: u8, n: u16, piece: &[u8]) {
         let [low, high] = n.to_le_bytes();
         match op {
             b'b' => {
                 let _ = load::load(piece, self.table);
             }
-            b'e' => {
-                let mut bytes = *self.table.bytes();
-                bytes[0] = low;
-                bytes[1] = high;
-                *self.table = Table::from(bytes);
-            }
+            b'e' => self.set_edges(low, high),
             b'n' => self.size = usize::from(n),
             b'w' => self.buffer.fill(low),
-            _ => {
-                let size = self.size;
-                if size <= self.buffer.len() {
-                    let work = &mut self.buffer[..size];
-                    call_reader(rt, op, &mut self.reader, self.table, work, piece);
-                }
-            }
+            b's' => self.start(rt),
+            b'f' => self.feed(rt, piece),
+            b'c' => self.close(rt),
+            _ => {}
         }
     }
 
@@ -112,17 +109,9 @@ impl Calls<'_> {
     }
 }
 
-// The content of a file, as far as there is space.
-fn content(rt: &impl Files, path: &str, space: &mut [u8]) -> io::Result<usize>
-    ensures { IfOk result (λ n. n ≤ length space.new) }
-{
-    let mut file = File::open(rt, path)?;
-    Ok(lent_file::fill(&mut file, space).0)
-}
-
 fn main(rt: HostRuntime) {
     let mut space = [0u8; 65536];
-    match content(&rt, "calls", &mut space) {
+    match lent_file::read_file(&rt, "calls", &mut space) {
         Ok(n) => {
             let mut buffer = [0u8; 6240];
             let mut table = Table::empty();

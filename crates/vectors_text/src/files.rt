@@ -5,10 +5,8 @@ ghost use Rattle.std.specs.Prelude.{◌≤◌, length};
 use crate::WORK;
 use crate::say::Entries;
 use entries::feeds;
-use std::fs::File;
-use std::io::ErrorKind;
 use std::rt::Files;
-use std::{io, str};
+use std::str;
 use table::flat::Table;
 
 // More bytes than an RS and any file of data/ have.
@@ -17,22 +15,14 @@ const SPACE: usize = 262144;
 // The bytes that are read of the book, and of the names.
 const BLOCK: usize = 65536;
 
-// Opens a file for reading.
-fn open<R: Files>(rt: &R, path: &[u8]) -> io::Result<R::File> {
-    match str::from_utf8(path) {
-        Ok(name) => File::open(rt, name),
-        Err(_) => Err(io::Error::from(ErrorKind::InvalidInput)),
-    }
-}
-
-// The content of a file, as far as there is space. A file that cannot be opened counts as empty, and its name is said on standard error.
+// The content of a file, as far as there is space. A file that cannot be read counts as empty, and its name is said on standard error.
 fn content(rt: &(impl Files + Eprint), path: &[u8], space: &mut [u8]) -> usize
     ensures { result ≤ length space.new }
 {
-    match open(rt, path) {
-        Ok(mut file) => lent_file::fill(&mut file, space).0,
+    let name = str::from_utf8(path).unwrap_or("");
+    match lent_file::read_file(rt, name, space) {
+        Ok(n) => n,
         Err(e) => {
-            let name = str::from_utf8(path).unwrap_or("");
             let _ = eprintln!(rt; "{name}: {e}");
             0
         }
@@ -73,7 +63,7 @@ fn run_file(
 }
 
 // How many files are JSON, and how many are not.
-#[derive(Clone, Copy)]
+#[derive(Clone, Copy, Default)]
 struct Count {
     json: u32,
     not: u32,
@@ -91,7 +81,7 @@ impl Count {
 }
 
 // The files by the first letter of their names: y has to be JSON, n must not be, any other may.
-#[derive(Clone, Copy)]
+#[derive(Clone, Copy, Default)]
 struct Counts {
     yes: Count,
     no: Count,
@@ -99,15 +89,6 @@ struct Counts {
 }
 
 impl Counts {
-    fn none() -> Counts {
-        let none = Count { json: 0, not: 0 };
-        Counts {
-            yes: none,
-            no: none,
-            either: none,
-        }
-    }
-
     fn add(&mut self, name: &[u8], json: bool) {
         match name.first() {
             Some(b'y') => self.yes.add(json),
@@ -125,7 +106,7 @@ impl Counts {
 
 // Each file that has a line in names.
 fn run_names(rt: &(impl Files + Print + Eprint), table: &Table, names: &[u8]) -> Counts {
-    let mut counts = Counts::none();
+    let mut counts = Counts::default();
     let mut space = [30u8; SPACE];
     let mut rest = names;
     while let Some(end) = rest.iter().position(|b| *b == b'\n') {

@@ -19,7 +19,8 @@ fn key_states<'a>(frame: &'a Frame, from: &'a States, table: &'a Table, key: u8)
 }
 
 // Goes on from some states over the seen keys of byte 16 + i, ascending; a key that was not seen changes nothing.
-// Stays: one of the 16 bytes of the keys seen, since the frame is read by index.
+// Stays: a clause for one of the 16 bytes of the keys seen, since a read that is total has to say what the keys of a byte past the frame are, and the
+// loop of `walk` has no such byte.
 fn walk_byte<'a>(states: &mut States, frame: &'a Frame, table: &'a Table, i: u8)
     requires { i < 16 }
     ensures { states.new ≡ walked (edges_in table.now) frame.now (8 * i) states.old 8 }
@@ -48,7 +49,7 @@ fn walk<'a>(frame: &'a Frame, table: &'a Table) -> States
 }
 
 // Rule r has an end state among the states: its 16 states are two bytes.
-// Stays: a rule that the states have, since their array is read by index; `accepts` has tested it.
+// Stays: a clause for a rule that the states have, since a read that is total tests the place of both bytes again: `accepts` has tested the rule.
 fn has_end<'a>(states: &'a States, table: &'a Table, r: usize) -> bool
     requires { r < 32 }
     ensures { result ≡ has_end table.now.ends states.now r }

@@ -110,7 +110,7 @@ pub fn open_level(work: &mut [u8], level: usize, form: Form, table: &Table)
 }
 
 // A finished key in the frame of a level: the number of a key of the book, or any number above 127 for a key that it does not have.
-// Stays: a number, since a frame has one byte for it, and 255 is what that byte holds for such a key.
+// Stays: a number, since with `Option<u8>` the number in a `Some` has to be tested against 128 as it is now, and `None` would be one case more.
 // Ruled out: a program that leaves a repeated key without the mark; one that sets a bit for an unknown key.
 pub fn key_level(work: &mut [u8], level: usize, key: u8)
     ensures { work.new ≡ put_frame work.old level (keyed key (frame_at work.old level)) }

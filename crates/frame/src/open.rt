@@ -1,17 +1,18 @@
 // Opening: REQUIREMENT.md, section 5.
-ghost use Rattle.std.specs.Prelude.{List, ◌≡◌, ℕ, ◌+◌, ◌*◌, ◌≤◌, length};
+ghost use Rattle.std.specs.Prelude.{List, ◌≡◌, ℕ, ◌+◌, ◌*◌, ◌≤◌};
 ghost use Rattle.laws.specs.Bits.{set_all};
 ghost use Rattle.table.specs.Kind.{form_number};
 ghost use Rattle.frame.specs.Edges.{has_form};
 ghost use Rattle.frame.specs.Ops.{opened};
 
-use crate::{FRAME, Frame, edge};
+use crate::{FRAME, Frame, States, edge};
 use table::flat::Table;
 use table::kind::Form;
 
 // Adds state 0 of those of eight rules that are of a form. State 0 of rule r is bit 0 of byte 2 r.
-fn add_eight(states: &mut [u8], table: &Table, form: Form, from: usize)
-    requires { (length states.old ≡ 64) × (from + 8 ≤ 32) }
+// Stays: a clause for eight rules that the states have, since a write that is total tests the place of each byte, and `add_starts` has no others.
+fn add_eight(states: &mut States, table: &Table, form: Form, from: usize)
+    requires { from + 8 ≤ 32 }
     ensures { (xs : List ℕ) → states.old ≡ set_all (has_form table.now.forms (form_number form)) (λ r. 16 * r) from xs → states.new ≡ set_all (has_form table.now.forms (form_number form)) (λ r. 16 * r) (from + 8) xs }
 {
     for r in from..from + 8 {
@@ -20,9 +21,8 @@ fn add_eight(states: &mut [u8], table: &Table, form: Form, from: usize)
 }
 
 // Adds state 0 of every rule of a form. Eight rules without lines are passed over at once.
-// Stays: a slice, and written in place, since an array that is given back costs 7 in 100 instructions on a stream of numbers.
-pub fn add_starts(states: &mut [u8], table: &Table, form: Form)
-    requires { length states.old ≡ 64 }
+// Stays: written in place, since an array that is given back costs 7 in 100 instructions on a stream of numbers.
+pub fn add_starts(states: &mut States, table: &Table, form: Form)
     ensures { states.new ≡ set_all (has_form table.now.forms (form_number form)) (λ r. 16 * r) 32 states.old }
 {
     for i in 0..4 {
@@ -41,6 +41,6 @@ pub fn open_frame(frame: &mut Frame, form: Form, table: &Table)
     frame[0] = form.number();
     match form {
         Form::Object => frame[1] = 255,
-        Form::Array => add_starts(&mut frame[32..], table, form),
+        Form::Array => add_starts(frame.last_chunk_mut().unwrap(), table, form),
     }
 }

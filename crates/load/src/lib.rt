@@ -12,6 +12,8 @@ mod read; // read.rt: a book line by line, refusals 1 to 7
 mod check; // check.rt: the checks after all lines, refusals 8 and 9
 
 // Why a book is refused, with the line where there is one.
+// Stays: a list of its own beside `line::Fault`, since the table of refusals in docs/REQUIREMENT.md has each refusal by its own name and number; a variant
+// that holds a `Fault` and a line would hide five of the nine.
 #[derive(Clone, Copy, PartialEq, Eq)]
 pub enum Refusal {
     // 1: empty, or over 65,536 bytes
@@ -55,7 +57,8 @@ impl Refusal {
     }
 
     // The line of a refusal; 0 where it has none.
-    // Stays: 0, since the C interface has no other line for none.
+    // Stays: 0, since the C interface, the entry of a judged stream and the lines that `report` writes all give 0 for none: with an Option each of them
+    // would make the 0 itself.
     pub fn line(self) -> usize
         ensures { result ≡ (refused_as self).line }
     {
@@ -74,7 +77,7 @@ impl Refusal {
 }
 
 // The number of an answer: 0 for a book that is accepted.
-// Stays: a number, since the C interface gives one.
+// Stays: a number, and made here, since two functions of the C interface and `vectors_load` give it: each of them would make the 0 itself.
 pub fn number_of(a: Result<(), Refusal>) -> u8
     ensures { result ≡ (numbered a).number }
 {
@@ -85,7 +88,7 @@ pub fn number_of(a: Result<(), Refusal>) -> u8
 }
 
 // The line of an answer: 0 where it has none.
-// Stays: 0, since the C interface has no other line for none.
+// Stays: 0, and made here, as in `number_of`.
 pub fn line_of(a: Result<(), Refusal>) -> usize
     ensures { result ≡ (numbered a).line }
 {

@@ -36,6 +36,8 @@ fn take_line(table: &mut Table, n: u16, l: &[u8]) -> Result<(), Fault>
 }
 
 // The lines after the names line.
+// Stays: a count beside what is left. `split_inclusive` with `enumerate` gives a last piece without an LF as an item too, so that the loop would take the
+// LF off each piece and test for it, where `scan::cut` gives the line without it or none.
 fn take_lines(table: &mut Table, lines: &[u8]) -> Result<(), Refusal>
     requires { length lines.now ≤ 65505 }
     ensures { answered result table.new ≡ take_lines 2 empty_table (split 10 lines.now) }

@@ -16,6 +16,7 @@ use std::marker::Model;
 pub const SIZE: usize = 7920;
 
 // Where each array begins. The counts of edges (two bytes) and keys stand at 0 to 2.
+// Stays: an array for each number of an edge, since this is the layout of the bytes that a caller lends through the C interface: docs/LIMITS.md.
 const RULE: usize = 16;
 
 const STATE: usize = 528;
@@ -74,6 +75,7 @@ impl From<[u8; SIZE]> for Table {
 }
 
 // The numbers of an edge as a table stores them, but for its line. A kind is stored by its code; the key of an edge without one is 128.
+// Stays: a key and a kind by their bytes, as the C interface lays them out. The bytes that a caller lends may be any, and each table is read as it is.
 #[derive(Clone, Copy, PartialEq)]
 pub struct Cell {
     pub rule: u8,
@@ -84,7 +86,8 @@ pub struct Cell {
 }
 
 // Byte i of the N bytes from place AT on; 0 past the last of them.
-// Stays: a part that lies in the table, since its memory is fixed. Both numbers are constants at each call.
+// Stays: a clause for a part that lies in the table. Both numbers are constants at each call, which shows it there; without it the sum may overflow and
+// the part be none, and the function has to say what then.
 #[tactic(auto, unfolding(crate::specs::Flat::part))]
 fn byte_in<const AT: usize, const N: usize>(bytes: &[u8; SIZE], i: usize) -> u8
     requires { AT + N ≤ 7920 }
@@ -136,12 +139,16 @@ impl Table {
         byte_in::<STATE, 512>(&self.bytes, e)
     }
 
+    // The key of an edge.
+    // Stays: a number, the byte of the layout, as in `Cell`.
     pub fn key(&self, e: usize) -> u8
         ensures { result ≡ get_or self.now.edge_key e 0 }
     {
         byte_in::<KEY, 512>(&self.bytes, e)
     }
 
+    // The kind of an edge, by its code.
+    // Stays: a number, the byte of the layout, as in `Cell`.
     pub fn kind(&self, e: usize) -> u8
         ensures { result ≡ get_or self.now.edge_kind e 0 }
     {
@@ -214,7 +221,8 @@ impl Table {
     }
 
     // The eight rules from r on have no form: one test for all of them, so that loops can pass over them.
-    // Stays: eight rules that the table has, since what is past them would cost each call a test that no caller needs.
+    // Stays: a clause for eight rules that the table has: without it the function tests the place, and says of rules that no table has that they have
+    // no form. The one loop that asks has no such rules.
     pub fn no_forms(&self, r: usize) -> bool
         requires { r + 8 ≤ 32 }
         ensures { result ≡ true → (k : ℕ) → k < 8 → get_or self.now.forms (r + k) 0 ≡ 0 }

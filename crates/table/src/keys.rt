@@ -24,7 +24,8 @@ impl Table {
     }
 
     // That number as a frame stores it: 255 stands for a key that the table doesn't have.
-    // Stays: a number, since a frame's byte holds it, and 255 is what it holds for such a key.
+    // Stays: a number, which is what `frame::key_level` takes: any above 127 is that of an unknown key there, so that an Option would be tested first and
+    // its number then.
     pub fn number(&self, key: &[u8; 32], len: u8) -> u8
         ensures { result ≡ key_found self.now key.now len }
     {

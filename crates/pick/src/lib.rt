@@ -13,6 +13,7 @@ pub fn pick(s: &[u8], n: usize) -> &[u8]
 {
     let mut rest = s;
     let mut left = n;
+    // Stays: a loop with a count: with `split`, `filter` and `nth` as one chain the goal `returns` is not proved.
     while let Some((part, behind)) = scan::cut(rest, RS) {
         if 0 < part.len() {
             if left == 0 {

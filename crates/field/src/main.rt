@@ -54,7 +54,8 @@ impl fmt::Display for TextError {
 
 // The text in text.json. A file that fills the space has too many bytes.
 fn read_text<'s>(rt: &impl Files, space: &'s mut [u8; TEXT_SPACE]) -> Result<&'s [u8], TextError> {
-    let n = lent_file::read_file(rt, "text.json", space)?;
+    let (n, ended) = lent_file::read_file(rt, "text.json", space)?;
+    ended?;
     if n == space.len() {
         return Err(TextError::TooLong);
     }

@@ -25,8 +25,8 @@ struct Ended;
 // The book in book.txt. One that cannot be read to its end counts as empty, which no book is.
 fn read_book<'s>(rt: &impl Files, space: &'s mut [u8; BOOK_SPACE]) -> &'s [u8] {
     match lent_file::read_file(rt, "book.txt", space) {
-        Ok(n) => &space[..n],
-        Err(_) => &[],
+        Ok((n, Ok(()))) => &space[..n],
+        _ => &[],
     }
 }
 

@@ -29,13 +29,15 @@ pub fn fill<R: Read>(file: &mut R, space: &mut [u8]) -> (usize, io::Result<()>)
     (n, Ok(()))
 }
 
-// Opens a file, and reads it as far as there is space: how many bytes that gives. A read that fails is an error, so that the bytes before it are not
-// taken for the file. Ruled out: a program that counts a byte behind a full space, and one that counts a byte where the space has room for none.
-pub fn read_file(rt: &impl Files, name: &str, space: &mut [u8]) -> io::Result<usize>
-    ensures { IfOk result (λ n. n ≤ length space.new) }
+// Opens a file, and reads it as `fill` does. Ruled out: a program that counts a byte behind a full space, and one that counts a byte where the space
+// has none.
+pub fn read_file(
+    rt: &impl Files,
+    name: &str,
+    space: &mut [u8],
+) -> io::Result<(usize, io::Result<()>)>
+    ensures { IfOk result (λ r. r.0 ≤ length space.new) }
 {
     let mut file = File::open(rt, name)?;
-    let (n, ended) = fill(&mut file, space);
-    ended?;
-    Ok(n)
+    Ok(fill(&mut file, space))
 }

@@ -21,9 +21,9 @@ fn tell(rt: &impl Print, book: &[u8]) {
     let _ = println!(rt; "{number} {line}");
 }
 
-// Reads a book, and tells its answer.
+// Reads a book as far as there is space and no read fails, and tells its answer.
 fn tell_file(rt: &(impl Files + Print), name: &str, space: &mut [u8]) -> io::Result<()> {
-    let n = lent_file::read_file(rt, name, space)?;
+    let (n, _) = lent_file::read_file(rt, name, space)?;
     tell(rt, &space[..n]);
     Ok(())
 }

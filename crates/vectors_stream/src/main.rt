@@ -77,7 +77,7 @@ impl Calls<'_> {
         *self.table = Table::from(bytes);
     }
 
-    // One call, by its letter in CALLS.md.
+    // One call, by its letter in CALLS.md; any other than those is a close.
     fn call(&mut self, rt: &impl Print, op: u8, n: u16, piece: &[u8]) {
         let [low, high] = n.to_le_bytes();
         match op {
@@ -89,8 +89,7 @@ impl Calls<'_> {
             b'w' => self.buffer.fill(low),
             b's' => self.start(rt),
             b'f' => self.feed(rt, piece),
-            b'c' => self.close(rt),
-            _ => {}
+            _ => self.close(rt),
         }
     }
 
@@ -112,7 +111,7 @@ impl Calls<'_> {
 fn main(rt: HostRuntime) {
     let mut space = [0u8; 65536];
     match lent_file::read_file(&rt, "calls", &mut space) {
-        Ok(n) => {
+        Ok((n, _)) => {
             let mut buffer = [0u8; 6240];
             let mut table = Table::empty();
             let started = Reader::start(&table, &buffer);

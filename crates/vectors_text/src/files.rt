@@ -5,8 +5,9 @@ ghost use Rattle.std.specs.Prelude.{◌≤◌, length};
 use crate::WORK;
 use crate::say::Entries;
 use entries::feeds;
+use std::io::ErrorKind;
 use std::rt::Files;
-use std::str;
+use std::{io, str};
 use table::flat::Table;
 
 // More bytes than an RS and any file of data/ have.
@@ -15,14 +16,15 @@ const SPACE: usize = 262144;
 // The bytes that are read of the book, and of the names.
 const BLOCK: usize = 65536;
 
-// The content of a file, as far as there is space. A file that cannot be read counts as empty, and its name is said on standard error.
+// The content of a file, as far as there is space. A file that cannot be opened counts as empty, and its name is said on standard error.
 fn content(rt: &(impl Files + Eprint), path: &[u8], space: &mut [u8]) -> usize
     ensures { result ≤ length space.new }
 {
-    let name = str::from_utf8(path).unwrap_or("");
-    match lent_file::read_file(rt, name, space) {
-        Ok(n) => n,
+    let name = str::from_utf8(path).map_err(|_| io::Error::from(ErrorKind::InvalidInput));
+    match name.and_then(|name| lent_file::read_file(rt, name, space)) {
+        Ok((n, _)) => n,
         Err(e) => {
+            let name = str::from_utf8(path).unwrap_or("");
             let _ = eprintln!(rt; "{name}: {e}");
             0
         }

@@ -12,7 +12,7 @@ use Rattle.boundary.specs.Walk.{is_gap_byte, Stretch, Walked}
 use Rattle.boundary.specs.declared.walk.Walk.{Walk}
 use Rattle.boundary.specs.declared.walk.Numbers.{Numbers}
 
--- a walk that begins: nothing is read behind an RS
+-- a walk that begins: the reader is behind an RS, and has read nothing of a record
 abbrev pub begun : Walk
 begun = record { reader = fresh_reader 3 false zero_tally; work = replicate 288 0; at = 0; numbers = record { taken = 0; unfit = false } }
 

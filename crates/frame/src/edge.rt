@@ -42,8 +42,8 @@ fn next_state(table: &Table, e: usize) -> usize
 }
 
 // Rule r is of a form; one above 31 is of none.
-// Stays: the test of 31. Without it `ltb r 32` in the definition is left to show, and what would show it, that a table has 32 forms, is an invariant
-// of the table's bytes, which only `table` sees.
+// Stays: the test of 31. Without it the goal `returns` is not proved: that a table has 32 forms is an invariant of its bytes, which the clause of
+// `Table::has_form` does not tell.
 #[tactic(auto, unfolding(crate::specs::Edges::has_form))]
 pub fn has_form(table: &Table, r: usize, form: Form) -> bool
     ensures { result ≡ has_form table.now.forms (form_number form) r }

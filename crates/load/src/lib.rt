@@ -88,7 +88,7 @@ pub fn number_of(a: Result<(), Refusal>) -> u8
 }
 
 // The line of an answer: 0 where it has none.
-// Stays: 0, and made here, as in `number_of`.
+// Stays: 0, and made here, as in `Refusal::line`.
 pub fn line_of(a: Result<(), Refusal>) -> usize
     ensures { result ≡ (numbered a).line }
 {

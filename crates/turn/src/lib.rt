@@ -24,7 +24,7 @@ pub struct Record {
     pub root: bool,
 }
 
-// The kind of the innermost open value.
+// What the innermost open value is, if there is one.
 #[tactic(auto, unfolding(progress::specs::Memory::top_at, frame::specs::Frame::form_in))]
 pub fn top_of(work: &[u8], level: usize) -> Top
     ensures { result ≡ top_at work.now level }

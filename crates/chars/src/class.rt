@@ -1,7 +1,7 @@
 // The class of each byte, read from a table.
 ghost use Rattle.std.specs.Prelude.{◌≡◌};
 ghost use Rattle.json_text.specs.Classes.{class_of};
-ghost use Rattle.chars.specs.Table.{class_table};
+ghost use Rattle.chars.specs.Table.{class_table, class_at};
 
 use json_text::class::Class;
 use json_text::class::Class::{
@@ -57,6 +57,14 @@ const CLASSES: [Class; 256] = [
     Never, Never, Never,
 ];
 
+// The class that a lent table gives to byte b. Ruled out: a program that reads the class of another byte, and one that reads its own table in place
+// of the lent one.
+pub fn class_in(table: &[Class; 256], b: u8) -> Class
+    ensures { result ≡ class_at table.now b }
+{
+    table[b as usize]
+}
+
 // The class of each byte. A constant is built anew wherever it is used, so a caller with many bytes makes this once and lends it.
 #[derive(Drop)]
 pub struct Classes {
@@ -69,9 +77,16 @@ impl Classes {
         Classes { table: CLASSES }
     }
 
+    // The table, which gives each byte its class. Ruled out: a table with one class for all bytes, and one that gives a byte the class of the next.
+    pub fn table(&self) -> &[Class; 256]
+        ensures { result.now ≡ class_table }
+    {
+        &self.table
+    }
+
     pub fn of(&self, b: u8) -> Class
         ensures { result ≡ class_of b }
     {
-        self.table[b as usize]
+        class_in(&self.table, b)
     }
 }

@@ -1,8 +1,10 @@
 // Strings and keys: what a byte does, and the number of the character that it finishes.
 ghost use Rattle.std.specs.Prelude.{◌≡◌};
 ghost use Rattle.json_text.specs.Lexer.{char_start, unescape, escape_move, hex_of, any_hex, unit1, unit_d, low1, low2, only, ranged, string_move, lead_bits, tail_bits, hex_bits, pair_of, bits_after, high_after, char_of};
+ghost use Rattle.chars.specs.Table.{class_at};
+ghost use Rattle.chars.specs.Given.{move_by};
 
-use super::class::Classes;
+use super::class::{Classes, class_in};
 use json_text::class::Class;
 use json_text::string::{StringMode, StringMove};
 
@@ -140,13 +142,13 @@ fn ranged(lo: u8, hi: u8, b: u8, m: StringMove) -> StringMove
     }
 }
 
-// What byte b does inside a string. The second byte of a UTF-8 sequence is found row by row, as RFC 3629, section 4,
-// lists them. Ruled out: A0 after ED, which begins a surrogate, and 9F after E0, which begins a sequence that is longer than needed.
-pub fn string_move(classes: &Classes, s: StringMode, b: u8) -> StringMove
-    ensures { result ≡ string_move s b }
+// What byte b does inside a string, with its class from a lent table. The second byte of a UTF-8 sequence is found row by row, as RFC 3629,
+// section 4, lists them. Ruled out: A0 after ED, which begins a surrogate, and 9F after E0, which begins a sequence that is longer than needed.
+pub fn string_move_in(table: &[Class; 256], s: StringMode, b: u8) -> StringMove
+    ensures { result ≡ move_by (class_at table.now b) s b }
 {
     match s {
-        StringMode::Char => char_start(classes.of(b)),
+        StringMode::Char => char_start(class_in(table, b)),
         StringMode::Escape => escape_move(b),
         StringMode::Unit1 => unit1(hex_of(b)),
         StringMode::Unit2 => any_hex(hex_of(b), StringMove::Go(StringMode::Unit3)),
@@ -178,6 +180,13 @@ pub fn string_move(classes: &Classes, s: StringMode, b: u8) -> StringMove
         StringMode::Tail2 => ranged(0x80, 0xBF, b, StringMove::Go(StringMode::Tail1)),
         StringMode::Tail1 => ranged(0x80, 0xBF, b, StringMove::Char),
     }
+}
+
+// What byte b does inside a string. Ruled out: a control character that is let through, and C1 as the first byte of a UTF-8 sequence.
+pub fn string_move(classes: &Classes, s: StringMode, b: u8) -> StringMove
+    ensures { result ≡ string_move s b }
+{
+    string_move_in(classes.table(), s, b)
 }
 
 // The bits of the first byte of a UTF-8 sequence.

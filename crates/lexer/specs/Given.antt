@@ -1,20 +1,13 @@
 -- What a byte does where its class is handed over with it. Derived: `step_by-class_of` in proofs/ says that with the byte's own class this is
 -- `step_of`. Assumes nothing.
 use Rattle.std.specs.Prelude.{ℕ}
-use Rattle.json_text.specs.Lexer.{char_start, string_move, place_step, key_step, text_step, number_step, word_step, number_move, word_move}
+use Rattle.json_text.specs.Lexer.{place_step, key_step, text_step, number_step, word_step, number_move, word_move}
 use Rattle.json_text.specs.declared.class.Class.{Class}
-use Rattle.json_text.specs.declared.string.StringMode.{StringMode}
-use Rattle.json_text.specs.declared.string.StringMode.TheVariants as S
-use Rattle.json_text.specs.declared.string.StringMove.{StringMove}
 use Rattle.json_text.specs.declared.lexer.Mode.{Mode}
 use Rattle.json_text.specs.declared.lexer.Mode.TheVariants as M
 use Rattle.json_text.specs.declared.lexer.Top.{Top}
 use Rattle.json_text.specs.declared.lexer.Step.{Step}
-
--- `string_move`, but that the class of byte b is k: it counts where a character is awaited
-abbrev pub move_by : Class → StringMode → ℕ → StringMove
-move_by k S.Char b = char_start k
-move_by k s b = string_move s b
+use Rattle.chars.specs.Given.{move_by}
 
 -- `step_of`, but that the class of byte b is k
 abbrev pub step_by : Class → Mode → Top → ℕ → Step

@@ -2,11 +2,14 @@
 ghost use Rattle.std.specs.Prelude.{◌≡◌};
 ghost use Rattle.json_text.specs.Bytes.{is_blank};
 ghost use Rattle.json_text.specs.Lexer.{step_to, fault_step, stay, value_start, at_value, at_first_element, at_first_key, at_key, at_colon, after_root, after_element, after_pair, after_value, at_first, place_step, key_step, text_step, ended_before, number_step, word_step, number_move, word_move, step_of};
+ghost use Rattle.chars.specs.Table.{class_at};
+ghost use Rattle.lexer.specs.Given.{step_by};
 
 use super::number::number_move;
 use super::word::word_move;
 use chars::class::Classes;
-use chars::string::string_move;
+use chars::string::string_move_in;
+use json_text::class::Class;
 use json_text::lexer::{Act, Awaited, Mode, Step, Top};
 use json_text::number::{NumberMode, NumberMove};
 use json_text::string::{StringMode, StringMove};
@@ -240,16 +243,26 @@ fn word_step(w: Word, i: u8, b: u8) -> Step
     }
 }
 
-// What byte b does in mode m, with the innermost open value of kind top.
+// What byte b does in mode m, with the innermost open value of kind top and the byte's class from a lent table. Ruled out: a key that is read like a
+// string that is a value, and a word of which a letter is passed over.
+#[inline(always)]
+pub fn step_in(table: &[Class; 256], m: Mode, top: Top, b: u8) -> Step
+    ensures { result ≡ step_by (class_at table.now b) m top b }
+{
+    match m {
+        Mode::At(p) => place_step(p, top, b),
+        Mode::Key(s) => key_step(string_move_in(table, s, b)),
+        Mode::Text(s) => text_step(string_move_in(table, s, b)),
+        Mode::Number(n) => number_step(n, top, b),
+        Mode::Word(w, i) => word_step(w, i, b),
+    }
+}
+
+// What byte b does in mode m, with the innermost open value of kind top. Ruled out: a step by a table that gives a byte another class, and a step
+// for another kind of open value.
 #[inline(always)]
 pub fn step(classes: &Classes, m: Mode, top: Top, b: u8) -> Step
     ensures { result ≡ step_of m top b }
 {
-    match m {
-        Mode::At(p) => place_step(p, top, b),
-        Mode::Key(s) => key_step(string_move(classes, s, b)),
-        Mode::Text(s) => text_step(string_move(classes, s, b)),
-        Mode::Number(n) => number_step(n, top, b),
-        Mode::Word(w, i) => word_step(w, i, b),
-    }
+    step_in(classes.table(), m, top, b)
 }

@@ -33,9 +33,10 @@ fn clash_at(table: &Table, a: usize, b: usize) -> bool
 {
     let first = table.cell(a);
     let second = table.cell(b);
-    let rising = first.key < second.key;
-    table.has_form(usize::from(first.rule), Form::Object)
-        & ((first.rule == second.rule) & ((first.next == second.state) & !rising))
+    first.rule == second.rule
+        && table.has_form(usize::from(first.rule), Form::Object)
+        && first.next == second.state
+        && first.key >= second.key
 }
 
 // Edges a and b clash, the one way or the other.
@@ -43,13 +44,16 @@ fn clash_at(table: &Table, a: usize, b: usize) -> bool
 fn clashes_at(table: &Table, b: usize, a: usize) -> bool
     ensures { result ≡ clashes_at table.now b a }
 {
-    clash_at(table, a, b) | clash_at(table, b, a)
+    clash_at(table, a, b) || clash_at(table, b, a)
 }
 
-// Edge b clashes with an edge before it, or with itself.
+// Edge b clashes with an edge before it, or with itself. Only an edge of an obj rule clashes with any.
 fn late_at(table: &Table, b: usize) -> bool
     ensures { result ≡ late_at table.now b }
 {
+    if !table.has_form(usize::from(table.rule(b)), Form::Object) {
+        return false;
+    }
     (0..b).any(|a| clashes_at(table, b, a)) | clashes_at(table, b, b)
 }
 

@@ -89,7 +89,7 @@ number-none [] h = refl
 number-none (d ∷ s) h = absurd (omega arith)
 
 -- digits after a number only make it larger
-number_from-ge : (a : ℕ) (s : List ℕ) → a ≤ number_from a s
+pub number_from-ge : (a : ℕ) (s : List ℕ) → a ≤ number_from a s
 unfolding number_from
 number_from-ge a [] = omega arith
 number_from-ge a (d ∷ s) = omega (arith, number_from-ge (a * 10 + (d - 48)) s)

@@ -90,7 +90,7 @@ pub fn value(s: &[u8], limit: u8) -> Option<u8>
 pub fn is_key(s: &[u8]) -> bool
     ensures { result ≡ is_key s.now }
 {
-    (1 <= s.len()) & ((s.len() <= 32) & (all_between(s, 0x21, 0x7E) & (s != b"-".as_slice())))
+    (1..=32).contains(&s.len()) && all_between(s, 0x21, 0x7E) && s != b"-".as_slice()
 }
 
 // The plain kind that a field names.

@@ -20,7 +20,13 @@ use table::kind::Form;
 fn has_cell(table: &Table, c: Cell) -> bool
     ensures { result ≡ has_cell table.now c }
 {
-    (0..table.edges()).any(|e| c == table.cell(e))
+    (0..table.edges()).any(|e| {
+        c.rule == table.rule(e)
+            && c.state == table.state(e)
+            && c.key == table.key(e)
+            && c.kind == table.kind(e)
+            && c.next == table.next(e)
+    })
 }
 
 // ---- keys

@@ -1,14 +1,14 @@
 -- What is written into a table's bytes, as what it does to the table. Assumes nothing.
 use mathlib.Core.Bool.{Bool, true, false, cond}
-use mathlib.Core.List.{List, [], ◌∷◌, ◌++◌}
+use mathlib.Core.List.{List, [], ◌∷◌}
 use mathlib.Core.Path.{◌≡◌, refl, sym, ap, ◌∙◌, fun_ext}
-use Prim.Native.Nat.{ℕ, zero, suc, ◌+◌, ◌*◌, ◌-◌, ◌%◌, ◌/◌, ◌^◌, ◌<◌, ◌≤◌}
+use Prim.Native.Nat.{ℕ, zero, suc, ◌+◌, ◌*◌, ◌%◌, ◌/◌, ◌^◌, ◌<◌, ◌≤◌}
+use native.Mathlib.Numerals.{add-one}
 use native.Mathlib.Omega.{arith}
 use lib.Bits.{bit_or}
 use lib.Dec.{eqb}
-use lib.ListN.{length, get_or, set, take, drop, replicate, length-replicate, length-set}
-use lib.Seq.{get_or-set_same, get_or-set_other, drop-set-lt, take-suc-set, drop-drop}
-use Rattle.std.proofs.lemmas.List.{append_assoc, take-append-drop}
+use lib.ListN.{length, get_or, set, drop, drop_of_length-le, replicate, length-replicate, length-set}
+use lib.Seq.{get_or-set_same, get_or-set_other, drop-set-lt, drop-cons}
 use Rattle.laws.specs.Bits.{set_bit}
 use Rattle.table.specs.Table.{Table}
 use Rattle.table.specs.Flat.{part, table_in, empty_table}
@@ -84,14 +84,18 @@ empty-in-place l e = ap table_in e
 
 -- ---- one key more
 
--- bytes that are copied to a place are written there one after the other
-pub written-all : (w k : List ℕ) (a : ℕ) → a + length k ≤ length w → take a w ++ (k ++ drop (a + length k) w) ≡ written w a k
-unfolding written
-written-all w [] a h = let e : a + 0 ≡ a = omega arith in rw e (take-append-drop a w)
-written-all w (b ∷ k) a h =
-    let e : suc a + length k ≡ a + suc (length k) = omega arith in
-    let v = rw (e, take-suc-set w a b (omega arith), drop-set-lt (a + suc (length k)) w a b (omega arith), append_assoc) at (written-all (set w a b) k (suc a) (omega (arith, length-set w a b))) in
-    v
+-- writing a key, one byte after the other: what is left to write gives v
+module _ (w k v : List ℕ) (a i : ℕ) (inv : written w (a + i) (drop i k) ≡ v) where
+  pub written-more : i < length k → written (set w (a + i) (get_or k i 0)) (a + (i + 1)) (drop (i + 1) k) ≡ v
+  unfolding written
+  written-more h = let e : a + (i + 1) ≡ suc (a + i) = omega arith in rw (e, add-one) (rw (drop-cons k i 0) at inv)
+
+  pub written-end : length k ≤ i → w ≡ v
+  unfolding written
+  written-end h = rw (drop_of_length-le k h) at inv
+
+pub written-start : (w k : List ℕ) (a : ℕ) → written w (a + 0) k ≡ written w a k
+written-start w k a = let e : a + 0 ≡ a = omega arith in rw e
 
 -- bytes written into one part leave the other parts
 written-slot : (l : List ℕ) (k i : ℕ) (bs : List ℕ) → i + length bs ≤ slot_size k
@@ -114,13 +118,9 @@ written-slot l k i (x ∷ bs) h j =
     go true = refl
     go false = refl
 
--- what a copy into the bytes from place a on leaves
-pub copied : (l s k : List ℕ) (a : ℕ) → s ≡ k → take a l ++ (s ++ drop (a + length k - a) (drop a l)) ≡ take a l ++ (k ++ drop (a + length k) l)
-copied l s k a e = let z : a + length k - a ≡ length k = omega arith in rw (e, z, drop-drop (length k) a l)
-
 pub key-in-place : (l w : List ℕ) (t : Table) (k : List ℕ) (at : ℕ) → table_in l ≡ t → length l ≡ 7920 → at ≡ t.keys → t.keys < 128 → length k ≤ 32
-    → w ≡ take (3600 + 32 * at) l ++ (k ++ drop (3600 + 32 * at + length k) l) → table_in (set (set w (7696 + at) (length k)) 2 (at + 1)) ≡ with_key t k
-key-in-place l w t k at is long q room m e0 = table_in-slots _ ∙ ap table_with parts ∙ whole ∙ ap (λ (u : Table). with_key u k) is
+    → w ≡ written l (3600 + 32 * at) k → table_in (set (set w (7696 + at) (length k)) 2 (at + 1)) ≡ with_key t k
+key-in-place l w t k at is long q room m e = table_in-slots _ ∙ ap table_with parts ∙ whole ∙ ap (λ (u : Table). with_key u k) is
   where
     h : at < 128
     h = omega arith
@@ -130,9 +130,6 @@ key-in-place l w t k at is long q room m e0 = table_in-slots _ ∙ ap table_with
 
     o : ℕ → List ℕ
     o = λ j. cond (eqb j 8) (written (s j) (32 * at) k) (s j)
-
-    e : w ≡ written l (3600 + 32 * at) k
-    e = e0 ∙ written-all l k (3600 + 32 * at) (omega arith)
 
     parts : slots (set (set w (7696 + at) (length k)) 2 (at + 1)) ≡ put_at (put_at o 9 at (length k)) 0 2 (at + 1)
     parts = rw (put-slot _ 0 2 _ (omega arith), put-slot _ 9 at _ h, e, fun_ext (written-slot l 8 (32 * at) k (omega arith)))

@@ -17,27 +17,27 @@ pub const SIZE: usize = 7920;
 
 // Where each array begins. The counts of edges (two bytes) and keys stand at 0 to 2.
 // Stays: an array for each number of an edge, since this is the layout of the bytes that a caller lends through the C interface: docs/LIMITS.md.
-const RULE: usize = 16;
+pub const RULE: usize = 16;
 
-const STATE: usize = 528;
+pub const STATE: usize = 528;
 
-const KEY: usize = 1040;
+pub const KEY: usize = 1040;
 
-const KIND: usize = 1552;
+pub const KIND: usize = 1552;
 
-const NEXT: usize = 2064;
+pub const NEXT: usize = 2064;
 
-const LINE_LOW: usize = 2576;
+pub const LINE_LOW: usize = 2576;
 
-const LINE_HIGH: usize = 3088;
+pub const LINE_HIGH: usize = 3088;
 
-const KEY_BYTES: usize = 3600;
+pub const KEY_BYTES: usize = 3600;
 
-const KEY_LEN: usize = 7696;
+pub const KEY_LEN: usize = 7696;
 
-const END: usize = 7824;
+pub const END: usize = 7824;
 
-const FORM: usize = 7888;
+pub const FORM: usize = 7888;
 
 // A table: the numbers of a rule book. It has 7,920 bytes in C, and no more.
 #[repr(C)]
@@ -94,6 +94,17 @@ fn byte_in<const AT: usize, const N: usize>(bytes: &[u8; SIZE], i: usize) -> u8
     ensures { result ≡ get_or (part bytes.now AT N) i 0 }
 {
     bytes[AT..AT + N].get(i).copied().unwrap_or(0)
+}
+
+// The bytes from place a on become those of a key.
+// Stays: byte by byte in a loop. `copy_from_slice` calls `memmove`, which the archive for C would then need from outside.
+fn write_key(bytes: &mut [u8; SIZE], a: usize, key: &[u8])
+    requires { a + length key.now ≤ 7920 }
+    ensures { bytes.new ≡ written bytes.old a key.now }
+{
+    for (i, b) in key.iter().enumerate() {
+        bytes[a + i] = *b;
+    }
 }
 
 impl Table {
@@ -272,7 +283,7 @@ impl Table {
     {
         let at = self.keys() as usize;
         let a = KEY_BYTES + 32 * at;
-        self.bytes[a..a + key.len()].copy_from_slice(key);
+        write_key(&mut self.bytes, a, key);
         self.bytes[KEY_LEN + at] = key.len() as u8;
         self.bytes[2] = (at + 1) as u8;
     }

@@ -1,4 +1,5 @@
--- `check::late_at` meets its contract: an edge before it clashes with it, or it does itself. Assumes nothing.
+-- `check::late_at` meets its contract: an edge before it clashes with it, or it does itself; an edge of a rule that is no obj rule clashes with none.
+-- Assumes nothing.
 use mathlib.Core.Path.{◌≡◌, refl}
 use Prim.Native.Nat.{◌-◌}
 use native.Mathlib.Omega.{arith}
@@ -8,8 +9,11 @@ use Rattle.std.proofs.lemmas.Iterator.{YieldsList-from_range}
 use Rattle.std.proofs.lemmas.Iterator.Search.{any_from_yields_List}
 use Rattle.store.specs.Store.{some}
 use Rattle.load.specs.Check.{clashes_at}
-use Rattle.load.proofs.CheckLaws.{late_split}
+use Rattle.load.proofs.CheckLaws.{late_split, late_at-other}
 use Rattle.load.proofs.check.late_at.Goals as goal
+
+pub returns-then-not-has_form : goal.returns-then-not-has_form
+returns-then-not-has_form c = search (rules, tests, late_at-other)
 
 pub returns : goal.returns
 returns c =

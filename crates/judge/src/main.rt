@@ -113,9 +113,9 @@ fn main(rt: HostRuntime) {
     if begun.accepted {
         let mut work = [0u8; WORK];
         let mut space = [0u8; BLOCK];
-        let started = Reader::start(&table, &work);
+        let started = Reader::start_with_answer(&table, &work);
         let mut stream = Stream {
-            reader: started.unwrap_or(Reader::unstarted()),
+            reader: started.reader,
             table: &table,
             work: &mut work,
             out: &mut out,

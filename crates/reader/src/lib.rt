@@ -77,6 +77,13 @@ impl Refusal {
 // What a call says: nothing, the verdict of a record, or why it is refused.
 pub type Answer = Result<Option<Verdict>, Refusal>;
 
+// What `Reader::start_with_answer` gives: a reader, and whether the start was let in or why not.
+#[derive(Clone, Copy)]
+pub struct Started {
+    pub reader: Reader,
+    pub answer: Answer,
+}
+
 // What a feed that is let in gives: how many bytes it read, and the verdict of a record that ended.
 #[derive(Clone, Copy)]
 pub struct Fed {
@@ -135,6 +142,24 @@ impl Reader {
             frames: frame::frames(work.len()),
             ..Reader::unstarted()
         })
+    }
+
+    // A start for a caller who needs a reader in any case: a reader, with the answer of the start. A refused start gives a fresh reader with 0
+    // frames. Ruled out: a start that hands out frames with a refusal, and one that does not tell that it is refused.
+    #[tactic(auto, unfolding(crate::specs::Start::start_of))]
+    pub fn start_with_answer(table: &Table, work: &[u8]) -> Started
+        ensures { record { reader = result.reader; answer = result.answer } ≡ start_of table.now work.now }
+    {
+        match Reader::start(table, work) {
+            Ok(reader) => Started {
+                reader,
+                answer: Ok(None),
+            },
+            Err(refusal) => Started {
+                reader: Reader::unstarted(),
+                answer: Err(refusal),
+            },
+        }
     }
 
     // The numbers of the reader are within their bounds.

@@ -43,9 +43,9 @@ impl Calls<'_> {
         let Some(work) = self.buffer.get_mut(..self.size) else {
             return;
         };
-        let started = Reader::start(self.table, work);
-        self.reader = started.unwrap_or(Reader::unstarted());
-        say_answer(rt, 0, started.map(|_| None));
+        let started = Reader::start_with_answer(self.table, work);
+        self.reader = started.reader;
+        say_answer(rt, 0, started.answer);
     }
 
     fn feed(&mut self, rt: &impl Print, piece: &[u8]) {
@@ -114,9 +114,9 @@ fn main(rt: HostRuntime) {
         Ok((n, _)) => {
             let mut buffer = [0u8; 6240];
             let mut table = Table::empty();
-            let started = Reader::start(&table, &buffer);
+            let started = Reader::start_with_answer(&table, &buffer);
             let mut calls = Calls {
-                reader: started.unwrap_or(Reader::unstarted()),
+                reader: started.reader,
                 table: &mut table,
                 buffer: &mut buffer,
                 size: 0,

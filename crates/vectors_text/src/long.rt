@@ -86,14 +86,14 @@ impl<'a> Text<'a> {
     // Judges the text as a stream with 64 frames, with n bytes of the unit over and over in its place.
     fn run_stream(&self, rt: &impl Print, table: &Table, label: &[u8], n: usize) {
         let mut work = [0u8; WORK];
-        let started = Reader::start(table, &work);
+        let started = Reader::start_with_answer(table, &work);
         let mut stream = Stream {
-            reader: started.unwrap_or(Reader::unstarted()),
+            reader: started.reader,
             table,
             work: &mut work,
             entries: Entries::none(),
         };
-        stream.put(started.map(|_| None));
+        stream.put(started.answer);
         stream.feed_all(self.first);
         stream.feed_many(&self.block(), n);
         stream.feed_all(self.last);

@@ -111,8 +111,8 @@ fn passes(a: Act, ends: bool, b: u8) -> bool
     !ends && b != 0x1E && is_quiet(a)
 }
 
-// A byte of the record is more than counted.
-fn reads_on(x: Progress) -> bool
+// A byte of the record is more than counted. Ruled out: a head that is read as a record, and one that goes on to read a record with a fault.
+pub fn reads_on(x: Progress) -> bool
     ensures { result ≡ is_reading x }
 {
     !x.head && x.fault.is_none()

@@ -44,8 +44,8 @@ fn read_byte(
     ControlFlow::Continue(i + 1)
 }
 
-// Reads on from place i: the bytes that are passed over, and one byte more. Breaks off behind an RS that ended the record, and else goes on at a
-// later place.
+// Reads on from place i: the bytes that are passed over, and one byte more. Of a record whose bytes are only counted it counts one byte, and
+// asks the lexer nothing. Breaks off behind an RS that ended the record, and else goes on at a later place.
 // Stays: `record`, `key` and `work` apart, as in `read_byte`.
 pub fn read_on(
     record: &mut Record,
@@ -59,6 +59,10 @@ pub fn read_on(
     requires { i < length piece.now }
     ensures { WentBy rules.entry.table.now rules.entry.frames (memory record.old key.old work.old) piece.now i (memory record.new key.new work.new) result }
 {
+    if piece[i] != 0x1E && !pass::reads_on(record.progress) {
+        record.progress.pos = whole::bump(record.progress.pos);
+        return ControlFlow::Continue(i + 1);
+    }
     let kept = pass::keep(classes, record.progress, key, piece, i);
     let top = top_of(work, kept.progress.level);
     let passed = pass::pass(classes, kept.progress, top, piece, kept.at);

@@ -75,7 +75,7 @@ module _ (t : Table) (size : ℕ) (s : List ℕ) (r : Reader) (w : List ℕ) (re
   fed-inside h =
       omega (arith, h, length-drop read s, count-of-feed r t w (piece_of size read (drop read s)), piece-short size read (drop read s))
 
-  fed-count : read ≤ length s → (end : ℕ) → end ≡ piece_end size read (length s) → (next : Reader) (count : ℕ) (a : Answer) (work : List ℕ)
+  pub fed-count : read ≤ length s → (end : ℕ) → end ≡ piece_end size read (length s) → (next : Reader) (count : ℕ) (a : Answer) (work : List ℕ)
       → record { reader = next; count = count; answer = a; work = work } ≡ feed_of r t w (take (end - read) (drop read s))
       → read + count ≤ length s
   fed-count h end cut next count a work lent =

@@ -20,13 +20,21 @@ unfoldable pub little : ℕ → ℕ → List ℕ
 little zero n = []
 little (suc k) n = n % 256 ∷ little k (n / 256)
 
+-- the bytes of an entry whose word is told by a number
+unfoldable pub numbered_bytes : ℕ → ℕ → ℕ → ℕ → List ℕ
+numbered_bytes word number place read = word ∷ number ∷ 0 ∷ 0 ∷ (little 4 place ++ little 8 read)
+
 -- the bytes of an entry
 unfoldable pub bytes_of : Entry → List ℕ
-bytes_of e = word_number e.word ∷ e.number ∷ 0 ∷ 0 ∷ (little 4 e.place ++ little 8 e.read)
+bytes_of e = numbered_bytes (word_number e.word) e.number e.place e.read
 
--- the output with entry i in the 16 bytes from 16 i on, where the output has these
+-- the output with bytes in the place of entry i, which is the 16 bytes from 16 i on, where the output has these
+unfoldable pub with_bytes : List ℕ → ℕ → List ℕ → List ℕ
+with_bytes o i bs = cond (ltb i (length o / 16)) (sets o (16 * i) bs) o
+
+-- the output with entry i
 unfoldable pub with_entry : List ℕ → ℕ → Entry → List ℕ
-with_entry o i e = cond (ltb i (length o / 16)) (sets o (16 * i) (bytes_of e)) o
+with_entry o i e = with_bytes o i (bytes_of e)
 
 -- the output with entries, the first of them entry i
 unfoldable pub with_entries : List ℕ → ℕ → List Entry → List ℕ

@@ -1,6 +1,6 @@
 // Entries in the output.
 ghost use Rattle.std.specs.Prelude.{◌≡◌, ◌+◌, ◌<◌, length};
-ghost use Rattle.entries.specs.Entries.{verdict_entry, bytes_of, with_entry, with_entries};
+ghost use Rattle.entries.specs.Entries.{verdict_entry, numbered_bytes, with_bytes, with_entry, with_entries};
 ghost use Rattle.entries.specs.Feeds.{answer_entries};
 
 use reader::Answer;
@@ -28,40 +28,33 @@ impl Entry {
         }
     }
 
-    // Its bytes: the numbers begin with their lowest byte.
-    fn bytes(self) -> [u8; 16]
-        ensures { result ≡ bytes_of self }
-    {
-        let p = self.place.to_le_bytes();
-        let r = self.read.to_le_bytes();
-        [
-            self.word as u8,
-            self.number,
-            0,
-            0,
-            p[0],
-            p[1],
-            p[2],
-            p[3],
-            r[0],
-            r[1],
-            r[2],
-            r[3],
-            r[4],
-            r[5],
-            r[6],
-            r[7],
-        ]
-    }
-
     // Entry i, where the output has its place.
     pub fn put(self, out: &mut [u8], i: usize)
         ensures { out.new ≡ with_entry out.old i self }
     {
-        if i < out.len() / 16 {
-            let at = 16 * i;
-            out[at..at + 16].copy_from_slice(&self.bytes());
-        }
+        put_entry(out, i, self.word as u8, self.number, self.place, self.read)
+    }
+}
+
+// The bytes of an entry: the numbers begin with their lowest byte.
+fn numbered_bytes(word: u8, number: u8, place: usize, read: usize) -> [u8; 16]
+    ensures { result ≡ numbered_bytes word number place read }
+{
+    let p = place.to_le_bytes();
+    let r = read.to_le_bytes();
+    [
+        word, number, 0, 0, p[0], p[1], p[2], p[3], r[0], r[1], r[2], r[3], r[4], r[5], r[6], r[7],
+    ]
+}
+
+// Entry i with any number for its word, where the output has its place. Ruled out: one that writes part of an entry where the output ends, and one
+// that takes each word above 2 for a refusal.
+pub fn put_entry(out: &mut [u8], i: usize, word: u8, number: u8, place: usize, read: usize)
+    ensures { out.new ≡ with_bytes out.old i (numbered_bytes word number place read) }
+{
+    if i < out.len() / 16 {
+        let at = 16 * i;
+        out[at..at + 16].copy_from_slice(&numbered_bytes(word, number, place, read));
     }
 }
 

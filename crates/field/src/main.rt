@@ -87,12 +87,15 @@ impl Output {
         }
     }
 
-    // Puts a line behind the others, where there is room.
+    // Puts a line behind the others where there is room for one, and nothing where there is none. Ruled out: a line that is put where the room may
+    // not do, and one that is put before the others.
     fn put<L: Line + Drop>(&mut self, line: L)
-        ensures { length self.old.lines.items + 64 ≤ 65536 → self.new.lines.items ≡ self.old.lines.items ++ L.text line }
+        ensures { self.new.lines.items ≡ cond (has_room 65536 (length self.old.lines.items)) (self.old.lines.items ++ L.text line) self.old.lines.items }
     {
-        let text = line.text();
-        let _ = self.lines.try_extend_from_slice(text.as_bytes());
+        if text::has_room(BLOCK, self.lines.len()) {
+            let text = line.text();
+            let _ = self.lines.try_extend_from_slice(text.as_bytes());
+        }
     }
 
     // Prints the lines.

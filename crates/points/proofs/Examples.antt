@@ -12,7 +12,7 @@ use Rattle.geometry.specs.declared.Point.{Point}
 use Rattle.geometry.specs.declared.Place.TheVariants.{Inside}
 use Rattle.boundary.specs.declared.Refusal.TheVariants.{Range}
 use Rattle.points.specs.Points.{is_blank, blanks, word_len, after_blanks, word, after_word, without_cr, has_some_digits, bounded, unsigned, number_of, both, ended, point_from, point_of}
-use Rattle.points.specs.Answers.{word_line, said_line}
+use Rattle.points.specs.Answers.{word_line, refused_line, said_line}
 
 pub at : ℤ → ℤ → Option Point
 at x y = Some (record { x = x; y = y })
@@ -28,5 +28,5 @@ unfolding is_blank blanks word_len after_blanks word after_word without_cr has_s
 others = (refl, refl, refl, refl, refl)
 
 pub answers : (said_line (Ok (record { place = Inside; nearest = 10 })) ≡ ascii "inside 10" ++ LF) × (said_line (Err Range) ≡ ascii "refused 33" ++ LF)
-unfolding said_line word_line digits
+unfolding said_line refused_line word_line digits
 answers = (refl, refl)

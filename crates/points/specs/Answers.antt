@@ -23,10 +23,14 @@ place_word Edge = ascii "edge"
 place_word Inside = ascii "inside"
 place_word Outside = ascii "outside"
 
+-- a refusal by its number
+unfoldable pub refused_line : ℕ → List ℕ
+refused_line n = word_line (ascii "refused") n
+
 -- where a point lies and the nearest corner, or the number of a refusal
 unfoldable pub said_line : Result Located Refusal → List ℕ
 said_line (Ok l) = word_line (place_word l.place) l.nearest
-said_line (Err k) = word_line (ascii "refused") (refusal_number k)
+said_line (Err k) = refused_line (refusal_number k)
 
 -- line k has no point
 unfoldable pub stop_line : ℕ → List ℕ

@@ -1,6 +1,6 @@
 // The lines that the program for points writes, for `text::write`.
 ghost use Rattle.std.specs.Prelude.{◌≡◌, ◌≤◌, length};
-ghost use Rattle.points.specs.Answers.{answer_names, place_word, word_line, said_line, stop_line};
+ghost use Rattle.points.specs.Answers.{answer_names, place_word, word_line, refused_line, said_line, stop_line};
 
 use arrayvec::ArrayString;
 use boundary::Refusal;
@@ -58,8 +58,21 @@ impl Line for Said {
     fn text(self) -> ArrayString<64> {
         match self.0 {
             Ok(l) => word_line(place_word(l.place), l.nearest),
-            Err(k) => word_line("refused", usize::from(k.number())),
+            Err(k) => RefusedAs(usize::from(k.number())).text(),
         }
+    }
+}
+
+// The line of a refusal that is told by its number, whatever the number is.
+#[derive(Clone, Copy)]
+pub struct RefusedAs(pub usize);
+
+impl Line for RefusedAs {
+    ghost text = { λ x. refused_line x.0 };
+
+    // Ruled out: a number that no text or point gets taken for another, and the word of an answer.
+    fn text(self) -> ArrayString<64> {
+        word_line("refused", self.0)
     }
 }
 

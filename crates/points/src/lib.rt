@@ -1,5 +1,5 @@
 // Points from lines of text, and the lines that answer them.
-#![tactic(auto, unfolding(crate::specs::Answers::said_line, crate::specs::Answers::stop_line, crate::specs::Answers::word_line))]
+#![tactic(auto, unfolding(crate::specs::Answers::said_line, crate::specs::Answers::refused_line, crate::specs::Answers::stop_line, crate::specs::Answers::word_line))]
 
 ghost use Rattle.std.specs.Prelude.{◌≡◌, not, position};
 ghost use Rattle.points.specs.Points.{is_blank, after_blanks, word, after_word, without_cr, point_from, point_of};

@@ -26,7 +26,7 @@ module _ (t : Table) (s : List ℕ) (r : Reader) (w : List ℕ) (read : ℕ) whe
   pub fed-rest : read ≤ length s → (f : Outcome) → f ≡ feed_of r t w (take (length s - read) (drop read s)) → f ≡ feed_of r t w (drop read s)
   fed-rest h f lent = rw (take_all (length s - read) (drop read s) (omega (arith, length-drop read s))) at lent
 
-  fed-inside : read ≤ length s → (next : Reader) (count : ℕ) (a : Answer) (work : List ℕ)
+  pub fed-inside : read ≤ length s → (next : Reader) (count : ℕ) (a : Answer) (work : List ℕ)
       → record { reader = next; count = count; answer = a; work = work } ≡ feed_of r t w (take (length s - read) (drop read s))
       → read + count ≤ length s
   fed-inside h next count a work lent =

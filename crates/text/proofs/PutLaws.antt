@@ -54,7 +54,7 @@ length-of-put o at bs now behind p = rw p.bytes (length-sets o at bs)
 -- ---- room
 
 module _ (n at : ℕ) where
-  le-of-room : (has : Bool) → has ≡ has_room n at → has ≡ true → at + 64 ≤ n
+  pub le-of-room : (has : Bool) → has ≡ has_room n at → has ≡ true → at + 64 ≤ n
   unfolding has_room
   le-of-room has e h = leb-true (at + 64) n (sym e ∙ h)
 

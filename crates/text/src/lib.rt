@@ -5,6 +5,8 @@ ghost use Rattle.std.specs.Prelude.{◌≡◌, List, ℕ, ◌+◌, ◌≤◌, le
 ghost use Rattle.text.specs.Text.{word_text, stream_names, line_of, book_lines};
 ghost use Rattle.text.specs.Put.{has_room, write};
 
+pub mod put; // put.rt: words, numbers and lines put into a buffer
+
 use arrayvec::ArrayString;
 use itoa::Buffer;
 use verdict::{Verdict, Word};

@@ -100,7 +100,7 @@ module _ (s : List ℕ) where
   cleared-is (Ok n) e f = cc
   cleared-is (Err k) e f = ap (λ (b : Result ℕ Refusal). left_by b (numbers_of s)) e
 
-  read_of : (r : Result ℕ Refusal) (m : List ℤ) (t : Table) → r ≡ boundary_of s → m ≡ left_corners s → LoadsB t → ReadOf s r m t
+  pub read_of : (r : Result ℕ Refusal) (m : List ℤ) (t : Table) → r ≡ boundary_of s → m ≡ left_corners s → LoadsB t → ReadOf s r m t
   read_of r m t e f b = record { boundary = e; corners_left = f; held = rw (e, f) (held-left s); table_left = b }
 
   module _ (x : Option Numbers) (l m : List ℤ) (r : Result ℕ Refusal) (t : Table) (y : ReadsAs s x l) (e : r ≡ bound_by x) (b : LoadsB t) where

@@ -4,7 +4,7 @@
 ghost use Rattle.std.specs.Prelude.{◌≡◌, leb, pos, nat_abs, replicate};
 ghost use Rattle.plane.specs.Lent.{corners_of};
 ghost use Rattle.boundary.specs.Boundary.{refusal_number};
-ghost use Rattle.boundary.specs.Exact.{in_range, answer_at};
+ghost use Rattle.boundary.specs.Exact.{HeldBy, in_range, answer_at, answer_by};
 ghost use Rattle.boundary.specs.Calls.{LoadsB, bound_by, ReadOf, QueryOf};
 
 use geometry::{Located, Point};
@@ -102,6 +102,19 @@ pub fn answer_at(corners: &Corners, p: Point) -> Result<Located, Refusal>
         return Err(Refusal::Range);
     }
     Ok(corners.locate(p))
+}
+
+// The answer for a point, where `read` was read of a text: where that is a refusal, the refusal. Ruled out: a program that answers with another
+// refusal, and one that answers to fewer corners than were read.
+pub fn answer_by(
+    corners: &[i32; 2048],
+    read: Result<usize, Refusal>,
+    p: Point,
+) -> Result<Located, Refusal>
+    requires { HeldBy read corners.now }
+    ensures { result ≡ answer_by read corners.now p }
+{
+    answer_at(&Corners::new(corners, read?), p)
 }
 
 // Reads a text as `read` does, and answers for a point. Ruled out: a program that answers for a point that is out of range, and

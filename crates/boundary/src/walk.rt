@@ -99,22 +99,13 @@ struct Walk {
 const RS: [u8; 1] = [0x1E];
 
 impl Walk {
-    // A walk that begins: its reader has the three frames of 288 bytes, and is behind an RS.
-    fn begun(source: &Source) -> Walk
-        ensures { result ≡ begun }
+    // Begins where it stays, since a walk that is handed on is copied: the reader has the three frames of 288 bytes, and is behind an RS.
+    fn begin(&mut self, source: &Source)
+        requires { self.old.work ≡ replicate 288 0 }
+        ensures { self.new ≡ record { reader = begun.reader; work = self.old.work; at = self.old.at; numbers = self.old.numbers } }
     {
-        let mut work = [0; 288];
-        let mut reader = Reader::start(source.table, &work).unwrap();
-        let _ = reader.feed(source.table, &mut work, &RS);
-        Walk {
-            reader,
-            work,
-            at: 0,
-            numbers: Numbers {
-                taken: 0,
-                unfit: false,
-            },
-        }
+        self.reader = Reader::start(source.table, &self.work).unwrap();
+        let _ = self.reader.feed(source.table, &mut self.work, &RS);
     }
 
     // Takes the number that the bytes fed last are.
@@ -185,7 +176,16 @@ pub fn read_text<'a>(text: &'a [u8], table: &'a Table, corners: &mut [i32; 2048]
     ensures { ReadsAs text.now result corners.new }
 {
     let source = Source { text, table };
-    let mut walk = Walk::begun(&source);
+    let mut walk = Walk {
+        reader: Reader::unstarted(),
+        work: [0; 288],
+        at: 0,
+        numbers: Numbers {
+            taken: 0,
+            unfit: false,
+        },
+    };
+    walk.begin(&source);
     walk.all(&source, corners)?;
     walk.close(&source)
 }

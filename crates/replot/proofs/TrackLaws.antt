@@ -94,15 +94,7 @@ track-append s t u = track_by-append (boundary_of s) (left_corners s) t u
 -- ---- the code's need
 
 -- what was read of the text, and the track after it
-module _ {s : List ℕ} {b : Result ℕ Refusal} {l : List ℤ} {m : Table} {t : List TrackPoint} (x : ReadOf s b l m) where
-  replot-of-read : {u : List TrackPoint} → u ≡ track_by b l t → ReplotOf s t b u l m
-  unfolding track_of
-  replot-of-read e = record { boundary = x.boundary; track = e ∙ rw (x.boundary, x.corners_left) refl; corners_left = x.corners_left; table_left = x.table_left }
-
-  pub replot-of-corners : {n : ℕ} {cs : List Point} {u : List TrackPoint} → b ≡ Ok n → cs ≡ corners_in l n → u ≡ map (answered_by cs) t → ReplotOf s t (Ok n) u l m
-  replot-of-corners {n} {u = u} e f h =
-      subst (λ (r : Result ℕ Refusal). ReplotOf s t r u l m) e
-      (replot-of-read (h ∙ ap (λ (c : List Point). map (answered_by c) t) f ∙ ap (λ (r : Result ℕ Refusal). track_by r l t) (sym e)))
-
-  pub replot-of-refusal : {k : Refusal} → b ≡ Err k → ReplotOf s t (Err k) t l m
-  replot-of-refusal e = subst (λ (r : Result ℕ Refusal). ReplotOf s t r t l m) e (replot-of-read (ap (λ (r : Result ℕ Refusal). track_by r l t) (sym e)))
+pub replot-of-read : {s : List ℕ} {b : Result ℕ Refusal} {l : List ℤ} {m : Table} {t u : List TrackPoint} → ReadOf s b l m → u ≡ track_by b l t → ReplotOf s t b u l m
+unfolding track_of
+replot-of-read {s} {t = t} x e =
+    record { boundary = x.boundary; track = e ∙ rw (x.boundary, x.corners_left) refl; corners_left = x.corners_left; table_left = x.table_left }

@@ -5,7 +5,8 @@ ghost use Rattle.std.specs.Prelude.{◌≡◌, ◌<◌, map};
 ghost use Rattle.plane.specs.Lent.{corners_of};
 ghost use Rattle.replot.specs.Numbers.{answer_number, nearest_in};
 ghost use Rattle.replot.specs.Track.{point_of, with_answer};
-ghost use Rattle.replot.specs.Exact.{answered_by};
+ghost use Rattle.boundary.specs.Exact.{HeldBy};
+ghost use Rattle.replot.specs.Exact.{answered_by, track_by};
 ghost use Rattle.replot.specs.Calls.{ReplotOf};
 
 use boundary::Refusal;
@@ -71,13 +72,23 @@ fn answered(corners: &Corners, p: TrackPoint) -> TrackPoint
     p.with_answer(boundary::answer_at(corners, p.point()))
 }
 
-// Answers each point of a track, in the entry's own room. Where a text is refused, it has no corners to call this with. Ruled out: one that leaves out
-// the first point, and one that changes a point.
+// Answers each point of a track, in the entry's own room. Ruled out: one that leaves out the first point, and one that changes a point.
 pub fn answer_each(corners: &Corners, track: &mut [TrackPoint])
     ensures { track.new ≡ map (answered_by (corners_of corners.now)) track.old }
 {
     for p in track.iter_mut() {
         *p = answered(corners, *p);
+    }
+}
+
+// Answers each point of a track, where `read` was read of a text; where that is a refusal, no point is touched. Ruled out: one that writes a refusal
+// into the entries, and one that answers to fewer corners than were read.
+pub fn answer_read(corners: &[i32; 2048], read: Result<usize, Refusal>, track: &mut [TrackPoint])
+    requires { HeldBy read corners.now }
+    ensures { track.new ≡ track_by read corners.now track.old }
+{
+    if let Ok(n) = read {
+        answer_each(&Corners::new(corners, n), track);
     }
 }
 
@@ -92,7 +103,7 @@ pub fn replot(
 ) -> Result<usize, Refusal>
     ensures { ReplotOf text.now track.old result track.new corners.new table.new }
 {
-    let n = boundary::read(text, table, corners)?;
-    answer_each(&Corners::new(corners, n), track);
-    Ok(n)
+    let read = boundary::read(text, table, corners);
+    answer_read(corners, read, track);
+    read
 }
